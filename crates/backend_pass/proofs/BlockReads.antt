@@ -24,6 +24,7 @@ use Rattle.held_pins.specs.Rests.{HasNoDevice, HasNoLatch, LinksRest, OnlyTokens
 use Rattle.held_pins.proofs.HeldLists.{more_tags, with_here, with_past}
 use Rattle.held_pins.proofs.Keeping.{rests_more, rests_more_pinned}
 use Rattle.buffer_frames.specs.declared.flushing.FrameFlushError.TheVariants as flush
+use Rattle.buffer_frames.specs.declared.hinting.HintSeen.{HintSeen}
 use Rattle.buffer_frames.specs.declared.victims.VictimError.TheVariants as victim
 use Rattle.buffer_frames.specs.declared.reading.BlockError.{BlockError}
 use Rattle.buffer_frames.specs.declared.reading.BlockError.TheVariants as block
@@ -36,12 +37,13 @@ use Rattle.backend_pass.specs.declared.met.Shown.{Shown}
 use Rattle.backend_pass.specs.declared.pinned.Pinned.{Pinned}
 use Rattle.backend_pass.specs.Managers.{Belongs}
 use Rattle.backend_pass.proofs.Fronts.{front_kept}
-use Rattle.backend_pass.specs.Passes.{IsNumbered, IsShown, KeepsCalls, PassState, SamePass, shown_count}
+use Rattle.buffer_frames.specs.Outside.{shown_count}
+use Rattle.backend_pass.specs.Passes.{IsNumbered, IsShown, KeepsCalls, PassState, SamePass}
 use Rattle.backend_pass.specs.Reading.{ReadingCalls, ReadingCensus, ReadingRefused, ReadsBlock, met_read_refused, read_refusal, shown_after}
 
 -- the number, and what is shown
-pub numbered_kept : (number id : ℕ) (v w : View) → kept_by_calls w ≡ kept_by_calls v → IsNumbered number id v → IsNumbered number id w
-numbered_kept number id v w e n = record { number_is = ap (λ (x : View). x.number) e ∙ n.number_is; first = n.first }
+pub numbered_kept : (number id : ℕ) (v w : View) → w.number ≡ v.number → IsNumbered number id v → IsNumbered number id w
+numbered_kept number id v w e n = record { number_is = e ∙ n.number_is; first = n.first }
 
 pub shown_met : (v w : View) (s : Shown) → w.front ≡ v.front → w.met ≡ v.met → IsShown v s → IsShown w s
 shown_met v w s front met n = record {
@@ -102,14 +104,15 @@ census_of_refusal n c d (block.ReadFault tag) e = e
 census_of_refusal n c d (block.Unsound tag) e = e
 
 -- and so are its calls
-pub calls_of_refusal : (q : ℕ) (tag : Tag) (ring : Bool) (v w : View) (why : BlockError) → ReadCalls q tag ring v w (Err why) → ReadingCalls q tag ring v w (Err (read_refusal why))
-calls_of_refusal q tag ring v w (block.NoFrame (victim.NoUnpinned frames)) c = c
-calls_of_refusal q tag ring v w (block.NoFrame (victim.Flush (flush.WriteFault failed))) c = c
-calls_of_refusal q tag ring v w (block.NoFrame (victim.Flush (flush.Log log.LogFault))) c = c
-calls_of_refusal q tag ring v w (block.NoFrame (victim.Flush (flush.Log (log.LogDown at)))) c = c
-calls_of_refusal q tag ring v w (block.NoFrame (victim.Flush (flush.Log (log.LogShort lsn end)))) c = c
-calls_of_refusal q tag ring v w (block.ReadFault failed) c = c
-calls_of_refusal q tag ring v w (block.Unsound failed) c = c
+module _ (n : ℕ) (tag : Tag) (held : Tokens) (ring : Bool) (seen : HintSeen) (q : ℕ) (v w : View) where
+  pub calls_of_refusal : (why : BlockError) → ReadCalls n tag held ring seen q v w (Err why) → ReadingCalls n tag held ring seen q v w (Err (read_refusal why))
+  calls_of_refusal (block.NoFrame (victim.NoUnpinned frames)) c = c
+  calls_of_refusal (block.NoFrame (victim.Flush (flush.WriteFault failed))) c = c
+  calls_of_refusal (block.NoFrame (victim.Flush (flush.Log log.LogFault))) c = c
+  calls_of_refusal (block.NoFrame (victim.Flush (flush.Log (log.LogDown at)))) c = c
+  calls_of_refusal (block.NoFrame (victim.Flush (flush.Log (log.LogShort lsn end)))) c = c
+  calls_of_refusal (block.ReadFault failed) c = c
+  calls_of_refusal (block.Unsound failed) c = c
 
 -- what rests after a read
 pub rests_pinned : (tag f : ℕ) (t : Tokens) (w : View) → HasNoDevice w → HasNoLatch w → Pins tag f t w → (link w f).seen_valid ≡ true → OnlyTokens (tokens_with f tag t) w
@@ -147,6 +150,14 @@ same_kept p q table id census e advances = record {
 pub calls_kept : (p q : PassState) → kept_by_calls q.view ≡ kept_by_calls p.view → KeepsCalls p q
 calls_kept p q e = record { calls = ap (λ (x : View). x.calls) e; front = ap (λ (x : View). x.front) e; place_loads = ap (λ (x : View). x.place_loads) e }
 
+-- what a call leaves of a pass is no matter of the hint that it had
+module _ (p q : PassState) (seen : HintSeen) where
+  pub same_hinted : SamePass (record p { hint = seen }) q → SamePass p q
+  same_hinted s = let k = s.keeps in record { keeps = record { table = k.table; id = k.id; frames = k.frames; number = k.number; next = k.next; joined = k.joined; kept = k.kept; advances = k.advances }; upto = s.upto }
+
+  pub calls_hinted : KeepsCalls (record p { hint = seen }) q → KeepsCalls p q
+  calls_hinted k = record { calls = k.calls; front = k.front; place_loads = k.place_loads }
+
 -- the tag of a number
 packed_same : (a b : Tag) → packed_tag a ≡ packed_tag b → names_block a ≡ true → names_block b ≡ true → a ≡ b
 packed_same a b e named other = same_Some a b (sym (packed_is a named) ∙ ap unpacked_tag e ∙ packed_is b other)
@@ -171,11 +182,30 @@ module _ {L G : Type 0} (contents : L → Option Pages) (t : FrameTable L G) whe
   refused_as tag held words p q (block.Unsound failed) e a = (a.0, (a.1, a.2))
 
   pub refused_reads : (tag : Tag) (ring : Bool) (a p q : PassState) (why : BlockError) (answer : ReadError) → a ≡ p → answer ≡ read_refusal why → q.tokens ≡ a.tokens → ReadAnswer contents t tag a.tokens q.census.words a.view q.view (Err why)
-      → ReadCalls (lane_number tag (lanes_in t)) tag ring a.view q.view (Err why) → ReadsBlock contents t tag ring p q (Err answer)
+      → ReadCalls (frames_of t) tag a.tokens ring q.hint (lane_number tag (lanes_in t)) a.view q.view (Err why) → ReadsBlock contents t tag ring p q (Err answer)
   refused_reads tag ring a p q why answer same is tokens r calls = subst (λ (x : PassState). ReadsBlock contents t tag ring x q (Err answer)) same (subst (λ (y : ReadError). ReadsBlock contents t tag ring a q (Err y)) (sym is) record {
     answer = (tokens, (refused_as tag a.tokens q.census.words a q why refl r).1);
-    calls = calls_of_refusal (lane_number tag (lanes_in t)) tag ring a.view q.view why calls;
+    calls = calls_of_refusal (frames_of t) tag a.tokens ring q.hint (lane_number tag (lanes_in t)) a.view q.view why calls;
   })
+
+  -- what is told of a read is no matter of the hint that the pass had
+  refused_hinted : (tag : Tag) (p q : PassState) (seen : HintSeen) (why : ReadError) → ReadingRefused contents t tag (record p { hint = seen }) q why → ReadingRefused contents t tag p q why
+  refused_hinted tag p q seen (PastEnd block blocks) r = r
+  refused_hinted tag p q seen PinsFull r = r
+  refused_hinted tag p q seen (NoUnpinned frames) r = r
+  refused_hinted tag p q seen (ReadFault failed) r = r
+  refused_hinted tag p q seen (WriteFault failed) r = r
+  refused_hinted tag p q seen LogFault r = r
+  refused_hinted tag p q seen (LogDown at) r = r
+  refused_hinted tag p q seen (LogShort lsn end) r = r
+  refused_hinted tag p q seen (Unsound failed) r = r
+
+  pub reads_hinted : (tag : Tag) (ring : Bool) (p q : PassState) (seen : HintSeen) (r : Result Pinned ReadError) → ReadsBlock contents t tag ring (record p { hint = seen }) q r → ReadsBlock contents t tag ring p q r
+  reads_hinted tag ring p q seen (Ok pinned) b = let a = b.answer in record {
+    answer = record { named = a.named; tokens = a.tokens; new = a.new; inside = a.inside; seen = a.seen; unlocked = a.unlocked; sound = a.sound };
+    calls = b.calls;
+  }
+  reads_hinted tag ring p q seen (Err why) b = record { answer = (b.answer.0, refused_hinted tag p q seen why b.answer.1); calls = b.calls }
 
   pub links_refused : (tag : Tag) (held : Tokens) (words : List ℕ) (v w : View) (why : BlockError) → ReadAnswer contents t tag held words v w (Err why) → LinksRest held w
   links_refused tag held words v w (block.NoFrame why) a = a.0

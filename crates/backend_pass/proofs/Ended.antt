@@ -33,11 +33,12 @@ use Rattle.table_rule.specs.Shows.{Devices}
 use Rattle.frame_table.specs.Closes.{Closes}
 use Rattle.held_pins.specs.Tokens.{no_tokens}
 use Rattle.held_pins.specs.Rests.{OnlyTokens}
+use Rattle.held_pins.proofs.Resting.{rests_hold_nothing}
 use Rattle.backend_pass.specs.Passes.{PassState}
 use Rattle.backend_pass.specs.Managers.{AreFronted, IsFirstAt, first_in, others_in}
 use Rattle.backend_pass.specs.Closing.{ClosesAll, ClosesPass, EachPass, NothingPut, NothingWritten, PutNothing, calls_of_passes, joined_views, met_by_passes}
 use Rattle.backend_pass.proofs.Fronts.{at_last}
-use Rattle.backend_pass.proofs.Joining.{Joins, at_later, first_here, first_past, joined_hold_nothing, joins, others_here, others_past, rests_hold_nothing}
+use Rattle.backend_pass.proofs.Joining.{Joins, at_later, first_here, first_past, joined_hold_nothing, joins, others_here, others_past}
 
 -- the number of the first pass
 pub number_zero : (n : ℕ) → nat_eq n 0 ≡ true → n ≡ 0

@@ -20,7 +20,8 @@ use Rattle.backend_pass.specs.declared.manager.Manager.{Manager}
 use Rattle.backend_pass.specs.declared.met.Shown.{Shown}
 use Rattle.backend_pass.specs.FrameFlushes.{WasWithin, frame_refusal, page_answer, shown_unflushed}
 use Rattle.backend_pass.specs.Managers.{Belongs}
-use Rattle.backend_pass.specs.Passes.{IsShown, PassState, shown_count, shown_log}
+use Rattle.buffer_frames.specs.Outside.{shown_count}
+use Rattle.backend_pass.specs.Passes.{IsShown, PassState, shown_log}
 use Rattle.backend_pass.proofs.BlockReads.{count_on, shown_met}
 
 -- a tag whose number is a block's

@@ -11,22 +11,12 @@ use Rattle.pin_core.specs.declared.view.LogHold.{LogHold}
 use Rattle.pin_core.specs.State.{emptied_view, joined_view, sum_of_met, no_partition, idle, no_lane}
 use Rattle.pin_core.specs.Steps.{HoldsNothing, HoldsNothingAt}
 use Rattle.held_pins.specs.Tokens.{no_tokens}
-use Rattle.held_pins.specs.Rests.{OnlyTokens}
 use Rattle.backend_pass.specs.Passes.{PassState}
 use Rattle.history_core.specs.Log.{IsFront}
 use Rattle.backend_pass.specs.Managers.{AreFronted, AreOthers, AreSpent, IsFirstAt, first_in, is_first, others_in}
 use Rattle.backend_pass.specs.Closing.{calls_of_passes, joined_views, met_by_passes}
 use Rattle.pin_core.specs.declared.view.JoinedCheckpoint.{JoinedCheckpoint}
 use Rattle.grid.proofs.Lists.{at_longer}
-
--- a view that rests without tokens holds nothing
-pub rests_hold_nothing : (v : View) → OnlyTokens no_tokens v → HoldsNothing v
-rests_hold_nothing v r = record {
-  frames = λ f. let l = r.links f in record { no_pin = l.role; no_header = l.calm.no_header; no_content = l.unlocked refl; no_io = l.calm.no_io; page_home = l.calm.page_home; no_wait = l.calm.no_wait };
-  partitions = λ p. ap (λ h. h.held) (r.latches p);
-  lanes = r.quiet.free;
-  log = ap (λ (h : LogHold). h.held) r.quiet.log;
-}
 
 -- the first pass of a list
 pub first_here : (p : PassState) (ps : List PassState) → is_first p ≡ true → first_in (p ∷ ps) ≡ p.view

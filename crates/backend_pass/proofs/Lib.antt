@@ -7,6 +7,7 @@ pub mod Joining
 pub mod Ended
 pub mod BlockReads
 pub mod Complete
+pub mod HintsSeen
 pub mod Relocking
 pub mod PassReading
 pub mod Flushed

@@ -15,7 +15,8 @@ use Rattle.backend_pass.specs.declared.manager.Manager.{Manager}
 use Rattle.backend_pass.specs.declared.met.Shown.{Shown}
 use Rattle.backend_pass.specs.Managers.{Belongs}
 use Rattle.buffer_frames.specs.PageReads.{OnlyReads, ReadsPage}
-use Rattle.backend_pass.specs.Passes.{IsNumbered, IsShown, PassState, SamePass, shown_count}
+use Rattle.buffer_frames.specs.Outside.{shown_count}
+use Rattle.backend_pass.specs.Passes.{IsNumbered, IsShown, PassState, SamePass}
 use Rattle.backend_pass.proofs.Fronts.{front_added}
 use Rattle.backend_pass.proofs.Relocking.{beside_lock, link_relocked}
 

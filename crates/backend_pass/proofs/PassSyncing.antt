@@ -27,15 +27,23 @@ use Rattle.backend_pass.specs.declared.manager.Manager.{Manager}
 use Rattle.backend_pass.specs.declared.met.Shown.{Shown}
 use Rattle.backend_pass.specs.FrameFlushes.{frame_answer}
 use Rattle.backend_pass.specs.Managers.{Belongs}
-use Rattle.backend_pass.specs.Passes.{IsShown, KeepsCallers, PassState, SamePass, shown_count}
+use Rattle.buffer_frames.specs.Outside.{shown_count}
+use Rattle.backend_pass.specs.Passes.{IsShown, KeepsCallers, PassState, SamePass}
 use Rattle.backend_pass.specs.PassSyncs.{shown_lane_synced, shown_log_flushed, shown_synced}
 use Rattle.backend_pass.specs.Reading.{NothingFails}
 use Rattle.backend_pass.proofs.BlockReads.{calls_kept, count_on, same_kept, shown_met}
 use Rattle.backend_pass.proofs.Flushed.{flush_complete, shown_logged, shown_not_flushed}
 use Rattle.backend_pass.proofs.SeatWork.{FlushesLog}
 
-pub callers_kept : (p q : PassState) → q.table ≡ p.table → q.id ≡ p.id → q.tokens ≡ p.tokens → q.census ≡ p.census → kept_by_calls q.view ≡ kept_by_calls p.view → OnlyRises p.view q.view → SameLocks p.view q.view → KeepsCallers p q
-callers_kept p q table id tokens census e rises locks = record { keeps = (same_kept p q table id (ap (λ c. c.frames) census) e rises).keeps; tokens = tokens; locks = locks; census = census; calls = calls_kept p q e }
+pub callers_kept : (p q : PassState) → q.table ≡ p.table → q.id ≡ p.id → q.tokens ≡ p.tokens → q.census ≡ p.census → q.hint ≡ p.hint → kept_by_calls q.view ≡ kept_by_calls p.view → OnlyRises p.view q.view → SameLocks p.view q.view → KeepsCallers p q
+callers_kept p q table id tokens census hint e rises locks = record {
+  keeps = (same_kept p q table id (ap (λ c. c.frames) census) e rises).keeps;
+  tokens = tokens;
+  locks = locks;
+  census = census;
+  calls = calls_kept p q e;
+  sought = record { hint = hint; turns = ap (λ (x : View). x.turns) e; stores = ap (λ (x : View). x.hints) e };
+}
 
 pub callers_from : (a p q : PassState) → p ≡ a → KeepsCallers p q → KeepsCallers a q
 callers_from a p q e k = subst (λ (x : PassState). KeepsCallers x q) e k
@@ -47,8 +55,9 @@ rises_hand hand v w e = subst (OnlyRises v) (sym e) (rises_by v (view_of load_ha
 pub rises_begun : (upto : ℕ) (v w : View) → w ≡ view_of begin_checkpoint upto v → OnlyRises v w
 rises_begun upto v w e = subst (OnlyRises v) (sym e) (rises_by v (view_of begin_checkpoint upto v) (grows_loads _ v (view_of begin_checkpoint upto v) refl refl (omega arith)) refl (omega arith) (omega arith) (λ d. d))
 
-pub callers_begun : (upto : ℕ) (p q : PassState) → q.table ≡ p.table → q.id ≡ p.id → q.tokens ≡ p.tokens → q.census ≡ p.census → q.view ≡ view_of begin_checkpoint upto p.view → SameLocks p.view q.view → KeepsCallers p q
-callers_begun upto p q table id tokens census e locks = record {
+pub callers_begun : (upto : ℕ) (p q : PassState) → q.table ≡ p.table → q.id ≡ p.id → q.tokens ≡ p.tokens → q.census ≡ p.census → q.hint ≡ p.hint → q.view ≡ view_of begin_checkpoint upto p.view → SameLocks p.view q.view → KeepsCallers p q
+callers_begun upto p q table id tokens census hint e locks = record {
+  sought = record { hint = hint; turns = ap (λ (x : View). x.turns) e; stores = ap (λ (x : View). x.hints) e };
   keeps = record {
     table = table;
     id = id;
@@ -99,8 +108,9 @@ shown_lane lane v w s (Err failed) e n = let met = ap (λ (x : View). x.met) e i
 pub kept_synced : (lane : ℕ) (done : Bool) (v w : View) → work_of w ≡ synced_work lane done v → kept_by_calls w ≡ record (kept_by_calls v) { dirtied_or_synced = true }
 kept_synced lane done v w e = ap kept_by_calls e
 
-pub callers_synced : (lane : ℕ) (done : Bool) (p q : PassState) → q.table ≡ p.table → q.id ≡ p.id → q.tokens ≡ p.tokens → q.census ≡ p.census → work_of q.view ≡ synced_work lane done p.view → OnlyRises p.view q.view → SameLocks p.view q.view → KeepsCallers p q
-callers_synced lane done p q table id tokens census e rises locks = record {
+pub callers_synced : (lane : ℕ) (done : Bool) (p q : PassState) → q.table ≡ p.table → q.id ≡ p.id → q.tokens ≡ p.tokens → q.census ≡ p.census → q.hint ≡ p.hint → work_of q.view ≡ synced_work lane done p.view → OnlyRises p.view q.view → SameLocks p.view q.view → KeepsCallers p q
+callers_synced lane done p q table id tokens census hint e rises locks = record {
+  sought = record { hint = hint; turns = ap (λ (x : View). x.turns) e; stores = ap (λ (x : View). x.hints) e };
   keeps = record {
     table = table;
     id = id;
@@ -117,8 +127,8 @@ callers_synced lane done p q table id tokens census e rises locks = record {
   calls = record { calls = ap (λ (x : View). x.calls) e; front = ap (λ (x : View). x.front) e; place_loads = ap (λ (x : View). x.place_loads) e };
 }
 
-pub same_synced : (lane : ℕ) (done : Bool) (p q : PassState) → q.table ≡ p.table → q.id ≡ p.id → q.tokens ≡ p.tokens → q.census ≡ p.census → work_of q.view ≡ synced_work lane done p.view → OnlyRises p.view q.view → SameLocks p.view q.view → SamePass p q
-same_synced lane done p q table id tokens census e rises locks = record { keeps = (callers_synced lane done p q table id tokens census e rises locks).keeps; upto = ap (λ (x : View). x.upto) e }
+pub same_synced : (lane : ℕ) (done : Bool) (p q : PassState) → q.table ≡ p.table → q.id ≡ p.id → q.tokens ≡ p.tokens → q.census ≡ p.census → q.hint ≡ p.hint → work_of q.view ≡ synced_work lane done p.view → OnlyRises p.view q.view → SameLocks p.view q.view → SamePass p q
+same_synced lane done p q table id tokens census hint e rises locks = record { keeps = (callers_synced lane done p q table id tokens census hint e rises locks).keeps; upto = ap (λ (x : View). x.upto) e }
 
 module _ {L G : Type 0} (contents : L → Option Pages) (t : FrameTable L G) where
   pub sync_complete : (only : SyncOnly) (f : ℕ) (p q : PassState) (r : Result Synced FlushError) → SyncsFrame contents t only f p.view q.view (frame_answer r) → q.view.met ≡ met_flushing (frame_answer r) p.view.met → NothingFails contents t p q → IsOk r

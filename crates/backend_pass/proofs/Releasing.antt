@@ -20,7 +20,8 @@ use Rattle.backend_pass.specs.declared.manager.Manager.{Manager}
 use Rattle.backend_pass.specs.declared.met.Shown.{Shown}
 use Rattle.backend_pass.specs.Managers.{Belongs}
 use Rattle.backend_pass.proofs.Fronts.{front_kept}
-use Rattle.backend_pass.specs.Passes.{IsNumbered, IsShown, PassState, SamePass, shown_count}
+use Rattle.buffer_frames.specs.Outside.{shown_count}
+use Rattle.backend_pass.specs.Passes.{IsNumbered, IsShown, PassState, SamePass}
 use Rattle.table_rule.specs.Blocks.{is_block}
 
 -- The pin of the frame f was given up

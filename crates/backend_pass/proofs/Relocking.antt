@@ -2,6 +2,7 @@
 use Rattle.std.proofs.Common.{◌≡◌, ℕ, false, Option, Some, None, Result, Ok, Err, refl, sym, ap, ◌∙◌, subst}
 use Rattle.std.specs.Prelude.{IfErr, IfOk}
 use Rattle.std.proofs.lemmas.Option.{none-some}
+use Rattle.pin_core.specs.declared.view.Content.{Content}
 use Rattle.pin_core.specs.declared.view.Content.TheVariants.{Unlocked}
 use Rattle.pin_core.specs.declared.view.Role.TheVariants.{HandedOut, Absent}
 use Rattle.pin_core.specs.declared.view.Link.{Link}
@@ -12,6 +13,8 @@ use Rattle.frame_table.specs.Seats.{SameMarks, Touches}
 use Rattle.held_pins.specs.Tokens.{HeldFrame, Tokens, held_at}
 use Rattle.held_pins.specs.Rests.{LinkRests, OnlyTokens, role_of}
 use Rattle.held_pins.proofs.Keeping.{devices_touched, latches_same, rests_touched}
+use Rattle.backend_pass.specs.Locks.{ChangesLock}
+use Rattle.backend_pass.specs.Passes.{PassState}
 use Rattle.backend_pass.proofs.Releasing.{AreHeld}
 
 -- what a link is but for the content lock, and what was copied, marked or entered under it
@@ -49,6 +52,10 @@ rests_relocked f h t v w there k r = record {
       (subst (λ (o : Option HeldFrame). LinkRests o (link w f)) (sym there) (link_relocked h (link v f) (link w f) k.beside (subst (λ (o : Option HeldFrame). LinkRests o (link v f)) there (r.links f)))) r.links;
   latches = latches_same v w k.touches.partitions r.latches;
 }
+
+-- and the content lock there is this one
+pub changes_lock : (lock : Content) (f : ℕ) (a p q : PassState) → a ≡ p → Relocks f a.view q.view → (link q.view f).content ≡ lock → ChangesLock lock f p q
+changes_lock lock f a p q e k here = subst (λ (x : PassState). ChangesLock lock f x q) e record { here = here; others = k.touches.others }
 
 -- what a pinned frame that rests allows
 pub can_lock : (o : Option HeldFrame) (h : HeldFrame) (l : Link) → o ≡ Some h → l.content ≡ Unlocked → LinkRests o l → CanLock l

@@ -5,15 +5,15 @@ use mathlib.Core.Option.{some, some-injective, some-ne-none}
 use lib.ListN.{get_elem?, length-replicate}
 use Rattle.grid.proofs.Lists.{at_end}
 use Rattle.segment_store.specs.Contents.{Pages}
-use Rattle.pin_core.specs.declared.view.LaneHold.{LaneHold}
 use Rattle.pin_core.specs.declared.view.View.{View}
 use Rattle.pin_core.specs.State.{first_view, idle, new_view, no_lane, no_partition}
 use Rattle.clock_sweep.specs.CensusList.{new_census}
 use Rattle.frame_table.specs.FrameSteps.{split_view}
 use Rattle.frame_table.specs.Seats.{base_of, frames_of, lanes_in}
-use Rattle.frame_table.proofs.Resting.{same_all}
 use Rattle.held_pins.specs.Tokens.{HeldFrame, held_at, no_tokens}
-use Rattle.held_pins.specs.Rests.{LinkRests, OnlyTokens}
+use Rattle.held_pins.specs.Rests.{OnlyTokens}
+use Rattle.held_pins.proofs.Resting.{new_has_no_tokens}
+use Rattle.buffer_frames.specs.declared.hinting.HintSeen.TheVariants.{Unused}
 use Rattle.backend_pass.specs.declared.pass_memory.PassMemory.{PassMemory}
 use Rattle.backend_pass.specs.declared.manager.Manager.{Manager}
 use Rattle.backend_pass.specs.PassMemories.{AreForFrames}
@@ -21,26 +21,12 @@ use Rattle.backend_pass.specs.Managers.{AreNewPasses, Belongs, IsNewPass}
 use Rattle.backend_pass.specs.Passes.{IsFreshView, PassState}
 use Rattle.backend_pass.proofs.Fronts.{front_new}
 
-idle_rests : LinkRests None idle
-idle_rests = record {
-  calm = record { no_header = refl; assigned = refl; no_copy = refl; applied = refl; no_io = refl; page_home = refl; no_wait = refl };
-  role = refl;
-  tag = refl;
-  seen = λ some. absurd (some refl);
-  unlocked = λ none. refl;
-}
-
 -- the first view rests
 first_rests : (base frames partitions lanes : ℕ) → OnlyTokens no_tokens (first_view base frames partitions lanes)
-first_rests base frames partitions lanes = record {
-  quiet = record {
-    live = refl;
-    free = λ n. ap (λ (h : LaneHold). h.held) (same_all lanes n no_lane);
-    home = λ n. ap (λ (h : LaneHold). h.out) (same_all lanes n no_lane);
-    log = refl;
-  };
-  links = λ f. subst (LinkRests None) (sym (same_all frames f idle)) idle_rests;
-  latches = λ p. same_all partitions p no_partition;
+first_rests base frames partitions lanes = let r = new_has_no_tokens 0 base frames partitions lanes in record {
+  quiet = record { live = r.quiet.live; free = r.quiet.free; home = r.quiet.home; log = r.quiet.log };
+  links = r.links;
+  latches = r.latches;
 }
 
 pub first_fresh : (id base frames partitions lanes : ℕ) (v : View) → id ≡ 0 → v ≡ first_view base frames partitions lanes → IsFreshView 0 id base v
@@ -49,6 +35,7 @@ first_fresh id base frames partitions lanes v zero_id e = subst (IsFreshView 0 i
   numbered = record { number_is = refl; first = λ _. zero_id };
   front = refl;
   met = refl;
+  turns = refl;
 }
 
 -- memories
@@ -98,11 +85,12 @@ module _ {L G : Type 0} (contents : L → Option Pages) (m : Manager L G) (count
       e ∙ ap (λ (x : ℕ). record (new_view i x (frames_of m.table) 128 (lanes_in m.table)) { next = next }) same
       ∙ ap (λ (x : ℕ). record (new_view i (base_of m.table) (frames_of m.table) 128 (lanes_in m.table)) { next = x }) (sym (ap (λ (v : View). v.next) e))
 
-  pub split_of_first : (p : PassState) (v : View) (base n i : ℕ) → p.view ≡ split_view base v → v ≡ first_at base (frames_of m.table) 128 (lanes_in m.table) n → n ≡ i + 1 → base ≡ base_of m.table → p.table ≡ m.table.table.shared.table_id → p.tokens ≡ no_tokens → p.census ≡ new_census (frames_of m.table) → IsNewPass contents m count (i + 1) p
-  split_of_first p v base n i e first number same table tokens census = record {
+  pub split_of_first : (p : PassState) (v : View) (base n i : ℕ) → p.view ≡ split_view base v → v ≡ first_at base (frames_of m.table) 128 (lanes_in m.table) n → n ≡ i + 1 → base ≡ base_of m.table → p.table ≡ m.table.table.shared.table_id → p.tokens ≡ no_tokens → p.census ≡ new_census (frames_of m.table) → p.hint ≡ Unused → IsNewPass contents m count (i + 1) p
+  split_of_first p v base n i e first number same table tokens census hint = record {
     belongs = new_belongs p base table census tokens (ap (λ (x : View). x.calls) is) (ap (λ (x : View). x.front) is) (ap (λ (x : View). x.end_seen) is) same;
     tokens = tokens;
     census = census;
+    hint = hint;
     view = viewed p base (i + 1) 0 is same;
     next = λ none. absurd (omega arith);
   }
@@ -110,11 +98,12 @@ module _ {L G : Type 0} (contents : L → Option Pages) (m : Manager L G) (count
       is : p.view ≡ new_view (i + 1) base (frames_of m.table) 128 (lanes_in m.table)
       is = e ∙ ap (split_view base) first ∙ split_at base (frames_of m.table) 128 (lanes_in m.table) n ∙ ap (λ (x : ℕ). new_view x base (frames_of m.table) 128 (lanes_in m.table)) number
 
-  pub first_counted : (p : PassState) (base n : ℕ) → p.view ≡ first_at base (frames_of m.table) 128 (lanes_in m.table) n → n ≡ count → base ≡ base_of m.table → p.table ≡ m.table.table.shared.table_id → p.tokens ≡ no_tokens → p.census ≡ new_census (frames_of m.table) → IsNewPass contents m count 0 p
-  first_counted p base n e number same table tokens census = record {
+  pub first_counted : (p : PassState) (base n : ℕ) → p.view ≡ first_at base (frames_of m.table) 128 (lanes_in m.table) n → n ≡ count → base ≡ base_of m.table → p.table ≡ m.table.table.shared.table_id → p.tokens ≡ no_tokens → p.census ≡ new_census (frames_of m.table) → p.hint ≡ Unused → IsNewPass contents m count 0 p
+  first_counted p base n e number same table tokens census hint = record {
     belongs = new_belongs p base table census tokens (ap (λ (v : View). v.calls) e) (ap (λ (v : View). v.front) e) (ap (λ (v : View). v.end_seen) e) same;
     tokens = tokens;
     census = census;
+    hint = hint;
     view = viewed p base 0 n e same;
     next = λ none. ap (λ (v : View). v.next) e ∙ number;
   }

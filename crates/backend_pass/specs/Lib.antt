@@ -4,6 +4,7 @@ pub mod Managers
 pub mod PassMemories
 pub mod PoolMemories
 pub mod Starting
+pub mod HintsSeen
 pub mod Reading
 pub mod FrameFlushes
 pub mod Closing

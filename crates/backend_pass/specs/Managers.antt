@@ -17,6 +17,7 @@ use Rattle.clock_sweep.specs.CensusList.{new_census}
 use Rattle.frame_table.specs.Opened.{WasSoundAtOpening}
 use Rattle.frame_table.specs.Seats.{base_of, frames_of, lanes_in, relations_of}
 use Rattle.held_pins.specs.Tokens.{HeldFrame, held_at, no_tokens}
+use Rattle.buffer_frames.specs.declared.hinting.HintSeen.TheVariants.{Unused}
 use Rattle.backend_pass.specs.declared.manager.Manager.{Manager}
 use Rattle.backend_pass.specs.Passes.{PassState}
 
@@ -50,6 +51,7 @@ module _ {L G : Type 0} where
     pub belongs : Belongs contents m p
     pub tokens : p.tokens ≡ no_tokens
     pub census : p.census ≡ new_census (frames_of m.table)
+    pub hint : p.hint ≡ Unused
     -- its view is that of a new backend, but for the next number that it gives
     pub view : p.view ≡ record (new_view i (base_of m.table) (frames_of m.table) 128 (lanes_in m.table)) { next = p.view.next }
     -- the first one has given the numbers of all others

@@ -1,5 +1,5 @@
 -- What contracts see of a pass.
-use Rattle.std.specs.Prelude.{◌≡◌, ℕ, ◌+◌, List, [], ◌∷◌, min}
+use Rattle.std.specs.Prelude.{◌≡◌, ℕ, ◌+◌, List, [], ◌∷◌}
 use Rattle.atomic_table.specs.Seated.{TableId}
 use Rattle.pin_core.specs.declared.view.View.{View}
 use Rattle.pin_core.specs.State.{emptied_view}
@@ -9,6 +9,8 @@ use Rattle.frame_table.specs.Seats.{OnlyRises}
 use Rattle.held_pins.specs.Rests.{OnlyTokens, SameLocks}
 use Rattle.wal_flush.specs.declared.inserts.InsertError.{InsertError}
 use Rattle.wal_flush.specs.declared.inserts.InsertError.TheVariants.{LogFull, LogDown, LogFault}
+use Rattle.buffer_frames.specs.declared.hinting.HintSeen.{HintSeen}
+use Rattle.buffer_frames.specs.Outside.{shown_count}
 use Rattle.backend_pass.specs.declared.marked.MarkedFrame.{MarkedFrame}
 use Rattle.backend_pass.specs.declared.met.Shown.{Shown}
 
@@ -24,14 +26,12 @@ pub record PassState : Type 0 where
   pub census : CensusList
   -- the frames that its checkpoint has marked
   pub marked : List MarkedFrame
+  -- what its last read saw of the block's hint
+  pub hint : HintSeen
 
 abbrev pub view_in : List View → View
 view_in [] = emptied_view
 view_in (v ∷ vs) = v
-
--- a count as it is shown: it stands still at its type's last value
-abbrev pub shown_count : ℕ → ℕ
-shown_count n = min n 18446744073709551615
 
 -- What is shown of a view: its front, and the faults that it met
 pub record IsShown (v : View) (s : Shown) : Type 0 where
@@ -51,6 +51,7 @@ pub record IsFreshView (number id base : ℕ) (v : View) : Type 0 where
   pub numbered : IsNumbered number id v
   pub front : v.front ≡ base
   pub met : v.met ≡ record { reads = 0; writes = 0; logs = 0 }
+  pub turns : v.turns ≡ 0
 
 -- It is the same pass: what every call leaves of it, and what only rises
 pub record KeepsPass (p q : PassState) : Type 0 where
@@ -74,13 +75,20 @@ pub record KeepsCalls (p q : PassState) : Type 0 where
   pub front : q.view.front ≡ p.view.front
   pub place_loads : q.view.place_loads ≡ p.view.place_loads
 
--- What its callers have of it is as it was: their tokens and content locks, the census, and what the pass read and put
+-- It looked up no block: what was seen of a hint, how many latches of partitions it took, and the hints that it stored are as they were
+pub record KeepsSought (p q : PassState) : Type 0 where
+  pub hint : q.hint ≡ p.hint
+  pub turns : q.view.turns ≡ p.view.turns
+  pub stores : q.view.hints ≡ p.view.hints
+
+-- What its callers have of it is as it was: their tokens and content locks, the census, and what the pass read and put; and it looked up no block
 pub record KeepsCallers (p q : PassState) : Type 0 where
   pub keeps : KeepsPass p q
   pub tokens : q.tokens ≡ p.tokens
   pub locks : SameLocks p.view q.view
   pub census : q.census ≡ p.census
   pub calls : KeepsCalls p q
+  pub sought : KeepsSought p q
 
 -- whether it has marked a frame dirty or synced a lane
 abbrev pub KeepsMark : PassState → PassState → Type 0

@@ -18,6 +18,7 @@ use Rattle.frame_table.specs.Seats.{frames_of, lanes_in, relations_of}
 use Rattle.wal_flush.specs.declared.flushes.FlushLog.TheVariants as log
 use Rattle.held_pins.specs.Tokens.{Tokens, count_of, held_at, tokens_with}
 use Rattle.buffer_frames.specs.declared.flushing.FrameFlushError.TheVariants as flush
+use Rattle.buffer_frames.specs.declared.hinting.HintSeen.{HintSeen}
 use Rattle.buffer_frames.specs.declared.victims.VictimError.TheVariants as victim
 use Rattle.buffer_frames.specs.declared.reading.BlockError.{BlockError}
 use Rattle.buffer_frames.specs.declared.reading.BlockError.TheVariants as block
@@ -31,7 +32,8 @@ use Rattle.backend_pass.specs.declared.met.Met as shown
 use Rattle.backend_pass.specs.declared.met.Shown.{Shown}
 use Rattle.backend_pass.specs.declared.pinned.Pinned.{Pinned}
 use Rattle.backend_pass.specs.FrameFlushes.{WasWithin}
-use Rattle.backend_pass.specs.Passes.{PassState, shown_count}
+use Rattle.buffer_frames.specs.Outside.{shown_count}
+use Rattle.backend_pass.specs.Passes.{PassState}
 
 -- what is refused before anything is looked at: a block past the end of its fork, and then one token too many
 abbrev pub refused_at_once : List RelEntry → Tokens → Tag → Option ReadError
@@ -99,12 +101,16 @@ ReadingCensus n c d (Err (LogDown at)) = d ≡ new_census n
 ReadingCensus n c d (Err (LogShort lsn end)) = d ≡ new_census n
 ReadingCensus n c d (Err (Unsound failed)) = KeptOrEmptied n c d
 
--- The lane q was read for the block where the answer says so, and no lane else. Where the map gave no frame for it at first, all else was done after that
-abbrev pub ReadingCalls : ℕ → Tag → Bool → View → View → Result Pinned ReadError → Type 0
-ReadingCalls q tag ring v w (Ok pinned) = Locates tag pinned.frame ring (loading_calls q (packed_tag tag) (Ok (loaded_by pinned.hit))) v w
-ReadingCalls q tag ring v w (Err (ReadFault failed)) = (f : ℕ) × Locates tag f ring (LaneRead q (packed_tag tag) false ∷ []) v w
-ReadingCalls q tag ring v w (Err (Unsound failed)) = (f : ℕ) × Locates tag f ring (LaneRead q (packed_tag tag) true ∷ []) v w
-ReadingCalls q tag ring v w (Err why) = Misses tag [] v w
+-- In a table of n frames, by a pass that has these tokens, and saw this of the block's hint: the lane q was read for the block where the answer says so, and no lane else. Where neither the hint nor the map gave a frame for it at first, all else was done after that
+module _ (n : ℕ) (tag : Tag) (held : Tokens) (ring : Bool) (seen : HintSeen) where
+  abbrev pub ReadingCalls : ℕ → View → View → Result Pinned ReadError → Type 0
+  ReadingCalls q v w (Ok pinned) = Locates n tag held ring seen pinned.frame
+      (loading_calls q (packed_tag tag) (Ok (loaded_by pinned.hit))) v w
+  ReadingCalls q v w (Err (ReadFault failed)) = (f : ℕ)
+      × Locates n tag held ring seen f (LaneRead q (packed_tag tag) false ∷ []) v w
+  ReadingCalls q v w (Err (Unsound failed)) = (f : ℕ)
+      × Locates n tag held ring seen f (LaneRead q (packed_tag tag) true ∷ []) v w
+  ReadingCalls q v w (Err why) = Misses n tag held ring seen [] v w
 
 -- The block is pinned, or its page isn't sound, or all frames are pinned
 abbrev pub IsReadUnsoundOrAllPinned : Result Pinned ReadError → Type 0
@@ -152,4 +158,5 @@ module _ {L G : Type 0} (contents : L → Option Pages) (t : FrameTable L G) whe
   -- A block was looked up, with this answer and these calls of devices
   pub record ReadsBlock (tag : Tag) (ring : Bool) (p q : PassState) (r : Result Pinned ReadError) : Type 0 where
     pub answer : ReadingAnswer tag p q r
-    pub calls : ReadingCalls (lane_number tag (lanes_in t)) tag ring p.view q.view r
+    pub calls : ReadingCalls (frames_of t) tag p.tokens ring q.hint
+        (lane_number tag (lanes_in t)) p.view q.view r

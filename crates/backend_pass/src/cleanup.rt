@@ -20,7 +20,7 @@ impl Pass {
     ghost use Rattle.backend_pass.specs.Cleanups.{why_of};
     ghost use Rattle.backend_pass.specs.Locks.{ChangesLock, HasLock, IsTagged};
     ghost use Rattle.backend_pass.specs.Managers.{Belongs};
-    ghost use Rattle.backend_pass.specs.Passes.{KeepsCalls, KeepsDevices, KeepsLocks, KeepsMark, SamePass};
+    ghost use Rattle.backend_pass.specs.Passes.{KeepsCalls, KeepsDevices, KeepsLocks, KeepsMark, KeepsSought, SamePass};
 
     /// Takes the cleanup lock of the frame of the pass's only token there, which has the token's block: the exclusive content lock, while no other backend pins the frame (`LockBufferForCleanup`). It waits for that, one backend at a time. A refusal gives the token back.
     pub fn lock_cleanup<L: BlockLane, G: LogDevice, R: Wait>(
@@ -34,6 +34,7 @@ impl Pass {
         requires unlocked { HasLock lock.Unlocked pinned.frame self.old }
         ensures belongs { Belongs L.contents manager.now self.new }
         ensures same { SamePass self.old self.new }
+        ensures sought { KeepsSought self.old self.new }
         ensures tokens { self.new.tokens ≡ self.old.tokens }
         ensures census { self.new.census ≡ self.old.census }
         ensures calls { KeepsCalls self.old self.new }
@@ -74,6 +75,7 @@ impl Pass {
         requires unlocked { HasLock lock.Unlocked pinned.frame self.old }
         ensures belongs { Belongs L.contents manager.now self.new }
         ensures same { SamePass self.old self.new }
+        ensures sought { KeepsSought self.old self.new }
         ensures tokens { self.new.tokens ≡ self.old.tokens }
         ensures census { self.new.census ≡ self.old.census }
         ensures calls { KeepsCalls self.old self.new }

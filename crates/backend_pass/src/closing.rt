@@ -34,6 +34,7 @@ impl Pass {
             number: _,
             seat,
             held,
+            sought: _,
             census: _,
             marked: _,
             page: _,

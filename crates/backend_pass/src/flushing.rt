@@ -131,7 +131,7 @@ impl Pass {
     ghost use Rattle.held_pins.specs.Tokens.{IsPinnedFor};
     ghost use Rattle.buffer_frames.specs.Flushing.{EndedInError, EndedWritten, FlushAnswer, met_flushing};
     ghost use Rattle.backend_pass.specs.Managers.{Belongs};
-    ghost use Rattle.backend_pass.specs.Passes.{KeepsCalls, KeepsLocks, KeepsMark, SamePass};
+    ghost use Rattle.backend_pass.specs.Passes.{KeepsCalls, KeepsLocks, KeepsMark, KeepsSought, SamePass};
     ghost use Rattle.backend_pass.specs.FrameFlushes.{WasWithin, page_answer};
 
     /// Writes the page of a token's frame if the frame is dirty, after flushing the log up to the page's position (`FlushOneBuffer`). The caller doesn't have the content lock. Returns false if the frame is clean.
@@ -146,6 +146,7 @@ impl Pass {
         requires unlocked { (link self.old.view pinned.now.frame).content ≡ Unlocked }
         ensures belongs { Belongs L.contents manager.now self.new }
         ensures same { SamePass self.old self.new }
+        ensures sought { KeepsSought self.old self.new }
         ensures tokens { self.new.tokens ≡ self.old.tokens }
         ensures census { self.new.census ≡ self.old.census }
         ensures calls { KeepsCalls self.old self.new }

@@ -22,7 +22,7 @@ impl Pass {
     ghost use Rattle.held_pins.specs.Tokens.{IsPinnedFor};
     ghost use Rattle.backend_pass.specs.Locks.{ChangesLock, HasLock};
     ghost use Rattle.backend_pass.specs.Managers.{Belongs};
-    ghost use Rattle.backend_pass.specs.Passes.{KeepsCalls, KeepsDevices, KeepsLocks, KeepsMark, SamePass};
+    ghost use Rattle.backend_pass.specs.Passes.{KeepsCalls, KeepsDevices, KeepsLocks, KeepsMark, KeepsSought, SamePass};
 
     /// Takes the content lock of a token's frame in shared mode, once no backend has it exclusively (`BUFFER_LOCK_SHARE`).
     pub fn share<L: BlockLane, G: LogDevice, R: Wait>(
@@ -36,6 +36,7 @@ impl Pass {
         requires unlocked { HasLock lock.Unlocked pinned.frame self.old }
         ensures belongs { Belongs L.contents manager.now self.new }
         ensures same { SamePass self.old self.new }
+        ensures sought { KeepsSought self.old self.new }
         ensures tokens { self.new.tokens ≡ self.old.tokens }
         ensures census { self.new.census ≡ self.old.census }
         ensures calls { KeepsCalls self.old self.new }
@@ -63,6 +64,7 @@ impl Pass {
         requires unlocked { HasLock lock.Unlocked pinned.frame self.old }
         ensures belongs { Belongs L.contents manager.now self.new }
         ensures same { SamePass self.old self.new }
+        ensures sought { KeepsSought self.old self.new }
         ensures tokens { self.new.tokens ≡ self.old.tokens }
         ensures census { self.new.census ≡ self.old.census }
         ensures calls { KeepsCalls self.old self.new }
@@ -89,6 +91,7 @@ impl Pass {
         requires unlocked { HasLock lock.Unlocked pinned.frame self.old }
         ensures belongs { Belongs L.contents manager.now self.new }
         ensures same { SamePass self.old self.new }
+        ensures sought { KeepsSought self.old self.new }
         ensures tokens { self.new.tokens ≡ self.old.tokens }
         ensures census { self.new.census ≡ self.old.census }
         ensures calls { KeepsCalls self.old self.new }
@@ -122,6 +125,7 @@ impl Pass {
         requires unlocked { HasLock lock.Unlocked pinned.frame self.old }
         ensures belongs { Belongs L.contents manager.now self.new }
         ensures same { SamePass self.old self.new }
+        ensures sought { KeepsSought self.old self.new }
         ensures tokens { self.new.tokens ≡ self.old.tokens }
         ensures census { self.new.census ≡ self.old.census }
         ensures calls { KeepsCalls self.old self.new }
@@ -155,6 +159,7 @@ impl Pass {
         requires locked { HasLock lock.Shared shared.pinned.frame self.old }
         ensures belongs { Belongs L.contents manager.now self.new }
         ensures same { SamePass self.old self.new }
+        ensures sought { KeepsSought self.old self.new }
         ensures tokens { self.new.tokens ≡ self.old.tokens }
         ensures census { self.new.census ≡ self.old.census }
         ensures calls { KeepsCalls self.old self.new }
@@ -182,6 +187,7 @@ impl Pass {
         requires locked { HasLock lock.Exclusive exclusive.pinned.frame self.old }
         ensures belongs { Belongs L.contents manager.now self.new }
         ensures same { SamePass self.old self.new }
+        ensures sought { KeepsSought self.old self.new }
         ensures tokens { self.new.tokens ≡ self.old.tokens }
         ensures census { self.new.census ≡ self.old.census }
         ensures calls { KeepsCalls self.old self.new }

@@ -6,6 +6,7 @@ use crate::met::{Met, Shown};
 use crate::pinned::Pinned;
 use crate::seats::{return_seat, take_seat};
 use atomic_table::Badge;
+use buffer_frames::{HintSeen, Sought};
 use cleanup_lock::unpin_and_wake;
 use clock_sweep::Census;
 use crossbeam_utils::CachePadded;
@@ -17,11 +18,12 @@ use segment_store::BlockLane;
 use std::marker::Model;
 use std::sync::Wait;
 
-/// A backend of a manager: the seat that it works with, the pins that it has handed out, and room of its own for a census, for the frames that a checkpoint marks, and for a page. `Manager::close` takes it back.
+/// A backend of a manager: the seat that it works with, the pins that it has handed out, what it keeps of its look-ups, and room of its own for a census, for the frames that a checkpoint marks, and for a page. `Manager::close` takes it back.
 pub struct Pass {
     pub(crate) number: u32,
     pub(crate) seat: Badge<View>,
     pub(crate) held: HeldPins,
+    pub(crate) sought: Sought,
     pub(crate) census: Census,
     pub(crate) marked: Vec<MarkedFrame>,
     pub(crate) page: Page,
@@ -32,14 +34,29 @@ impl Model for Pass {
     ghost use Rattle.std.specs.Prelude.{◌≡◌, ◌≤◌, ◌∷◌, [], vec_capacity};
     ghost use Rattle.crossbeam_utils.specs.Padded.{padded_value};
     ghost use Rattle.held_pins.specs.Rests.{OnlyTokens};
+    ghost use Rattle.buffer_frames.specs.Outside.{shown_count};
     ghost use Rattle.backend_pass.specs.Passes.{IsNumbered, IsShown, PassState, view_in};
 
     ghost Value = { PassState };
 
-    ghost view = { λ p. record { table = p.seat.table_id; id = p.seat.id; view = view_in p.seat.views; tokens = p.held; census = p.census; marked = p.marked.items } };
+    ghost view = { λ p. record {
+      table = p.seat.table_id;
+      id = p.seat.id;
+      view = view_in p.seat.views;
+      tokens = p.held;
+      census = p.census;
+      marked = p.marked.items;
+      hint = p.sought.hint;
+    } };
 
-    // Its seat has one view, which holds what its tokens say and nothing else. It has room to mark each frame.
-    ghost invariant = { λ p. (p.seat.views ≡ view_in p.seat.views ∷ []) × OnlyTokens p.held (view_in p.seat.views) × IsNumbered p.number p.seat.id (view_in p.seat.views) × IsShown (view_in p.seat.views) (padded_value p.shown) × (p.census.frames ≤ vec_capacity p.marked) };
+    // Its seat has one view, which holds what its tokens say and nothing else. It has room to mark each frame, and counts the latches of partitions that it took.
+    ghost invariant = { λ p. let v = view_in p.seat.views in
+        (p.seat.views ≡ v ∷ [])
+        × OnlyTokens p.held v
+        × IsNumbered p.number p.seat.id v
+        × IsShown v (padded_value p.shown)
+        × (p.census.frames ≤ vec_capacity p.marked)
+        × (p.sought.turns ≡ shown_count v.turns) };
 }
 
 impl Pass {
@@ -49,7 +66,8 @@ impl Pass {
     ghost use Rattle.cleanup_lock.specs.Waking.{Woken};
     ghost use Rattle.held_pins.specs.Tokens.{IsPinnedFor, held_at, tokens_less, tokens_of};
     ghost use Rattle.backend_pass.specs.Managers.{Belongs};
-    ghost use Rattle.backend_pass.specs.Passes.{KeepsCalls, KeepsDevices, KeepsLocks, KeepsMark, SamePass, shown_count};
+    ghost use Rattle.buffer_frames.specs.Outside.{shown_count};
+    ghost use Rattle.backend_pass.specs.Passes.{KeepsCalls, KeepsDevices, KeepsLocks, KeepsMark, KeepsSought, SamePass};
 
     /// The faults that the pass met.
     pub fn met(&self) -> Met
@@ -65,6 +83,20 @@ impl Pass {
         ensures { result ≡ self.now.view.front }
     {
         self.shown.front
+    }
+
+    /// How many latches of partitions the pass took. The number stands still at its type's last value.
+    pub fn turns(&self) -> u64
+        ensures { result ≡ shown_count self.now.view.turns }
+    {
+        self.sought.turns
+    }
+
+    /// What the last `read_buffer` saw of its block's hint.
+    pub fn hint_seen(&self) -> HintSeen
+        ensures { result ≡ self.now.hint }
+    {
+        self.sought.hint
     }
 
     /// The state words of the frames, from frame 0 on, if the last choice of a victim found every frame pinned; else empty. They were loaded at different moments.
@@ -86,6 +118,7 @@ impl Pass {
         requires unlocked { tokens_of (held_at self.old.tokens pinned.frame) ≡ 1 → (link self.old.view pinned.frame).content ≡ Unlocked }
         ensures belongs { Belongs L.contents manager.now self.new }
         ensures same { SamePass self.old self.new }
+        ensures sought { KeepsSought self.old self.new }
         ensures tokens { self.new.tokens ≡ tokens_less pinned.frame self.old.tokens }
         ensures census { self.new.census ≡ self.old.census }
         ensures calls { KeepsCalls self.old self.new }

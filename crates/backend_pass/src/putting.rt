@@ -86,7 +86,7 @@ impl Pass {
     ghost use Rattle.held_pins.specs.Tokens.{IsPinnedFor};
     ghost use Rattle.buffer_frames.specs.Working.{Made};
     ghost use Rattle.backend_pass.specs.Managers.{Belongs};
-    ghost use Rattle.backend_pass.specs.Passes.{KeepsCalls, KeepsLocks, SamePass};
+    ghost use Rattle.backend_pass.specs.Passes.{KeepsCalls, KeepsLocks, KeepsSought, SamePass};
     ghost use Rattle.buffer_frames.specs.Puts.{IsDoneOrFull, PutAnswer, met_put, put_calls};
 
     /// Makes the given page, which is sound and not new, the page of a frame whose content lock the caller has exclusively: marks the frame dirty (`MarkBufferDirty`), inserts the page into the log (`XLogInsert`), and copies it into the frame with its position there. Returns that position. After a refusal the frame's page is as it was.
@@ -104,6 +104,7 @@ impl Pass {
         requires used { is_new_page page.now ≡ false }
         ensures belongs { Belongs L.contents manager.now self.new }
         ensures same { SamePass self.old self.new }
+        ensures sought { KeepsSought self.old self.new }
         ensures token { exclusive.new ≡ exclusive.old }
         ensures tokens { self.new.tokens ≡ self.old.tokens }
         ensures census { self.new.census ≡ self.old.census }

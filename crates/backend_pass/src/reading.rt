@@ -3,10 +3,11 @@ ghost use Rattle.std.specs.Prelude.{◌≡◌, true, is_some};
 ghost use Rattle.block_tag.specs.Names.{lane_number, names_block};
 ghost use Rattle.table_rule.specs.Blocks.{has_block};
 ghost use Rattle.frame_table.specs.Seats.{OnlyRises, frames_of, lanes_in, relations_of};
-ghost use Rattle.held_pins.specs.Rests.{HasNoDevice, HasNoLatch, kept_by_calls, SameLocks};
+ghost use Rattle.held_pins.specs.Rests.{HasNoDevice, HasNoLatch, SameLocks};
 ghost use Rattle.held_pins.specs.Tokens.{IsNew};
-ghost use Rattle.buffer_frames.specs.Outside.{ring_shape};
-ghost use Rattle.buffer_frames.specs.Reads.{CensusRead, ReadAnswer, ReadCalls, met_read_block};
+ghost use Rattle.buffer_frames.specs.Hinting.{TakesTurns};
+ghost use Rattle.buffer_frames.specs.Outside.{kept_by_block_reads, ring_shape, shown_count};
+ghost use Rattle.buffer_frames.specs.Reads.{CensusRead, ReadAnswer, ReadCalls, ReadNotes, met_read_block};
 ghost use Rattle.backend_pass.specs.Passes.{view_in};
 ghost use Rattle.backend_pass.specs.Seats.{IsSeated, SameBadge};
 ghost use Rattle.backend_pass.specs.Reading.{read_refusal, shown_after};
@@ -20,7 +21,9 @@ use crate::seats::{return_seat, take_seat};
 use access_rings::Ring;
 use atomic_table::Badge;
 use block_tag::Tag;
-use buffer_frames::{BlockError, FrameFlushError, PinnedBlock, VictimError, read_block};
+use buffer_frames::{
+    BlockError, FrameFlushError, HintSeen, PinnedBlock, Sought, VictimError, read_block,
+};
 use clock_sweep::Census;
 use crossbeam_utils::CachePadded;
 use held_pins::{HeldPins, MOST_TOKENS};
@@ -105,24 +108,34 @@ fn read_seated<L: BlockLane, G: LogDevice, R: Wait>(
     page: &mut Page,
     tag: &Tag,
     ring: &mut Option<Ring>,
+    sought: &mut Sought,
 ) -> Result<PinnedBlock, BlockError>
     requires seated { IsSeated manager.now.table.table.shared.table_id held.now badge.old }
     requires census { census.old.frames ≡ frames_of manager.now.table }
     requires tag { names_block tag.now ≡ true }
     requires block { has_block (relations_of manager.now.table) tag.now ≡ true }
     requires new { IsNew tag.now held.now }
+    requires counted { sought.old.turns ≡ shown_count (view_in badge.old.views).turns }
     ensures badge { SameBadge badge.old badge.new }
     ensures quiet { HasNoDevice (view_in badge.new.views) }
     ensures latches { HasNoLatch (view_in badge.new.views) }
     ensures room { census.new.frames ≡ census.old.frames }
     ensures ring { ring_shape ring.new ≡ ring_shape ring.old }
-    ensures kept { kept_by_calls (view_in badge.new.views) ≡ kept_by_calls (view_in badge.old.views) }
+    ensures kept { kept_by_block_reads (view_in badge.new.views)
+        ≡ kept_by_block_reads (view_in badge.old.views) }
+    ensures counted { sought.new.turns ≡ shown_count (view_in badge.new.views).turns }
+    ensures turns { TakesTurns sought.new.hint
+        (view_in badge.old.views).turns (view_in badge.new.views).turns }
+    ensures hints { ReadNotes (frames_of manager.now.table) tag.now sought.new.hint
+        (view_in badge.old.views).hints (view_in badge.new.views).hints result }
     ensures advances { OnlyRises (view_in badge.old.views) (view_in badge.new.views) }
     ensures locks { SameLocks (view_in badge.old.views) (view_in badge.new.views) }
     ensures answer { ReadAnswer L.contents manager.now.table tag.now held.now census.new.words (view_in badge.old.views) (view_in badge.new.views) result }
     ensures census { CensusRead (frames_of manager.now.table) census.old census.new result }
     ensures met { (view_in badge.new.views).met ≡ met_read_block result (view_in badge.old.views).met }
-    ensures calls { ReadCalls (lane_number tag.now (lanes_in manager.now.table)) tag.now (is_some ring.old) (view_in badge.old.views) (view_in badge.new.views) result }
+    ensures calls { ReadCalls (frames_of manager.now.table) tag.now held.now (is_some ring.old)
+        sought.new.hint (lane_number tag.now (lanes_in manager.now.table))
+        (view_in badge.old.views) (view_in badge.new.views) result }
 {
     let mut seat = take_seat::<L, G>(badge);
     let answer = read_block(
@@ -135,22 +148,27 @@ fn read_seated<L: BlockLane, G: LogDevice, R: Wait>(
         page,
         tag,
         ring,
+        sought,
     );
     return_seat(badge, seat);
     answer
 }
 
 impl Pass {
-    ghost use Rattle.std.specs.Prelude.{◌≡◌, ◌<◌, ℕ, None, Some, Ok, Err, IfErr, IfOk, is_some, true};
+    ghost use Rattle.std.specs.Prelude.{◌≡◌, ◌≢◌, ◌<◌, ◌≤◌, ◌↔◌, ℕ, None, Some, Ok, Err, IfErr, IfOk, is_some, true};
     ghost use Rattle.block_tag.specs.Names.{names_block};
     ghost use Rattle.pin_core.specs.declared.view.Content.TheVariants.{Unlocked};
     ghost use Rattle.pin_core.specs.State.{link};
+    ghost use Rattle.history_core.specs.State.{last_count};
     ghost use Rattle.table_rule.specs.Blocks.{has_block};
     ghost use Rattle.frame_table.specs.Opened.{WasSoundAtOpening};
     ghost use Rattle.frame_table.specs.Seats.{frames_of, relations_of};
     ghost use Rattle.held_pins.specs.Tokens.{IsNew, IsPinnedFor, count_of, held_at, tokens_less, tokens_more, tokens_of};
-    ghost use Rattle.buffer_frames.specs.Outside.{ring_shape};
+    ghost use Rattle.buffer_frames.specs.Hinting.{TakesTurns};
+    ghost use Rattle.buffer_frames.specs.Outside.{ring_shape, shown_count};
+    ghost use Rattle.buffer_frames.specs.declared.hinting.HintSeen.TheVariants.{Unused};
     ghost use Rattle.backend_pass.specs.Managers.{Belongs};
+    ghost use Rattle.backend_pass.specs.HintsSeen.{IsUnusedOrHad, ShowsHint, StoresHints};
     ghost use Rattle.backend_pass.specs.Passes.{KeepsCalls, KeepsLocks, KeepsMark, PassState, SamePass};
     ghost use Rattle.backend_pass.specs.Reading.{IsReadUnsoundOrAllPinned, NothingFails, ReadingCensus, ReadsBlock, at_once_of, met_reading, refused_at_once};
     ghost use Rattle.buffer_frames.specs.Loading.{WasUnsoundAtOpening};
@@ -180,6 +198,9 @@ impl Pass {
         ensures answer { ReadsBlock L.contents manager.now.table tag.now (is_some ring.old) self.old self.new result }
         ensures census { ReadingCensus (frames_of manager.now.table) self.old.census self.new.census result }
         ensures met { self.new.view.met ≡ met_reading result self.old.view.met }
+        ensures turns { TakesTurns self.new.hint self.old.view.turns self.new.view.turns }
+        ensures hints { StoresHints (frames_of manager.now.table) tag.now self.new.hint
+            self.old.view.hints self.new.view.hints result }
         ensures back { IfOk result (λ pinned. tokens_less pinned.frame self.new.tokens ≡ self.old.tokens) }
     {
         match read_seated(
@@ -191,6 +212,7 @@ impl Pass {
             &mut self.page,
             tag,
             ring,
+            &mut self.sought,
         ) {
             Ok(PinnedBlock { pin, hit }) => {
                 let frame = pin.frame();
@@ -207,7 +229,7 @@ impl Pass {
         }
     }
 
-    /// Pins a block and returns a token of it (`ReadBuffer_common`). If callers have one already, no lane is read and no shared word changes. Otherwise the block is looked up and, if no frame has it, read into one, chosen by the ring if one is given. A refusal leaves the pass's pins as they were.
+    /// Pins a block and returns a token of it (`ReadBuffer_common`). If callers have one already, no lane is read and no shared word changes. Otherwise the block is looked up, by its hint and then in the map, and, if no frame has it, read into one, chosen by the ring if one is given. A refusal leaves the pass's pins as they were.
     pub fn read_buffer<L: BlockLane, G: LogDevice, R: Wait>(
         &mut self,
         manager: &Manager<L, G>,
@@ -225,15 +247,36 @@ impl Pass {
         ensures census { ReadingCensus (frames_of manager.now.table) self.old.census self.new.census result }
         ensures met { self.new.view.met ≡ met_reading result self.old.view.met }
 
-        // A block past the end and one token too many are refused, in this order, before anything is looked at, and nothing else is refused so. The pass and the ring are as they were.
+        // A block past the end and one token too many are refused, in this order, before anything is looked at, and nothing else is refused so. The pass, but for its hint, and the ring are as they were.
         ensures exact { at_once_of result ≡ refused_at_once (relations_of manager.now.table) self.old.tokens tag }
-        ensures at_once { (why : ReadError) → refused_at_once (relations_of manager.now.table) self.old.tokens tag ≡ Some why → (self.new ≡ self.old) × (ring.new ≡ ring.old) }
+        ensures at_once { (why : ReadError)
+            → refused_at_once (relations_of manager.now.table) self.old.tokens tag ≡ Some why
+            → (self.new ≡ record self.old { hint = Unused }) × (ring.new ≡ ring.old) }
 
-        // A further token of a block that is pinned changes nothing but the count of its tokens, and leaves the ring as it was.
-        ensures again { refused_at_once (relations_of manager.now.table) self.old.tokens tag ≡ None → (f : ℕ) → IsPinnedFor tag f self.old.tokens → (result ≡ Ok (record { frame = f; tag = tag; hit = true })) × (self.new ≡ record self.old { tokens = tokens_more f self.old.tokens }) × (ring.new ≡ ring.old) }
+        // A further token of a block that is pinned changes nothing but the count of its tokens, and the pass's hint, and leaves the ring as it was.
+        ensures again { refused_at_once (relations_of manager.now.table) self.old.tokens tag ≡ None
+            → (f : ℕ) → IsPinnedFor tag f self.old.tokens
+            → (result ≡ Ok (record { frame = f; tag = tag; hit = true }))
+            × (self.new ≡ record self.old { tokens = tokens_more f self.old.tokens; hint = Unused })
+            × (ring.new ≡ ring.old) }
 
         // Any other block is looked up.
         ensures new { refused_at_once (relations_of manager.now.table) self.old.tokens tag ≡ None → IsNew tag self.old.tokens → ReadsBlock L.contents manager.now.table tag (is_some ring.old) self.old self.new result }
+
+        // What is told of the hint was seen in this call.
+        ensures hint { ShowsHint (frames_of manager.now.table) tag self.old.tokens
+            (is_some ring.old) self.old.view self.new.view self.new.hint }
+
+        // It took no latch of a partition exactly where the hint was not loaded, or gave the frame. What `turns` shows says so too, unless it stood at its last value.
+        ensures turns { IsUnusedOrHad self.new.hint ↔ (self.new.view.turns ≡ self.old.view.turns) }
+        ensures shown { shown_count self.old.view.turns ≢ last_count
+            → (IsUnusedOrHad self.new.hint
+            ↔ (shown_count self.new.view.turns ≡ shown_count self.old.view.turns)) }
+        ensures rises { self.old.view.turns ≤ self.new.view.turns }
+
+        // Where it took one and is Ok, it has stored the frame that is answered in the block's hint word, and no other hint. A refusal has stored none, unless the block had a frame and its page didn't come.
+        ensures stored { StoresHints (frames_of manager.now.table) tag self.new.hint
+            self.old.view.hints self.new.view.hints result }
 
         // Where nothing fails the block is read, unless each frame is pinned or its page isn't sound.
         ensures complete { refused_at_once (relations_of manager.now.table) self.old.tokens tag ≡ None → NothingFails L.contents manager.now.table self.old self.new → IsReadUnsoundOrAllPinned result }
@@ -251,6 +294,7 @@ impl Pass {
         ensures back { IfOk result (λ pinned. tokens_less pinned.frame self.new.tokens ≡ self.old.tokens) }
         ensures last { IfOk result (λ pinned. tokens_of (held_at self.new.tokens pinned.frame) ≡ 1 → (link self.new.view pinned.frame).content ≡ Unlocked) }
     {
+        self.sought.hint = HintSeen::Unused;
         let blocks = manager.table.blocks(&tag);
         if tag.block >= blocks {
             return Err(ReadError::PastEnd {

@@ -21,7 +21,7 @@ impl Pass {
     ghost use Rattle.backend_pass.specs.Locks.{HasLock};
     ghost use Rattle.backend_pass.specs.Managers.{Belongs};
     ghost use Rattle.buffer_frames.specs.PageReads.{ReadsPage, ReadsUnder, SharesToRead};
-    ghost use Rattle.backend_pass.specs.Passes.{KeepsDevices, KeepsLocks, KeepsMark, SamePass};
+    ghost use Rattle.backend_pass.specs.Passes.{KeepsDevices, KeepsLocks, KeepsMark, KeepsSought, SamePass};
 
     /// Reads the page of a token's block under the content lock that the pass has.
     fn read_locked<L: BlockLane, G: LogDevice, R: Wait>(
@@ -36,6 +36,7 @@ impl Pass {
         requires locked { (link self.old.view pinned.now.frame).content ≢ lock.Unlocked }
         ensures belongs { Belongs L.contents manager.now self.new }
         ensures same { SamePass self.old self.new }
+        ensures sought { KeepsSought self.old self.new }
         ensures tokens { self.new.tokens ≡ self.old.tokens }
         ensures census { self.new.census ≡ self.old.census }
         ensures mark { KeepsMark self.old self.new }
@@ -68,6 +69,7 @@ impl Pass {
         requires unlocked { HasLock lock.Unlocked pinned.now.frame self.old }
         ensures belongs { Belongs L.contents manager.now self.new }
         ensures same { SamePass self.old self.new }
+        ensures sought { KeepsSought self.old self.new }
         ensures tokens { self.new.tokens ≡ self.old.tokens }
         ensures census { self.new.census ≡ self.old.census }
         ensures mark { KeepsMark self.old self.new }
@@ -100,6 +102,7 @@ impl Pass {
         requires locked { HasLock lock.Shared shared.now.pinned.frame self.old }
         ensures belongs { Belongs L.contents manager.now self.new }
         ensures same { SamePass self.old self.new }
+        ensures sought { KeepsSought self.old self.new }
         ensures tokens { self.new.tokens ≡ self.old.tokens }
         ensures census { self.new.census ≡ self.old.census }
         ensures mark { KeepsMark self.old self.new }
@@ -125,6 +128,7 @@ impl Pass {
         requires locked { HasLock lock.Exclusive exclusive.now.pinned.frame self.old }
         ensures belongs { Belongs L.contents manager.now self.new }
         ensures same { SamePass self.old self.new }
+        ensures sought { KeepsSought self.old self.new }
         ensures tokens { self.new.tokens ≡ self.old.tokens }
         ensures census { self.new.census ≡ self.old.census }
         ensures mark { KeepsMark self.old self.new }

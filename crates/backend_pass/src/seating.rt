@@ -3,6 +3,7 @@ ghost use Rattle.std.specs.Prelude.{◌≡◌, ◌≢◌, ◌<◌, ◌≤◌, []
 ghost use Rattle.table_rule.specs.Shows.{starting};
 ghost use Rattle.frame_table.specs.FrameSteps.{kept_view, split_view};
 ghost use Rattle.frame_table.specs.Seats.{Fits, base_of, frames_of};
+ghost use Rattle.buffer_frames.specs.declared.hinting.HintSeen.TheVariants.{Unused};
 ghost use Rattle.backend_pass.specs.PassMemories.{AreForFrames};
 ghost use Rattle.backend_pass.specs.Managers.{AreNewPasses};
 ghost use Rattle.backend_pass.specs.Passes.{IsFreshView};
@@ -13,6 +14,7 @@ use crate::pass::Pass;
 use crate::pass_memory::PassMemory;
 use crate::seats::{return_seat, take_seat};
 use atomic_table::Seat;
+use buffer_frames::{HintSeen, Sought};
 use crossbeam_utils::CachePadded;
 use frame_table::Value;
 use log_device::LogDevice;
@@ -29,7 +31,15 @@ impl Pass {
     ) -> Pass
         requires hand { seat.me.1 ≡ [] }
         requires fresh { IsFreshView number seat.id base seat.me.0 }
-        ensures { result ≡ record { table = seat.table_id; id = seat.id; view = seat.me.0; tokens = []; census = memory.census; marked = [] } }
+        ensures { result ≡ record {
+          table = seat.table_id;
+          id = seat.id;
+          view = seat.me.0;
+          tokens = [];
+          census = memory.census;
+          marked = [];
+          hint = Unused;
+        } }
     {
         let PassMemory {
             held,
@@ -42,10 +52,15 @@ impl Pass {
             writes: 0,
             logs: 0,
         };
+        let sought = Sought {
+            turns: 0,
+            hint: HintSeen::Unused,
+        };
         Pass {
             number,
             seat: seat.into_badge(),
             held,
+            sought,
             census,
             marked,
             page,
@@ -67,7 +82,8 @@ impl Pass {
         ensures first { self.new ≡ record self.old { view = kept_view self.old.view } }
         ensures table { result.table ≡ self.old.table }
         ensures view { result.view ≡ split_view base self.old.view }
-        ensures fresh { (result.tokens ≡ []) × (result.census ≡ memory.census) }
+        ensures fresh { (result.tokens ≡ [])
+            × (result.census ≡ memory.census) × (result.hint ≡ Unused) }
     {
         let mut seat = take_seat::<L, G>(&mut self.seat);
         let other = manager.table.split(&mut seat);

@@ -14,3 +14,4 @@ pub mod Noting
 pub mod Locating
 pub mod PageReading
 pub mod PagePuts
+pub mod Hints

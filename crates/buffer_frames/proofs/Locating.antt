@@ -1,44 +1,63 @@
 -- How a block came into its frame, over what is done after that.
-use Rattle.std.proofs.Common.{◌≡◌, ℕ, Bool, List, [], ◌++◌, refl, sym, ap, ◌∙◌, subst, append_assoc}
+use Rattle.std.proofs.Common.{◌≡◌, ℕ, ◌≤◌, Bool, List, [], ◌++◌, Some, None, refl, sym, ap, ◌∙◌, subst, append_assoc}
 use Rattle.std.proofs.lemmas.List.{append-nil}
-use Rattle.std.specs.Prelude.{Result, Ok, Err}
+use Rattle.std.specs.Prelude.{Result, Ok, Err, IfOk, MatchResult}
 use Rattle.block_tag.specs.declared.tag.Tag.{Tag}
 use Rattle.pin_core.specs.declared.view.DeviceCall.{DeviceCall}
+use Rattle.pin_core.specs.declared.view.HintStore.{HintStore}
 use Rattle.pin_core.specs.declared.view.View.{View}
 use Rattle.frame_table.specs.declared.pin.Pin.{Pin}
 use Rattle.frame_table.specs.Seats.{OnlyRises, Touches}
 use Rattle.frame_table.proofs.Rising.{rises_none, rises_on}
+use Rattle.held_pins.specs.Tokens.{Tokens}
+use Rattle.buffer_frames.specs.declared.hinting.HintSeen.{HintSeen}
 use Rattle.buffer_frames.specs.declared.victims.VictimError.{VictimError}
-use Rattle.buffer_frames.specs.Lookups.{SeesAndPins, SeesNone, UnderPartition}
-use Rattle.buffer_frames.specs.Outside.{outside_of}
-use Rattle.buffer_frames.specs.Reads.{Locates, MadeThen, Misses, PinAnswer, mapped, missed}
+use Rattle.buffer_frames.specs.Hinting.{NotesHint, TakesTurns}
+use Rattle.buffer_frames.specs.Lookups.{LooksUp, by_none}
+use Rattle.buffer_frames.specs.Outside.{outside_of, searched_of}
+use Rattle.buffer_frames.specs.Reads.{Locates, MadeThen, Misses, PinAnswer, PinNotes, PinsAndStores, looked_up, missed}
 use Rattle.buffer_frames.specs.Working.{Calls, IsFlushCall, Made, WorksAt}
-use Rattle.buffer_frames.proofs.Outside.{calls_outside, grows_outside, kept_outside}
+use Rattle.buffer_frames.proofs.Hints.{notes_missed, takes_on}
+use Rattle.buffer_frames.proofs.Outside.{calls_outside, calls_searched, grows_outside, kept_outside}
 use Rattle.buffer_frames.proofs.WorkSteps.{made_none, made_on, works_on}
 
-works_none : (f : ℕ) (v : View) → WorksAt f v v
+pub works_none : (f : ℕ) (v : View) → WorksAt f v v
 works_none f v = record { kept = refl; advances = rises_none v; partitions = refl; others = λ g n. refl }
 
 -- a pin that is given up
 works_outside : (f : ℕ) (v w : View) → Touches f v w → outside_of w ≡ outside_of v → WorksAt f v w
 works_outside f v w t e = record { kept = kept_outside v w e; advances = grows_outside v w t.grows e; partitions = t.partitions; others = t.others }
 
--- the map gave the frame
-pub locates_now : (tag : Tag) (f : ℕ) (ring : Bool) (v w : View) → UnderPartition tag (SeesAndPins tag f ring) v w → outside_of w ≡ outside_of v → Locates tag f ring [] v w
-locates_now tag f ring v w under e = mapped w under (works_none f w) (made_none v w (calls_outside v w e))
+-- the hint or the map gave the frame
+pub locates_now : (n : ℕ) (tag : Tag) (held : Tokens) (ring : Bool) (seen : HintSeen) (f : ℕ) (v w : View) → LooksUp n tag held ring v w seen (Some f) → searched_of w ≡ searched_of v → Locates n tag held ring seen f [] v w
+locates_now n tag held ring seen f v w looks e = looked_up w looks (works_none f w) (made_none v w (calls_searched v w e))
 
--- it gave none
-pub misses_then : (tag : Tag) (v u w : View) → UnderPartition tag (SeesNone tag) v u → outside_of u ≡ outside_of v → OnlyRises u w → Calls IsFlushCall u w → Misses tag [] v w
-misses_then tag v u w search e until calls = record {
-  searched = u;
-  search = search;
-  until = until;
-  calls = record { before = calls.made; calls = calls.calls ∙ ap (λ (l : List DeviceCall). l ++ calls.made) (calls_outside v u e) ∙ ap (λ (l : List DeviceCall). v.device_calls ++ l) (sym (append-nil calls.made)); each = calls.each };
-}
+-- neither gave one
+module _ (n : ℕ) (tag : Tag) (held : Tokens) (ring : Bool) (v u w : View) where
+  pub misses_then : (seen : HintSeen) → LooksUp n tag held ring v u seen None → searched_of u ≡ searched_of v → OnlyRises u w → Calls IsFlushCall u w → Misses n tag held ring seen [] v w
+  misses_then seen (by_none sought hint under) e until calls = record {
+    sought = sought;
+    hint = hint;
+    searched = u;
+    search = under;
+    until = until;
+    calls = record { before = calls.made; calls = calls.calls ∙ ap (λ (l : List DeviceCall). l ++ calls.made) (calls_searched v u e) ∙ ap (λ (l : List DeviceCall). v.device_calls ++ l) (sym (append-nil calls.made)); each = calls.each };
+  }
 
-pub answers_missed : (tag : Tag) (ring : Bool) (v w : View) (r : Result Pin VictimError) → Misses tag [] v w → PinAnswer tag ring v w r
-answers_missed tag ring v w (Ok pin) m = missed m
-answers_missed tag ring v w (Err why) m = m
+  pub turns_then : (seen : HintSeen) → LooksUp n tag held ring v u seen None → TakesTurns seen v.turns u.turns → u.turns ≤ w.turns → TakesTurns seen v.turns w.turns
+  turns_then seen (by_none sought hint under) takes more = takes_on n tag held ring v sought seen hint v.turns u.turns w.turns takes more
+
+  pub notes_then : (seen : HintSeen) (r : Result Pin VictimError) → LooksUp n tag held ring v u seen None → u.hints ≡ v.hints → MatchResult r (λ p. NotesHint n tag p.frame u.hints w.hints) (λ _. w.hints ≡ u.hints) → PinNotes n tag seen v.hints w.hints r
+  notes_then seen (Ok pin) (by_none sought hint under) e h = notes_missed n tag held ring v sought seen hint pin.frame v.hints w.hints (subst (λ (l : List HintStore). NotesHint n tag pin.frame l w.hints) e h)
+  notes_then seen (Err why) looks e h = h ∙ e
+
+-- a frame that is pinned for it, and its hint stored, over what was done before
+pub stores_since : (n : ℕ) (tag : Tag) (held : Tokens) (f : ℕ) (v u w : View) → OnlyRises v u → PinsAndStores n tag held f u w → PinsAndStores n tag held f v w
+stores_since n tag held f v u w since s = record { pinned = s.pinned; since = rises_on v u s.pinned since s.since; pins = s.pins; noted = s.noted; stores = s.stores; works = s.works }
+
+pub answers_missed : (n : ℕ) (tag : Tag) (held : Tokens) (ring : Bool) (seen : HintSeen) (v u w : View) (r : Result Pin VictimError) → Misses n tag held ring seen [] v w → OnlyRises v u → IfOk r (λ p. PinsAndStores n tag held p.frame u w) → PinAnswer n tag held ring seen v w r
+answers_missed n tag held ring seen v u w (Ok pin) m since s = missed m (stores_since n tag held pin.frame v u w since s)
+answers_missed n tag held ring seen v u w (Err why) m since s = m
 
 -- then the frame is worked at
 then_made : (last : List DeviceCall) (v u w : View) → MadeThen [] v u → Made last u w → MadeThen last v w
@@ -48,13 +67,16 @@ then_made last v u w m made = record {
   each = m.each;
 }
 
-worked : (tag : Tag) (f : ℕ) (ring : Bool) (last : List DeviceCall) (v u w : View) → WorksAt f u w → Made last u w → Locates tag f ring [] v u → Locates tag f ring last v w
-worked tag f ring last v u w works made (mapped pinned under before calls) = mapped pinned under (works_on f pinned u w before works) (made_on [] last v u w calls made)
-worked tag f ring last v u w works made (missed m) = missed (record { searched = m.searched; search = m.search; until = rises_on m.searched u w m.until works.advances; calls = then_made last v u w m.calls made })
+module _ (n : ℕ) (tag : Tag) (held : Tokens) (ring : Bool) (seen : HintSeen) (f : ℕ) where
+  worked : (last : List DeviceCall) (v u w : View) → WorksAt f u w → Made last u w → Locates n tag held ring seen f [] v u → Locates n tag held ring seen f last v w
+  worked last v u w works made (looked_up pinned looks before calls) = looked_up pinned looks (works_on f pinned u w before works) (made_on [] last v u w calls made)
+  worked last v u w works made (missed m s) = missed
+      (record { sought = m.sought; hint = m.hint; searched = m.searched; search = m.search; until = rises_on m.searched u w m.until works.advances; calls = then_made last v u w m.calls made })
+      (record { pinned = s.pinned; since = s.since; pins = s.pins; noted = s.noted; stores = s.stores; works = works_on f s.noted u w s.works works })
 
-pub locates_worked : (tag : Tag) (f h : ℕ) (ring : Bool) (last : List DeviceCall) (v u w : View) → h ≡ f → Locates tag f ring [] v u → WorksAt h u w → Made last u w → Locates tag f ring last v w
-locates_worked tag f h ring last v u w e located works made = worked tag f ring last v u w (subst (λ (x : ℕ). WorksAt x u w) e works) made located
+  pub locates_worked : (g : ℕ) (last : List DeviceCall) (v u w : View) → g ≡ f → Locates n tag held ring seen f [] v u → WorksAt g u w → Made last u w → Locates n tag held ring seen f last v w
+  locates_worked g last v u w e located works made = worked last v u w (subst (λ (x : ℕ). WorksAt x u w) e works) made located
 
--- and given up
-pub locates_given : (tag : Tag) (f h : ℕ) (ring : Bool) (last : List DeviceCall) (v u x w : View) → h ≡ f → Locates tag f ring [] v u → WorksAt h u x → Made last u x → Touches f x w → outside_of w ≡ outside_of x → Locates tag f ring last v w
-locates_given tag f h ring last v u x w e located works made touches same = worked tag f ring last v u w (works_on f u x w (subst (λ (y : ℕ). WorksAt y u x) e works) (works_outside f x w touches same)) (calls_outside x w same ∙ made) located
+  -- and given up
+  pub locates_given : (g : ℕ) (last : List DeviceCall) (v u x w : View) → g ≡ f → Locates n tag held ring seen f [] v u → WorksAt g u x → Made last u x → Touches f x w → outside_of w ≡ outside_of x → Locates n tag held ring seen f last v w
+  locates_given g last v u x w e located works made touches same = worked last v u w (works_on f u x w (subst (λ (y : ℕ). WorksAt y u x) e works) (works_outside f x w touches same)) (calls_outside x w same ∙ made) located

@@ -21,17 +21,17 @@ use Rattle.buffer_frames.specs.declared.flushing.VictimPage.TheVariants.{Clean, 
 use Rattle.buffer_frames.specs.declared.victims.VictimError.{VictimError}
 use Rattle.buffer_frames.specs.declared.victims.VictimError.TheVariants.{Flush, NoUnpinned}
 use Rattle.buffer_frames.specs.Flushing.{VictimAnswer, locked, rejected}
-use Rattle.buffer_frames.specs.Outside.{outside_of, ring_shape}
+use Rattle.buffer_frames.specs.Outside.{outside_of, ring_shape, searched_of}
 use Rattle.buffer_frames.specs.Reads.{CensusPinned}
 use Rattle.buffer_frames.specs.Victims.{AllPinned, CensusClaimed, ClaimAnswer, FindsAllPinned, LeavesDirty, VictimRefused}
 use Rattle.buffer_frames.specs.Working.{Calls}
-use Rattle.buffer_frames.proofs.Outside.{calls_outside, shape_rejected}
+use Rattle.buffer_frames.proofs.Outside.{calls_outside, calls_searched, shape_rejected}
 
 pub calls_none : (P : DeviceCall → Type 0) (v w : View) → w.device_calls ≡ v.device_calls → Calls P v w
 calls_none P v w e = record { made = []; calls = e ∙ sym (append-nil v.device_calls); each = All-nil P }
 
-pub calls_by : (P : DeviceCall → Type 0) (v w : View) → outside_of w ≡ outside_of v → Calls P v w
-calls_by P v w e = calls_none P v w (calls_outside v w e)
+pub calls_by : (P : DeviceCall → Type 0) (v w : View) → searched_of w ≡ searched_of v → Calls P v w
+calls_by P v w e = calls_none P v w (calls_searched v w e)
 
 pub calls_on : (P : DeviceCall → Type 0) (v u w : View) → Calls P v u → Calls P u w → Calls P v w
 calls_on P v u w a b = record { made = a.made ++ b.made; calls = b.calls ∙ ap (λ (l : List DeviceCall). l ++ b.made) a.calls ∙ append_assoc v.device_calls a.made b.made; each = All-append P a.made b.made a.each b.each }

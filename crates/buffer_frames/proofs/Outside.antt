@@ -1,60 +1,82 @@
 -- What calls that work at frames and maps leave of a view, as one equation, and what follows of it.
-use Rattle.std.proofs.Common.{◌≡◌, ℕ, [], Option, Some, None, true, false, Bool, sym, refl, ap, ◌∙◌, arith, length-set}
+use Rattle.std.proofs.Common.{◌≡◌, ℕ, ◌+◌, [], Option, Some, None, true, false, Bool, sym, refl, ap, ◌∙◌, arith, length-set}
 use Rattle.atomic_table.specs.declared.shared.Seat.{Seat}
 use Rattle.pin_core.specs.declared.view.View.{View}
-use Rattle.pin_core.specs.State.{lane_hold}
 use Rattle.table_rule.specs.declared.value.Value.{Value}
 use Rattle.frame_table.specs.declared.table.FrameTable.{FrameTable}
 use Rattle.frame_table.specs.Seats.{Grows, OnlyRises, SameMarks, SameSeat, SameSelf}
-use Rattle.frame_table.specs.Latches.{SameWork}
+use Rattle.frame_table.specs.Latches.{SameWork, view_counted}
+use Rattle.frame_table.proofs.Rising.{rises_by}
+use Rattle.table_rule.specs.declared.turn.Turn.TheVariants.{Partition}
 use Rattle.clock_sweep.specs.Keeping.{SameAside}
-use Rattle.held_pins.specs.Rests.{HasNoDevice, Stands, kept_by_calls}
+use Rattle.held_pins.specs.Rests.{Stands, kept_by_calls}
+use Rattle.held_pins.proofs.Keeping.{devices_same, stands_on}
 use Rattle.access_rings.specs.RingState.{RingState, ring_after_keep, ring_after_rejection}
 use Rattle.clock_sweep.specs.Choosing.{ring_gone_on, ring_keeping}
-use Rattle.buffer_frames.specs.Outside.{RingShape, outside_of, ring_shape, shape_of}
+use Rattle.buffer_frames.specs.Outside.{RingShape, kept_by_block_reads, outside_of, ring_shape, searched_of, shape_of, shown_count}
 
 -- The equations of the layers below, as this one
 pub outside_step : (v w : View) → SameSelf v w → SameMarks v w → outside_of w ≡ outside_of v
 outside_step v w self marks = λ i. record (self i) { ticks = 0; dirtied_or_synced = (marks i).dirtied_or_synced; had_output = (marks i).had_output; last_ended = (marks i).last_ended }
 
 pub outside_aside : (v w : View) → SameAside v w → outside_of w ≡ outside_of v
-outside_aside v w aside = λ i. record (aside i) { partitions = []; unentered = [] }
+outside_aside v w aside = λ i. record (aside i) { partitions = []; unentered = []; residents = [] }
 
 pub outside_worked : (v w : View) → SameWork v w → w.lanes ≡ v.lanes → w.log ≡ v.log → outside_of w ≡ outside_of v
-outside_worked v w work lanes log = λ i. record (work i) { links = []; ticks = 0; loads = []; changes = []; unentered = []; lanes = lanes i; log = log i }
+outside_worked v w work lanes log = λ i. record (work i) { links = []; ticks = 0; loads = []; changes = []; unentered = []; residents = []; lanes = lanes i; log = log i }
 
 pub links_worked : (v w : View) → SameWork v w → w.links ≡ v.links
 links_worked v w work = ap (λ (x : View). x.links) work
 
--- What follows of it
+-- a latch was taken, and counted
+pub searched_counted : (p : ℕ) (v w : View) → SameWork (view_counted true (Partition p) v) w → w.lanes ≡ v.lanes → w.log ≡ v.log → searched_of w ≡ searched_of v
+searched_counted p v w work lanes log = λ i. record (work i) { links = []; ticks = 0; loads = []; changes = []; unentered = []; residents = []; turns = 0; hints = []; lanes = lanes i; log = log i }
+
+-- What follows of it, also where latches of partitions were taken, and hints stored
+pub outside_searched : (v w : View) → outside_of w ≡ outside_of v → searched_of w ≡ searched_of v
+outside_searched v w e = ap searched_of e
+
+pub kept_searched : (v w : View) → searched_of w ≡ searched_of v → kept_by_block_reads w ≡ kept_by_block_reads v
+kept_searched v w e = ap kept_by_block_reads e
+
+pub met_searched : (v w : View) → searched_of w ≡ searched_of v → w.met ≡ v.met
+met_searched v w e = ap (λ (x : View). x.met) e
+
+pub calls_searched : (v w : View) → searched_of w ≡ searched_of v → w.device_calls ≡ v.device_calls
+calls_searched v w e = ap (λ (x : View). x.device_calls) e
+
+pub stands_searched : {L G : Type 0} (t : FrameTable L G) (s s' : Seat (Value L G) View) → SameSeat s s' → searched_of s'.me.0 ≡ searched_of s.me.0 → Stands t s → Stands t s'
+stands_searched t s s' same e k = stands_on t s s' same (devices_same s.me.0 s'.me.0 (ap (λ (x : View). x.emptied) e) (ap (λ (x : View). x.lanes) e) (ap (λ (x : View). x.log) e) k.quiet) k
+
+pub grows_searched : (v w : View) → Grows v w → searched_of w ≡ searched_of v → OnlyRises v w
+grows_searched v w g e = rises_by v w g (ap (λ (x : View). x.lanes) e)
+    (let a = ap (λ (x : View). x.end_seen) e in omega arith) (let a = ap (λ (x : View). x.flushed) e in omega arith) (λ d. ap (λ (x : View). x.saw_down) e ∙ d)
+
 pub kept_outside : (v w : View) → outside_of w ≡ outside_of v → kept_by_calls w ≡ kept_by_calls v
 kept_outside v w e = ap kept_by_calls e
 
-pub met_outside : (v w : View) → outside_of w ≡ outside_of v → w.met ≡ v.met
-met_outside v w e = ap (λ (x : View). x.met) e
-
 pub calls_outside : (v w : View) → outside_of w ≡ outside_of v → w.device_calls ≡ v.device_calls
-calls_outside v w e = ap (λ (x : View). x.device_calls) e
-
-pub device_outside : (v w : View) → outside_of w ≡ outside_of v → HasNoDevice v → HasNoDevice w
-device_outside v w e q = record {
-  live = ap (λ (x : View). x.emptied) e ∙ q.live;
-  free = λ n. ap (λ (x : View). (lane_hold x n).held) e ∙ q.free n;
-  home = λ n. ap (λ (x : View). (lane_hold x n).out) e ∙ q.home n;
-  log = ap (λ (x : View). x.log) e ∙ q.log;
-}
+calls_outside v w e = calls_searched v w (outside_searched v w e)
 
 pub stands_outside : {L G : Type 0} (t : FrameTable L G) (s s' : Seat (Value L G) View) → SameSeat s s' → outside_of s'.me.0 ≡ outside_of s.me.0 → Stands t s → Stands t s'
-stands_outside t s s' same e k = record { fits = same.table ∙ k.fits; hand = same.hand ∙ k.hand; quiet = device_outside s.me.0 s'.me.0 e k.quiet }
+stands_outside t s s' same e k = stands_searched t s s' same (outside_searched s.me.0 s'.me.0 e) k
 
--- What only rises
 pub grows_outside : (v w : View) → Grows v w → outside_of w ≡ outside_of v → OnlyRises v w
-grows_outside v w g e = let end : w.end_seen ≡ v.end_seen = ap (λ (x : View). x.end_seen) e in let flushed : w.flushed ≡ v.flushed = ap (λ (x : View). x.flushed) e in record {
-  grows = g;
-  swept = λ q. (let swept : (lane_hold w q).swept ≡ (lane_hold v q).swept = ap (λ (x : View). (lane_hold x q).swept) e in omega arith);
-  end_seen = omega arith;
-  flushed = omega arith;
-  down = λ d. ap (λ (x : View). x.saw_down) e ∙ d;
+grows_outside v w g e = grows_searched v w g (outside_searched v w e)
+
+-- The view v took a latch, which is counted, and was u then, and it has left the latch, as w
+pub record Searched (v u w : View) : Type 0 where
+  pub same : searched_of w ≡ searched_of v
+  pub turns : w.turns ≡ v.turns + 1
+  pub hints : w.hints ≡ v.hints
+  pub shown : shown_count u.turns ≡ shown_count w.turns
+
+pub searched_under : (p : ℕ) (v u x w : View) → SameWork (view_counted true (Partition p) v) u → u.lanes ≡ v.lanes → u.log ≡ v.log → outside_of x ≡ outside_of u → SameWork x w → w.lanes ≡ x.lanes → w.log ≡ x.log → Searched v u w
+searched_under p v u x w takes lanes log call leaves lanes' log' = let turns : w.turns ≡ u.turns = ap (λ (y : View). y.turns) leaves ∙ ap (λ (y : View). y.turns) call in record {
+  same = outside_searched x w (outside_worked x w leaves lanes' log') ∙ outside_searched u x call ∙ searched_counted p v u takes lanes log;
+  turns = turns ∙ ap (λ (y : View). y.turns) takes;
+  hints = ap (λ (y : View). y.hints) leaves ∙ ap (λ (y : View). y.hints) call ∙ ap (λ (y : View). y.hints) takes;
+  shown = ap shown_count (sym turns);
 }
 
 -- A ring keeps its kind and its number of places

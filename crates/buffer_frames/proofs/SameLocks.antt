@@ -1,12 +1,13 @@
 -- Content locks stay as they were while frames are pinned, given up and freed.
-use Rattle.std.proofs.Common.{◌≡◌, ◌≢◌, ℕ, Option, sym, ap, ◌∙◌, subst}
+use Rattle.std.proofs.Common.{◌≡◌, ◌≢◌, ℕ, true, Option, sym, ap, ◌∙◌, subst}
 use mathlib.Core.Logic.{dite}
 use native.Mathlib.Decide.{ℕ_discrete}
 use Rattle.pin_core.specs.declared.view.Link.{Link}
 use Rattle.pin_core.specs.declared.view.View.{View}
 use Rattle.pin_core.specs.declared.view.Content.TheVariants.{Unlocked}
 use Rattle.pin_core.specs.State.{link}
-use Rattle.frame_table.specs.Latches.{SameWork}
+use Rattle.frame_table.specs.Latches.{SameWork, view_counted}
+use Rattle.table_rule.specs.declared.turn.Turn.TheVariants.{Partition}
 use Rattle.frame_table.specs.Seats.{Looked, assigned_link, cleared_link, locked_link, stored_link, unlocked_link, victim_link}
 use Rattle.clock_sweep.specs.Keeping.{GetsHeader}
 use Rattle.held_pins.specs.Rests.{SameLocks}
@@ -21,8 +22,8 @@ pub same_locks_mapped : (v w : View) → SameWork v w → SameLocks v w
 same_locks_mapped v w work = same_locks_linked v w (links_worked v w work)
 
 -- a latch is taken, and left after a call
-pub same_locks_latched : (v u x w : View) → SameWork v u → SameLocks u x → SameWork x w → SameLocks v w
-same_locks_latched v u x w takes call leaves = same_locks_on v x w (same_locks_on v u x (same_locks_mapped v u takes) call) (same_locks_mapped x w leaves)
+pub same_locks_latched : (p : ℕ) (v u x w : View) → SameWork (view_counted true (Partition p) v) u → SameLocks u x → SameWork x w → SameLocks v w
+same_locks_latched p v u x w takes call leaves = same_locks_on v x w (same_locks_on v u x (same_locks_linked v u (links_worked (view_counted true (Partition p) v) u takes)) call) (same_locks_mapped x w leaves)
 
 -- a header is locked, and unlocked again
 pub same_locks_unlocked : (f word : ℕ) (v u w : View) → ((g : ℕ) → g ≢ f → link u g ≡ link v g) → Looked (locked_link word (link v f)) (link u f) → ((g : ℕ) → g ≢ f → link w g ≡ link u g) → link w f ≡ unlocked_link (link u f) → SameLocks v w

@@ -3,6 +3,7 @@ pub mod Working
 pub mod Loading
 pub mod Flushing
 pub mod Outside
+pub mod Hinting
 pub mod Lookups
 pub mod Victims
 pub mod Reads

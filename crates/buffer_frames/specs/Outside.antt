@@ -1,12 +1,26 @@
 -- What calls that work at frames, and at the maps, leave of a view.
-use Rattle.std.specs.Prelude.{ℕ, [], length, Option, option_map}
+use Rattle.std.specs.Prelude.{ℕ, min, [], length, Option, option_map}
 use Rattle.pin_core.specs.declared.view.View.{View}
+use Rattle.history_core.specs.State.{last_count}
+use Rattle.held_pins.specs.Rests.{kept_by_calls}
 use Rattle.access_rings.specs.declared.ring.RingKind.{RingKind}
 use Rattle.access_rings.specs.RingState.{RingState}
 
 -- What a call that works at frames and maps, and calls no device, leaves of a view: all but what it has of them, and what it lists and counts of loads, changed words, steps and moves of the hand
 abbrev pub outside_of : View → View
-outside_of v = record v { links = []; partitions = []; steps = 0; ticks = 0; loads = []; changes = []; unentered = [] }
+outside_of v = record v { links = []; partitions = []; steps = 0; ticks = 0; loads = []; changes = []; unentered = []; residents = [] }
+
+-- and what one leaves that may take partitions' latches and store hints besides
+abbrev pub searched_of : View → View
+searched_of v = record (outside_of v) { turns = 0; hints = [] }
+
+-- What a call keeps of a view that brings a block into a frame: it may do both as well
+abbrev pub kept_by_block_reads : View → View
+kept_by_block_reads v = record (kept_by_calls v) { turns = 0; hints = [] }
+
+-- a count as it is shown: it stands still at its type's last value
+abbrev pub shown_count : ℕ → ℕ
+shown_count n = min n last_count
 
 -- What a choice leaves of a ring: its kind, and how many places it has
 pub record RingShape : Type 0 where

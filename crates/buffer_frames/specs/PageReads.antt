@@ -36,6 +36,7 @@ kept_by_reads v = record v {
   had_output = false;
   last_ended = None;
   unentered = [];
+  residents = [];
 }
 
 -- But for frames, and for what it read, the view is as it was, or rose

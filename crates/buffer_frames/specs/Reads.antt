@@ -1,11 +1,12 @@
 -- How a block is read.
-use Rattle.std.specs.Prelude.{◌≡◌, ◌⊎◌, ℕ, ◌<◌, Bool, true, List, [], ◌++◌, Option, Result, Ok, Err}
+use Rattle.std.specs.Prelude.{◌≡◌, ◌⊎◌, ℕ, ◌<◌, Bool, true, Some, List, [], ◌++◌, Option, Result, Ok, Err}
 use Rattle.std.specs.List.{All}
 use Rattle.block_tag.specs.declared.tag.Tag.{Tag}
 use Rattle.block_tag.specs.Names.{packed_tag}
 use Rattle.segment_store.specs.Contents.{Pages}
 use Rattle.pin_core.specs.declared.view.DeviceCall.{DeviceCall}
 use Rattle.pin_core.specs.declared.view.FailedCalls.{FailedCalls}
+use Rattle.pin_core.specs.declared.view.HintStore.{HintStore}
 use Rattle.pin_core.specs.declared.view.View.{View}
 use Rattle.pin_core.specs.State.{link}
 use Rattle.clock_sweep.specs.CensusList.{CensusList, new_census}
@@ -13,15 +14,18 @@ use Rattle.frame_table.specs.declared.pin.Pin.{Pin}
 use Rattle.frame_table.specs.declared.table.FrameTable.{FrameTable}
 use Rattle.frame_table.specs.Opened.{WasSoundAtOpening}
 use Rattle.frame_table.specs.Seats.{OnlyRises, frames_of}
+use Rattle.map_partitions.specs.Hints.{StoresHint}
 use Rattle.held_pins.specs.Rests.{LinksRest}
 use Rattle.held_pins.specs.Tokens.{Tokens}
+use Rattle.buffer_frames.specs.declared.hinting.HintSeen.{HintSeen}
 use Rattle.buffer_frames.specs.declared.loading.LoadError.TheVariants as load
 use Rattle.buffer_frames.specs.declared.reading.BlockError.{BlockError}
 use Rattle.buffer_frames.specs.declared.reading.BlockError.TheVariants.{NoFrame, ReadFault, Unsound}
 use Rattle.buffer_frames.specs.declared.reading.PinnedBlock.{PinnedBlock}
 use Rattle.buffer_frames.specs.declared.victims.VictimError.{VictimError}
 use Rattle.buffer_frames.specs.Loading.{WasUnsoundAtOpening, loaded_by, loading_calls}
-use Rattle.buffer_frames.specs.Lookups.{SeesAndPins, SeesNone, UnderPartition}
+use Rattle.buffer_frames.specs.Hinting.{NotesUnlessHad, SeesHint}
+use Rattle.buffer_frames.specs.Lookups.{LooksUp, SeesNone, UnderPartition}
 use Rattle.buffer_frames.specs.Stages.{Pins}
 use Rattle.buffer_frames.specs.Victims.{CensusRefused, VictimRefused, met_victim}
 use Rattle.buffer_frames.specs.Working.{IsFlushCall, Made, WorksAt, met_read}
@@ -32,29 +36,61 @@ pub record MadeThen (last : List DeviceCall) (v w : View) : Type 0 where
   pub calls : w.device_calls ≡ v.device_calls ++ (before ++ last)
   pub each : All IsFlushCall before
 
--- At first the map gave no frame for the block. All else was done after that, and these were its last calls of devices, the others those of flushes
-pub record Misses (tag : Tag) (last : List DeviceCall) (v w : View) : Type 0 where
-  pub searched : View
-  pub search : UnderPartition tag (SeesNone tag) v searched
-  pub until : OnlyRises searched w
-  pub calls : MadeThen last v w
+-- The frame f was pinned for the block of a tag. Then the tag's hint was stored, which names the frame, and after that no work was done at another one
+pub record PinsAndStores (n : ℕ) (tag : Tag) (held : Tokens) (f : ℕ) (v w : View) : Type 0 where
+  pub pinned : View
+  pub since : OnlyRises v pinned
+  pub pins : Pins (packed_tag tag) f held pinned
+  pub noted : View
+  pub stores : StoresHint n tag f pinned noted
+  pub works : WorksAt f noted w
 
--- At first the map gave the frame f, which was pinned then, for a ring or not; no work was done at another one, and these were the calls of devices. Or it gave none
-pub data Locates (tag : Tag) (f : ℕ) (ring : Bool) (last : List DeviceCall) (v w : View) : Type 0 where
-  mapped : (pinned : View) → UnderPartition tag (SeesAndPins tag f ring) v pinned → WorksAt f pinned w → Made last v w → Locates tag f ring last v w
-  missed : Misses tag last v w → Locates tag f ring last v w
+-- In a table of n frames, by a backend whose callers have these pins, and which saw this of the block's hint
+module _ (n : ℕ) (tag : Tag) (held : Tokens) (ring : Bool) (seen : HintSeen) where
+  -- The hint gave no frame for the block, and then the map gave none. All else was done after that, and these were its last calls of devices, the others those of flushes
+  pub record Misses (last : List DeviceCall) (v w : View) : Type 0 where
+    pub sought : View
+    pub hint : SeesHint n tag held ring v sought seen
+    pub searched : View
+    pub search : UnderPartition tag (SeesNone tag) sought searched
+    pub until : OnlyRises searched w
+    pub calls : MadeThen last v w
 
--- how a block was pinned, or wasn't
-abbrev pub PinAnswer : Tag → Bool → View → View → Result Pin VictimError → Type 0
-PinAnswer tag ring v w (Ok pin) = Locates tag pin.frame ring [] v w
-PinAnswer tag ring v w (Err why) = Misses tag [] v w
+  -- At first the hint or the map gave the frame f, which was pinned then, for a ring or not; no work was done at another one, and these were the calls of devices. Or neither gave one, and the frame was pinned for the block later
+  pub data Locates (f : ℕ) (last : List DeviceCall) (v w : View) : Type 0 where
+    looked_up : (pinned : View) → LooksUp n tag held ring v pinned seen (Some f)
+        → WorksAt f pinned w → Made last v w → Locates f last v w
+    missed : Misses last v w → PinsAndStores n tag held f v w → Locates f last v w
 
--- and read: the lane q was read where the answer says so, and no lane else
-abbrev pub ReadCalls : ℕ → Tag → Bool → View → View → Result PinnedBlock BlockError → Type 0
-ReadCalls q tag ring v w (Ok block) = Locates tag block.pin.frame ring (loading_calls q (packed_tag tag) (Ok (loaded_by block.hit))) v w
-ReadCalls q tag ring v w (Err (NoFrame why)) = Misses tag [] v w
-ReadCalls q tag ring v w (Err (ReadFault failed)) = (f : ℕ) × Locates tag f ring (loading_calls q (packed_tag tag) (Err load.ReadFault)) v w
-ReadCalls q tag ring v w (Err (Unsound failed)) = (f : ℕ) × Locates tag f ring (loading_calls q (packed_tag tag) (Err load.Unsound)) v w
+  -- how a block was pinned, or wasn't
+  abbrev pub PinAnswer : View → View → Result Pin VictimError → Type 0
+  PinAnswer v w (Ok pin) = Locates pin.frame [] v w
+  PinAnswer v w (Err why) = Misses [] v w
+
+  -- and read: the lane q was read where the answer says so, and no lane else
+  abbrev pub ReadCalls : ℕ → View → View → Result PinnedBlock BlockError → Type 0
+  ReadCalls q v w (Ok block) = Locates block.pin.frame
+      (loading_calls q (packed_tag tag) (Ok (loaded_by block.hit))) v w
+  ReadCalls q v w (Err (NoFrame why)) = Misses [] v w
+  ReadCalls q v w (Err (ReadFault failed)) = (f : ℕ)
+      × Locates f (loading_calls q (packed_tag tag) (Err load.ReadFault)) v w
+  ReadCalls q v w (Err (Unsound failed)) = (f : ℕ)
+      × Locates f (loading_calls q (packed_tag tag) (Err load.Unsound)) v w
+
+-- What a call that pins a block, and one that reads it, has stored of hints, by the answer: where no frame was freed, nothing
+abbrev pub PinNotes : ℕ → Tag → HintSeen → List HintStore → List HintStore
+    → Result Pin VictimError → Type 0
+PinNotes n tag seen old new (Ok pin) = NotesUnlessHad n tag pin.frame seen old new
+PinNotes n tag seen old new (Err why) = new ≡ old
+
+abbrev pub ReadNotes : ℕ → Tag → HintSeen → List HintStore → List HintStore
+    → Result PinnedBlock BlockError → Type 0
+ReadNotes n tag seen old new (Ok block) = NotesUnlessHad n tag block.pin.frame seen old new
+ReadNotes n tag seen old new (Err (NoFrame why)) = new ≡ old
+ReadNotes n tag seen old new (Err (ReadFault failed)) = (f : ℕ)
+    × NotesUnlessHad n tag f seen old new
+ReadNotes n tag seen old new (Err (Unsound failed)) = (f : ℕ)
+    × NotesUnlessHad n tag f seen old new
 
 -- the faults that were met, by the answer
 abbrev pub met_read_block : Result PinnedBlock BlockError → FailedCalls → FailedCalls

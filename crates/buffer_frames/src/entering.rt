@@ -1,5 +1,5 @@
 //! A block comes into a victim.
-ghost use Rattle.std.specs.Prelude.{◌≡◌, ◌<◌, ℕ, true, IfNone, IfSome};
+ghost use Rattle.std.specs.Prelude.{◌≡◌, ◌+◌, ◌<◌, ℕ, true, IfNone, IfSome, MatchOption};
 ghost use Rattle.std.specs.Bool.{OnFalse, OnTrue};
 ghost use Rattle.block_tag.specs.Names.{names_block, packed_tag, partition_number};
 ghost use Rattle.pin_core.specs.declared.view.MapChange.TheVariants.{Stable};
@@ -10,10 +10,12 @@ ghost use Rattle.map_partitions.specs.Partition.{HoldsLatch};
 ghost use Rattle.cleanup_lock.specs.Waking.{Woken};
 ghost use Rattle.held_pins.specs.Rests.{HasNoLatch, HasOneLatch, LinksRest, SameLocks, Stands};
 ghost use Rattle.held_pins.specs.Tokens.{IsNew};
-ghost use Rattle.buffer_frames.specs.Outside.{outside_of};
+ghost use Rattle.buffer_frames.specs.Hinting.{NotesHint};
+ghost use Rattle.buffer_frames.specs.Outside.{outside_of, searched_of, shown_count};
+ghost use Rattle.buffer_frames.specs.Reads.{PinsAndStores};
 ghost use Rattle.buffer_frames.specs.Stages.{HasVictim, Pins};
 
-use crate::lookup::pin_found;
+use crate::lookup::{pin_found, take_counted};
 use atomic_table::Seat;
 use block_tag::Tag;
 use cleanup_lock::unpin_and_wake;
@@ -21,7 +23,7 @@ use clock_sweep::Sweep;
 use frame_table::{FrameTable, Pin, Value};
 use held_pins::HeldPins;
 use log_device::LogDevice;
-use map_partitions::{enter, find, give_turn, take_turn};
+use map_partitions::{enter, find, give_turn, store_hint};
 use pin_core::View;
 use segment_store::BlockLane;
 use state_word::{Flag, has, pins};
@@ -163,7 +165,7 @@ fn enter_latched<L: BlockLane, G: LogDevice, R: Wait>(
     None
 }
 
-/// Brings a block into a victim, or pins the frame that another backend has brought it into meanwhile (`BufferAlloc`). None where the victim isn't free any more.
+/// Brings a block into a victim, or pins the frame that another backend has brought it into meanwhile (`BufferAlloc`), and stores its hint. None where the victim isn't free any more.
 pub(crate) fn enter_or_pin<L: BlockLane, G: LogDevice, R: Wait>(
     table: &FrameTable<L, G>,
     rt: &R,
@@ -173,6 +175,7 @@ pub(crate) fn enter_or_pin<L: BlockLane, G: LogDevice, R: Wait>(
     victim: Pin,
     tag: Tag,
     ring: bool,
+    turns: &mut u64,
 ) -> Option<Pin>
     requires stands { Stands table.now seat.old }
     requires latches { HasNoLatch seat.old.me.0 }
@@ -181,19 +184,28 @@ pub(crate) fn enter_or_pin<L: BlockLane, G: LogDevice, R: Wait>(
     requires tag { names_block tag ≡ true }
     requires block { has_block (relations_of table.now) tag ≡ true }
     requires new { IsNew tag held.now }
+    requires counted { turns.old ≡ shown_count seat.old.me.0.turns }
     ensures seat { SameSeat seat.old seat.new }
     ensures stands { Stands table.now seat.new }
-    ensures same { outside_of seat.new.me.0 ≡ outside_of seat.old.me.0 }
+    ensures same { searched_of seat.new.me.0 ≡ searched_of seat.old.me.0 }
     ensures grows { Grows seat.old.me.0 seat.new.me.0 }
     ensures locks { SameLocks seat.old.me.0 seat.new.me.0 }
     ensures latches { HasNoLatch seat.new.me.0 }
     ensures inside { IfSome result (λ p. p.frame < frames_of table.now) }
     ensures pinned { IfSome result (λ p. Pins (packed_tag tag) p.frame held.now seat.new.me.0) }
     ensures rests { IfNone result (LinksRest held.now seat.new.me.0) }
+    ensures counted { turns.new ≡ shown_count seat.new.me.0.turns }
+    ensures turns { seat.new.me.0.turns ≡ seat.old.me.0.turns + 1 }
+    ensures hints { MatchOption result (seat.new.me.0.hints ≡ seat.old.me.0.hints)
+        (λ p. NotesHint (frames_of table.now) tag p.frame seat.old.me.0.hints seat.new.me.0.hints) }
+    ensures stored { IfSome result (λ p. PinsAndStores (frames_of table.now) tag held.now p.frame
+        seat.old.me.0 seat.new.me.0) }
 {
     let partition = tag.partition();
-    take_turn(table, rt, seat, partition);
+    take_counted(table, rt, seat, partition, turns);
     let entered = enter_latched(table, rt, seat, held, sweep, victim, tag, ring);
     give_turn(table, seat, partition);
-    entered
+    let pin = entered?;
+    store_hint(table, seat, &tag, pin.frame());
+    Some(pin)
 }

@@ -1,20 +1,21 @@
 //! A victim loses its tag.
-ghost use Rattle.std.specs.Prelude.{◌≡◌, ◌<◌, Some, true};
+ghost use Rattle.std.specs.Prelude.{◌≡◌, ◌+◌, ◌<◌, Some, true};
 ghost use Rattle.block_tag.specs.Names.{names_block, packed_tag, partition_number};
 ghost use Rattle.pin_core.specs.declared.view.MapChange.TheVariants.{Stable};
 ghost use Rattle.pin_core.specs.State.{link};
 ghost use Rattle.frame_table.specs.Seats.{Grows, SameSeat, frames_of};
 ghost use Rattle.map_partitions.specs.Partition.{HoldsLatch};
 ghost use Rattle.held_pins.specs.Rests.{HasNoLatch, HasOneLatch, SameLocks, Stands};
-ghost use Rattle.buffer_frames.specs.Outside.{outside_of};
+ghost use Rattle.buffer_frames.specs.Outside.{outside_of, searched_of, shown_count};
 ghost use Rattle.buffer_frames.specs.Stages.{HasVictim};
 
+use crate::lookup::take_counted;
 use atomic_table::Seat;
 use block_tag::Tag;
 use frame_table::{FrameTable, Value};
 use held_pins::HeldPins;
 use log_device::LogDevice;
-use map_partitions::{give_turn, leave_out, take_turn};
+use map_partitions::{give_turn, leave_out};
 use pin_core::View;
 use segment_store::BlockLane;
 use state_word::{Flag, has, pins};
@@ -63,6 +64,7 @@ pub(crate) fn erase<L: BlockLane, G: LogDevice, R: Wait>(
     held: &HeldPins,
     frame: u32,
     tag: &Tag,
+    turns: &mut u64,
 ) -> bool
     requires stands { Stands table.now seat.old }
     requires latches { HasNoLatch seat.old.me.0 }
@@ -70,16 +72,20 @@ pub(crate) fn erase<L: BlockLane, G: LogDevice, R: Wait>(
     requires inside { frame < frames_of table.now }
     requires tag { names_block tag.now ≡ true }
     requires remembered { (link seat.old.me.0 frame).tag ≡ Some (packed_tag tag.now) }
+    requires counted { turns.old ≡ shown_count seat.old.me.0.turns }
     ensures seat { SameSeat seat.old seat.new }
     ensures stands { Stands table.now seat.new }
-    ensures same { outside_of seat.new.me.0 ≡ outside_of seat.old.me.0 }
+    ensures same { searched_of seat.new.me.0 ≡ searched_of seat.old.me.0 }
     ensures grows { Grows seat.old.me.0 seat.new.me.0 }
     ensures locks { SameLocks seat.old.me.0 seat.new.me.0 }
     ensures latches { HasNoLatch seat.new.me.0 }
     ensures victim { HasVictim frame held.now seat.new.me.0 }
+    ensures counted { turns.new ≡ shown_count seat.new.me.0.turns }
+    ensures turns { seat.new.me.0.turns ≡ seat.old.me.0.turns + 1 }
+    ensures hints { seat.new.me.0.hints ≡ seat.old.me.0.hints }
 {
     let partition = tag.partition();
-    take_turn(table, rt, seat, partition);
+    take_counted(table, rt, seat, partition, turns);
     let erased = erase_latched(table, rt, seat, held, frame, tag);
     give_turn(table, seat, partition);
     erased

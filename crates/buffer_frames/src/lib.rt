@@ -5,6 +5,7 @@ mod choosing;
 mod entering;
 mod erasing;
 mod flushing;
+mod hinting;
 mod loading;
 mod lookup;
 mod page_reads;
@@ -15,6 +16,7 @@ mod victims;
 pub use flushing::{
     FlushedPage, FrameFlushError, VictimPage, flush_frame, flush_pinned, flush_victim,
 };
+pub use hinting::{HintSeen, Sought};
 pub use loading::{LoadError, Loaded, load};
 pub use page_reads::{read_copy, share_to_read};
 pub use puts::put_locked;

@@ -1,25 +1,30 @@
 //! A block is looked up.
-ghost use Rattle.std.specs.Prelude.{◌≡◌, ◌<◌, true, IfSome, IfNone, MatchOption};
+ghost use Rattle.std.specs.Prelude.{◌≡◌, ◌+◌, ◌<◌, true, IfSome, IfNone, MatchOption, option_map};
 ghost use Rattle.block_tag.specs.Names.{names_block, packed_tag, partition_number};
 ghost use Rattle.pin_core.specs.declared.view.MapChange.TheVariants.{Stable};
 ghost use Rattle.pin_core.specs.State.{link};
 ghost use Rattle.pin_core.specs.Kinds as kinds;
 ghost use Rattle.frame_table.specs.Kinds.{pins};
 ghost use Rattle.frame_table.specs.FrameSteps.{Tried};
-ghost use Rattle.frame_table.specs.Seats.{Finds, Grows, Lacks, RemembersNoOther, SameSeat, frames_of};
+ghost use Rattle.table_rule.specs.declared.turn.Turn.TheVariants.{Partition};
+ghost use Rattle.frame_table.specs.declared.pin.Pin.{Pin};
+ghost use Rattle.frame_table.specs.Latches.{DidTurn, IsTurned, SameWork, view_counted};
+ghost use Rattle.frame_table.specs.Seats.{CanTurn, Finds, Grows, Lacks, RemembersNoOther, SameSeat, frames_of};
 ghost use Rattle.map_partitions.specs.Partition.{HoldsLatch};
 ghost use Rattle.held_pins.specs.Rests.{HasNoLatch, HasOneLatch, LinksRest, SameLocks, Stands};
 ghost use Rattle.held_pins.specs.Tokens.{IsNew};
-ghost use Rattle.buffer_frames.specs.Lookups.{SeesAndPins, SeesNone, UnderPartition};
-ghost use Rattle.buffer_frames.specs.Outside.{outside_of};
+ghost use Rattle.buffer_frames.specs.Hinting.{NotesUnlessHad, TakesTurns};
+ghost use Rattle.buffer_frames.specs.Lookups.{LooksUp, SeesAndPins, SeesNone, UnderPartition};
+ghost use Rattle.buffer_frames.specs.Outside.{outside_of, searched_of, shown_count};
 ghost use Rattle.buffer_frames.specs.Stages.{Pins};
 
+use crate::hinting::{HintSeen, try_hint};
 use atomic_table::Seat;
 use block_tag::Tag;
 use frame_table::{FrameTable, Pin, Value};
 use held_pins::HeldPins;
 use log_device::LogDevice;
-use map_partitions::{find, give_turn, take_turn};
+use map_partitions::{find, give_turn, store_hint, take_turn};
 use pin_core::View;
 use segment_store::BlockLane;
 use std::sync::Wait;
@@ -85,7 +90,69 @@ pub(crate) fn pin_mapped<L: BlockLane, G: LogDevice, R: Wait>(
     Some(pin_found(table, rt, seat, held, tag, frame, ring))
 }
 
-/// Looks a block up that callers have no pin of, and pins the frame that has it (`BufferAlloc`).
+/// Takes the latch of a partition, and counts that.
+pub(crate) fn take_counted<L: BlockLane, G: LogDevice, R: Wait>(
+    table: &FrameTable<L, G>,
+    rt: &R,
+    seat: &mut Seat<Value<L, G>, View>,
+    partition: u32,
+    turns: &mut u64,
+)
+    requires seat { CanTurn table.now seat.old (Partition partition) }
+    requires counted { turns.old ≡ shown_count seat.old.me.0.turns }
+    ensures seat { SameSeat seat.old seat.new }
+    ensures work { SameWork (view_counted true (Partition partition) seat.old.me.0) seat.new.me.0 }
+    ensures grows { Grows seat.old.me.0 seat.new.me.0 }
+    ensures turned { IsTurned true (Partition partition) seat.old.me.0 seat.new.me.0 }
+    ensures holds { HoldsLatch Stable seat.new.me.0 partition }
+    ensures counted { turns.new ≡ shown_count seat.new.me.0.turns }
+    ensures did { DidTurn true (Partition partition) seat.old.me.0 seat.new.me.0 }
+{
+    take_turn(table, rt, seat, partition);
+    *turns = turns.saturating_add(1);
+}
+
+/// Searches the map under its partition's latch for a block that callers have no pin of, and pins the frame that it gives.
+fn search<L: BlockLane, G: LogDevice, R: Wait>(
+    table: &FrameTable<L, G>,
+    rt: &R,
+    seat: &mut Seat<Value<L, G>, View>,
+    held: &HeldPins,
+    tag: &Tag,
+    ring: bool,
+    turns: &mut u64,
+) -> Option<Pin>
+    requires stands { Stands table.now seat.old }
+    requires rests { LinksRest held.now seat.old.me.0 }
+    requires latches { HasNoLatch seat.old.me.0 }
+    requires tag { names_block tag.now ≡ true }
+    requires new { IsNew tag.now held.now }
+    requires counted { turns.old ≡ shown_count seat.old.me.0.turns }
+    ensures seat { SameSeat seat.old seat.new }
+    ensures stands { Stands table.now seat.new }
+    ensures same { searched_of seat.new.me.0 ≡ searched_of seat.old.me.0 }
+    ensures grows { Grows seat.old.me.0 seat.new.me.0 }
+    ensures locks { SameLocks seat.old.me.0 seat.new.me.0 }
+    ensures latches { HasNoLatch seat.new.me.0 }
+    ensures inside { IfSome result (λ p. p.frame < frames_of table.now) }
+    ensures pinned { IfSome result (λ p. Pins (packed_tag tag.now) p.frame held.now seat.new.me.0) }
+    ensures rests { IfNone result (LinksRest held.now seat.new.me.0) }
+    ensures counted { turns.new ≡ shown_count seat.new.me.0.turns }
+    ensures turns { seat.new.me.0.turns ≡ seat.old.me.0.turns + 1 }
+    ensures hints { seat.new.me.0.hints ≡ seat.old.me.0.hints }
+    ensures did { MatchOption result
+        (UnderPartition tag.now (SeesNone tag.now) seat.old.me.0 seat.new.me.0)
+        (λ p. UnderPartition tag.now (SeesAndPins tag.now p.frame ring)
+        seat.old.me.0 seat.new.me.0) }
+{
+    let partition = tag.partition();
+    take_counted(table, rt, seat, partition, turns);
+    let pinned = pin_mapped(table, rt, seat, held, tag, ring);
+    give_turn(table, seat, partition);
+    pinned
+}
+
+/// Looks up a block that callers have no pin of, and pins the frame that has it (`BufferAlloc`): by its hint, without a latch, or else by the map. It answers what was seen of the hint, too.
 pub(crate) fn look_up<L: BlockLane, G: LogDevice, R: Wait>(
     table: &FrameTable<L, G>,
     rt: &R,
@@ -93,26 +160,42 @@ pub(crate) fn look_up<L: BlockLane, G: LogDevice, R: Wait>(
     held: &HeldPins,
     tag: &Tag,
     ring: bool,
-) -> Option<Pin>
+    turns: &mut u64,
+) -> (Option<Pin>, HintSeen)
     requires stands { Stands table.now seat.old }
     requires rests { LinksRest held.now seat.old.me.0 }
     requires latches { HasNoLatch seat.old.me.0 }
     requires tag { names_block tag.now ≡ true }
     requires new { IsNew tag.now held.now }
+    requires counted { turns.old ≡ shown_count seat.old.me.0.turns }
     ensures seat { SameSeat seat.old seat.new }
     ensures stands { Stands table.now seat.new }
-    ensures same { outside_of seat.new.me.0 ≡ outside_of seat.old.me.0 }
+    ensures same { searched_of seat.new.me.0 ≡ searched_of seat.old.me.0 }
     ensures grows { Grows seat.old.me.0 seat.new.me.0 }
     ensures locks { SameLocks seat.old.me.0 seat.new.me.0 }
     ensures latches { HasNoLatch seat.new.me.0 }
-    ensures inside { IfSome result (λ p. p.frame < frames_of table.now) }
-    ensures pinned { IfSome result (λ p. Pins (packed_tag tag.now) p.frame held.now seat.new.me.0) }
-    ensures rests { IfNone result (LinksRest held.now seat.new.me.0) }
-    ensures did { MatchOption result (UnderPartition tag.now (SeesNone tag.now) seat.old.me.0 seat.new.me.0) (λ p. UnderPartition tag.now (SeesAndPins tag.now p.frame ring) seat.old.me.0 seat.new.me.0) }
+    ensures inside { IfSome result.0 (λ p. p.frame < frames_of table.now) }
+    ensures pinned { IfSome result.0
+        (λ p. Pins (packed_tag tag.now) p.frame held.now seat.new.me.0) }
+    ensures rests { IfNone result.0 (LinksRest held.now seat.new.me.0) }
+    ensures counted { turns.new ≡ shown_count seat.new.me.0.turns }
+    ensures turns { TakesTurns result.1 seat.old.me.0.turns seat.new.me.0.turns }
+    ensures hints { MatchOption result.0 (seat.new.me.0.hints ≡ seat.old.me.0.hints)
+        (λ p. NotesUnlessHad (frames_of table.now) tag.now p.frame result.1
+        seat.old.me.0.hints seat.new.me.0.hints) }
+    ensures did { LooksUp (frames_of table.now) tag.now held.now ring seat.old.me.0 seat.new.me.0
+        result.1 (option_map Pin.frame result.0) }
 {
-    let partition = tag.partition();
-    take_turn(table, rt, seat, partition);
-    let pinned = pin_mapped(table, rt, seat, held, tag, ring);
-    give_turn(table, seat, partition);
-    pinned
+    let seen = match try_hint(table, rt, seat, held, tag, ring) {
+        Ok(pin) => {
+            let frame = pin.frame();
+            return (Some(pin), HintSeen::Had { frame });
+        }
+        Err(seen) => seen,
+    };
+    let Some(pin) = search(table, rt, seat, held, tag, ring, turns) else {
+        return (None, seen);
+    };
+    store_hint(table, seat, tag, pin.frame());
+    (Some(pin), seen)
 }

@@ -1,12 +1,14 @@
 //! A frame is freed for a block.
-ghost use Rattle.std.specs.Prelude.{◌≡◌, ◌<◌, Some, true, IfSome};
+ghost use Rattle.std.specs.Prelude.{◌≡◌, ◌<◌, ◌≤◌, Some, true, IfOk, IfSome, MatchResult};
 ghost use Rattle.block_tag.specs.Names.{names_block, packed_tag};
 ghost use Rattle.pin_core.specs.State.{link};
 ghost use Rattle.table_rule.specs.Blocks.{has_block};
 ghost use Rattle.frame_table.specs.Seats.{Grows, OnlyRises, SameSeat, frames_of, relations_of};
-ghost use Rattle.held_pins.specs.Rests.{HasNoLatch, LinksRest, Stands, kept_by_calls, SameLocks};
+ghost use Rattle.held_pins.specs.Rests.{HasNoLatch, LinksRest, Stands, SameLocks};
 ghost use Rattle.held_pins.specs.Tokens.{IsNew};
-ghost use Rattle.buffer_frames.specs.Outside.{outside_of, ring_shape};
+ghost use Rattle.buffer_frames.specs.Hinting.{NotesHint};
+ghost use Rattle.buffer_frames.specs.Outside.{kept_by_block_reads, outside_of, ring_shape, shown_count};
+ghost use Rattle.buffer_frames.specs.Reads.{PinsAndStores};
 ghost use Rattle.buffer_frames.specs.Stages.{HasVictim};
 ghost use Rattle.buffer_frames.specs.Victims.{CensusClaimed, CensusFreed, ClaimAnswer, FreedAnswer, met_claimed, met_freed};
 ghost use Rattle.buffer_frames.specs.Working.{Calls, IsFlushCall};
@@ -83,23 +85,28 @@ fn make_victim<L: BlockLane, G: LogDevice, R: Wait>(
     census: &mut Census,
     page: &mut Page,
     ring: &mut Option<Ring>,
+    turns: &mut u64,
 ) -> Freed
     requires stands { Stands table.now seat.old }
     requires rests { LinksRest held.now seat.old.me.0 }
     requires latches { HasNoLatch seat.old.me.0 }
     requires census { census.old.frames ≡ frames_of table.now }
+    requires counted { turns.old ≡ shown_count seat.old.me.0.turns }
     ensures seat { SameSeat seat.old seat.new }
     ensures stands { Stands table.now seat.new }
     ensures latches { HasNoLatch seat.new.me.0 }
     ensures room { census.new.frames ≡ census.old.frames }
     ensures ring { ring_shape ring.new ≡ ring_shape ring.old }
-    ensures kept { kept_by_calls seat.new.me.0 ≡ kept_by_calls seat.old.me.0 }
+    ensures kept { kept_by_block_reads seat.new.me.0 ≡ kept_by_block_reads seat.old.me.0 }
     ensures advances { OnlyRises seat.old.me.0 seat.new.me.0 }
     ensures locks { SameLocks seat.old.me.0 seat.new.me.0 }
     ensures answer { FreedAnswer L.contents table.now held.now census.new.words seat.old.me.0 seat.new.me.0 result }
     ensures census { CensusFreed (frames_of table.now) census.new result }
     ensures met { seat.new.me.0.met ≡ met_freed result seat.old.me.0.met }
     ensures calls { Calls IsFlushCall seat.old.me.0 seat.new.me.0 }
+    ensures counted { turns.new ≡ shown_count seat.new.me.0.turns }
+    ensures turns { seat.old.me.0.turns ≤ seat.new.me.0.turns }
+    ensures hints { seat.new.me.0.hints ≡ seat.old.me.0.hints }
 {
     let Chosen { pin, from_ring } = match choose(table, rt, seat, held, sweep, census, ring) {
         Ok(chosen) => chosen,
@@ -122,7 +129,7 @@ fn make_victim<L: BlockLane, G: LogDevice, R: Wait>(
             return Freed::Refused(VictimError::Flush(why));
         }
     }
-    if erase(table, rt, seat, held, frame, &tag) {
+    if erase(table, rt, seat, held, frame, &tag, turns) {
         return Freed::Ready(pin);
     }
     give_up(table, rt, seat, held, pin);
@@ -140,6 +147,7 @@ pub(crate) fn claim<L: BlockLane, G: LogDevice, R: Wait>(
     page: &mut Page,
     tag: Tag,
     ring: &mut Option<Ring>,
+    turns: &mut u64,
 ) -> Result<Pin, VictimError>
     requires stands { Stands table.now seat.old }
     requires rests { LinksRest held.now seat.old.me.0 }
@@ -148,24 +156,34 @@ pub(crate) fn claim<L: BlockLane, G: LogDevice, R: Wait>(
     requires tag { names_block tag ≡ true }
     requires block { has_block (relations_of table.now) tag ≡ true }
     requires new { IsNew tag held.now }
+    requires counted { turns.old ≡ shown_count seat.old.me.0.turns }
     ensures seat { SameSeat seat.old seat.new }
     ensures stands { Stands table.now seat.new }
     ensures latches { HasNoLatch seat.new.me.0 }
     ensures room { census.new.frames ≡ census.old.frames }
     ensures ring { ring_shape ring.new ≡ ring_shape ring.old }
-    ensures kept { kept_by_calls seat.new.me.0 ≡ kept_by_calls seat.old.me.0 }
+    ensures kept { kept_by_block_reads seat.new.me.0 ≡ kept_by_block_reads seat.old.me.0 }
     ensures advances { OnlyRises seat.old.me.0 seat.new.me.0 }
     ensures locks { SameLocks seat.old.me.0 seat.new.me.0 }
     ensures answer { ClaimAnswer L.contents table.now (packed_tag tag) held.now census.new.words seat.old.me.0 seat.new.me.0 result }
     ensures census { CensusClaimed (frames_of table.now) census.new result }
     ensures met { seat.new.me.0.met ≡ met_claimed result seat.old.me.0.met }
     ensures calls { Calls IsFlushCall seat.old.me.0 seat.new.me.0 }
+    ensures counted { turns.new ≡ shown_count seat.new.me.0.turns }
+    ensures turns { seat.old.me.0.turns ≤ seat.new.me.0.turns }
+    ensures hints { MatchResult result
+        (λ p. NotesHint (frames_of table.now) tag p.frame seat.old.me.0.hints seat.new.me.0.hints)
+        (λ _. seat.new.me.0.hints ≡ seat.old.me.0.hints) }
+    ensures stored { IfOk result (λ p. PinsAndStores (frames_of table.now) tag held.now p.frame
+        seat.old.me.0 seat.new.me.0) }
 {
     let ringed = ring.is_some();
     for _ in rt.forever() {
-        match make_victim(table, rt, seat, held, sweep, census, page, ring) {
+        match make_victim(table, rt, seat, held, sweep, census, page, ring, turns) {
             Freed::Ready(victim) => {
-                if let Some(pin) = enter_or_pin(table, rt, seat, held, sweep, victim, tag, ringed) {
+                if let Some(pin) = enter_or_pin(
+                    table, rt, seat, held, sweep, victim, tag, ringed, turns,
+                ) {
                     return Ok(pin);
                 }
             }

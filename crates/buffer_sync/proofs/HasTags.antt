@@ -9,7 +9,7 @@ use Rattle.pin_core.specs.declared.view.Role.TheVariants.{Absent, HandedOut, Vic
 use Rattle.pin_core.specs.declared.view.View.{View}
 use Rattle.pin_core.specs.Invariant.{FrameLaw, PinInvariant}
 use Rattle.pin_core.specs.State.{Frame, State, link, no_tag}
-use Rattle.pin_core.specs.Tallies.{Tally, flag_weight, frame_shape, pendings, pin_weight, pins, settled_headers, settled_pins, some_weight, unless_flag, weigh}
+use Rattle.pin_core.specs.Tallies.{Tally, flag_weight, frame_shape, pendings, pin_weight, settled_headers, settled_pins, some_weight, unless_flag, weigh}
 use Rattle.pin_core.specs.Kinds.{CanLoadTag, load_tag}
 use Rattle.frame_table.specs.FrameSteps.{Did}
 use Rattle.frame_table.specs.Kinds as frame

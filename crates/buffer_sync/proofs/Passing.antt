@@ -21,7 +21,6 @@ use Rattle.table_rule.specs.Blocks.{has_block}
 use Rattle.frame_table.specs.declared.table.FrameTable.{FrameTable}
 use Rattle.frame_table.specs.Content.{left_to_write_link}
 use Rattle.frame_table.specs.FrameSteps.{Did, looking}
-use Rattle.frame_table.specs.Kinds.{pins}
 use Rattle.frame_table.specs.Seats.{IsWordOf, Looked, OnlyRises, SameMarks, SameSelf, Touches, HasFlag, HasRoom, HoldsHeader, HoldsNumber, HoldsWord, MayUnpin, unpinned_link, lanes_in, locked_link, read_link, relations_of, unlocked_link, victim_link}
 use Rattle.frame_table.proofs.Rising.{rises_none, rises_on, rises_touched}
 use Rattle.frame_table.proofs.Told.{looked_on}

@@ -6,7 +6,7 @@ use Rattle.frame_table.specs.Seats.{Grows, Looked, locked_link}
 
 -- What a choice leaves of a view: all but its links, and what it lists and counts of steps, loads, changed words and moves of the hand
 abbrev pub aside_of : View → View
-aside_of v = record v { links = []; steps = 0; ticks = 0; loads = []; changes = [] }
+aside_of v = record v { links = []; steps = 0; ticks = 0; loads = []; changes = []; residents = [] }
 
 -- the view has all that it had apart from frames: no partition is another, and no mark
 abbrev pub SameAside : View → View → Type 0

@@ -7,7 +7,7 @@ ghost use Rattle.clock_sweep.specs.FreeFrames.{frames_below, stack_with};
 use access_rings::Memory;
 use std::alloc::Global;
 
-/// Frames of a pool, none of them twice. The first of the list stands on top, at the end, so that a frame is taken and added there, as in PostgreSQL. It is a hint alone: a frame that stands here may be in use.
+/// Frames of a pool, none of them twice. The first of the list stands on top, at the end, so that a frame is taken and added there, as in PostgreSQL. It may be out of date: a frame that stands here may be in use.
 #[derive(Drop)]
 pub(crate) struct FreeList {
     stack: Vec<u32>,

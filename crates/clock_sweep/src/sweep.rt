@@ -20,7 +20,7 @@ impl Sweep {
         })
     }
 
-    /// Adds a frame of the pool that isn't on the list, as the first (`StrategyFreeBuffer`). What the list has is a hint alone, and no contract says what it has at a later time.
+    /// Adds a frame of the pool that isn't on the list, as the first (`StrategyFreeBuffer`). No contract says what the list has at a later time.
     pub fn free<R: Wait>(&self, rt: &R, frame: u32) {
         self.list.lock(rt).add(frame);
     }

@@ -274,8 +274,8 @@ pub out_named : (entries : List MapEntry) (p : ℕ) (v w : View) → DidMap (par
 out_named entries p v w d unchanged = has_named d.state d.seat p v d.laws d.there d.inside d.allowed.held unchanged entries d.allowed.entries_are
 
 -- What a step at a partition makes of the view
-pub map_work : (k : parts.TurnKind) (p : ℕ) (v w : View) → DidMap k p v w → SameWork v w
-map_work k p v w d = ap work_of d.after
+pub map_work : (k : parts.TurnKind) (p : ℕ) (v w : View) → parts.turns_after k v.turns ≡ v.turns → DidMap k p v w → SameWork v w
+map_work k p v w same d = ap work_of d.after ∙ (λ i. record (work_of v) { turns = same i })
 
 pub map_stepped : (k : parts.TurnKind) (p : ℕ) (v w : View) → DidMap k p v w → MapStep p (parts.hold_after k (hold v p)) v w
 map_stepped k p v w d = subst (MapStep p (parts.hold_after k (hold v p)) v) (sym d.after) record {
@@ -292,9 +292,9 @@ steps_on : (p : ℕ) (h h' : PartitionHold) (v u w : View) → MapStep p h v u �
 steps_on p h h' v u w a b = record { here = b.here; others = λ q n. b.others q n ∙ a.others q n; lanes = b.lanes ∙ a.lanes; log = b.log ∙ a.log }
 
 pub back_work : (entries : List MapEntry) (p : ℕ) (v w : View) (c : MapChange) → ComesBack entries p v w c → SameWork v w
-back_work entries p v w Stable (as_it_was d) = map_work (parts.map_back entries) p v w d
-back_work entries p v w (Entering tag f) (entered u d e) = work_on v u w (map_work parts.change_map p v u d) (map_work (parts.map_back entries) p u w e)
-back_work entries p v w (Leaving tag f) (left_out u d e) = work_on v u w (map_work parts.change_map p v u d) (map_work (parts.map_back entries) p u w e)
+back_work entries p v w Stable (as_it_was d) = map_work (parts.map_back entries) p v w refl d
+back_work entries p v w (Entering tag f) (entered u d e) = work_on v u w (map_work parts.change_map p v u refl d) (map_work (parts.map_back entries) p u w refl e)
+back_work entries p v w (Leaving tag f) (left_out u d e) = work_on v u w (map_work parts.change_map p v u refl d) (map_work (parts.map_back entries) p u w refl e)
 
 after_change : (entries : List MapEntry) (p : ℕ) (v u w : View) → is_named (hold v p).change ≡ true → DidMap parts.change_map p v u → DidMap (parts.map_back entries) p u w → MapStep p (back_hold entries (hold v p)) v w
 after_change entries p v u w named d e = let a = map_stepped parts.change_map p v u d in let b = map_stepped (parts.map_back entries) p u w e in

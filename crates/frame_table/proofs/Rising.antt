@@ -1,5 +1,5 @@
 -- What only rises in a view.
-use Rattle.std.proofs.Common.{◌≡◌, ℕ, ◌+◌, ◌≤◌, Bool, true, false, List, [], ◌++◌, append-nil, get_or, sym, ap, ◌∙◌, subst, arith}
+use Rattle.std.proofs.Common.{◌≡◌, ℕ, ◌+◌, ◌≤◌, Bool, true, false, List, [], ◌++◌, append-nil, get_or, refl, sym, ap, ◌∙◌, subst, arith}
 use mathlib.Core.Logic.{dite}
 use native.Mathlib.Decide.{ℕ_discrete}
 use Rattle.pin_core.specs.declared.view.LaneHold.{LaneHold}
@@ -19,7 +19,7 @@ use Rattle.table_rule.specs.declared.turn.Turn.{Turn}
 use Rattle.table_rule.specs.declared.turn.Turn.TheVariants.{Partition, Lane, Log}
 use Rattle.history_core.specs.State.{State}
 use Rattle.frame_table.specs.Seats.{Grows, OnlyRises, SameSelf, Stores, Touches}
-use Rattle.frame_table.specs.Latches.{ComesBack, DidMap, DidTurn, IsTurned, SameWork, as_it_was, entered, left_out, view_latched}
+use Rattle.frame_table.specs.Latches.{ComesBack, DidMap, DidTurn, IsTurned, SameWork, as_it_was, entered, left_out, view_counted, view_latched}
 use Rattle.frame_table.specs.LaneWork.{LaneStep, back_lane, back_view, out_lane, out_view, swept_lane}
 use Rattle.frame_table.proofs.Told.{grows_none, grows_on}
 
@@ -97,13 +97,20 @@ swept_latched takes (Lane r) v w t q = dite (ℕ_discrete q r)
     (λ n. ap (λ (h : LaneHold). h.swept) (t.1 q n))
 swept_latched takes Log v w t q = ap (λ (l : List LaneHold). (get_or l q no_lane).swept) t.2
 
-pub rises_turned : (takes : Bool) (x : Turn) (v w : View) → SameWork v w → IsTurned takes x v w → DidTurn takes x v w → OnlyRises v w
+-- a view with one more latch counted has all else that it had
+pub counted_same : {A : Type 0} (g : View → A) → ((v : View) (n : ℕ) → g (record v { turns = n }) ≡ g v) → (takes : Bool) (x : Turn) (v : View) → g (view_counted takes x v) ≡ g v
+counted_same g same true (Partition p) v = same v (v.turns + 1)
+counted_same g same true (Lane q) v = refl
+counted_same g same true Log v = refl
+counted_same g same false x v = refl
+
+pub rises_turned : (takes : Bool) (x : Turn) (v w : View) → SameWork (view_counted takes x v) w → IsTurned takes x v w → DidTurn takes x v w → OnlyRises v w
 rises_turned takes x v w e t d = record {
-  grows = grows_worked v w e (subst (λ (u : View). v.steps ≤ u.steps) (sym d.after) (steps_latched takes x d.state v));
+  grows = grows_steps v w (ap (λ (u : View). u.loads) e ∙ counted_same (λ (u : View). u.loads) (λ u n. refl) takes x v) (ap (λ (u : View). u.changes) e ∙ counted_same (λ (u : View). u.changes) (λ u n. refl) takes x v) (subst (λ (u : View). v.steps ≤ u.steps) (sym d.after) (steps_latched takes x d.state v));
   swept = λ q. let same = swept_latched takes x v w t q in omega arith;
-  end_seen = let a = ap (λ (u : View). u.end_seen) e in omega arith;
-  flushed = let a = ap (λ (u : View). u.flushed) e in omega arith;
-  down = λ d. ap (λ (u : View). u.saw_down) e ∙ d;
+  end_seen = let a = ap (λ (u : View). u.end_seen) e ∙ counted_same (λ (u : View). u.end_seen) (λ u n. refl) takes x v in omega arith;
+  flushed = let a = ap (λ (u : View). u.flushed) e ∙ counted_same (λ (u : View). u.flushed) (λ u n. refl) takes x v in omega arith;
+  down = λ d. ap (λ (u : View). u.saw_down) e ∙ counted_same (λ (u : View). u.saw_down) (λ u n. refl) takes x v ∙ d;
 }
 
 -- a map

@@ -10,16 +10,17 @@ use Rattle.pin_core.specs.declared.view.View.{View}
 use Rattle.pin_core.specs.Kinds as pin
 use Rattle.page_core.specs.Kinds as paged
 use Rattle.history_core.specs.State.{State, next_hand}
-use Rattle.history_core.specs.Words.{end_word, flushed_word, hand_word}
+use Rattle.history_core.specs.Words.{end_word, flushed_word, hand_word, hint_word}
 use Rattle.history_core.specs.Trail.{Follows}
 use Rattle.history_core.proofs.Trail.{Ticks, listed_made, next_tick, next_word}
 use Rattle.table_rule.specs.declared.opening.Opening.{Opening}
-use Rattle.table_rule.specs.Layout.{end_place, flushed_place, hand_place}
+use Rattle.table_rule.specs.Layout.{end_place, flushed_place, hand_place, hint_place}
 use Rattle.table_rule.specs.Shows.{Devices}
-use Rattle.frame_table.specs.WordSteps.{DidWord, add_hand, raise_flushed}
+use Rattle.frame_table.specs.WordSteps.{DidWord, add_hand, raise_flushed, store_hint}
 use Rattle.frame_table.specs.Kinds.{FrameWord, state_word, FrameKind, pins, pages, part_of, frame_after, view_after}
-use Rattle.frame_table.specs.Stores.{Makes, MustStore, HandMustMove, FlushedMustRise}
+use Rattle.frame_table.specs.Stores.{Makes, MustStore, HandMustMove, FlushedMustRise, HintMustBeStored}
 use Rattle.frame_table.specs.FrameSteps.{part_place, SaysOf, Did}
+use Rattle.grid.proofs.Lists.{put_at}
 
 -- each kind at the state word but a load lists the change
 lists_change : (k : FrameKind) → part_of k ≡ state_word → k ≢ pins pin.load_state → (s : State) (f : ℕ) (v : View) → (view_after k s f v).changes ≡ v.changes ++ record { frame = f; found = (s.pool.core.frame f).word; left = (frame_after k s f).word } ∷ []
@@ -124,9 +125,25 @@ module _ {L G : Type 0} (d : Devices L G) (o : Opening L G) where
       let raised : w.raised_to ≡ max me.0.raised_to s.end = ap (λ (v : View). v.raised_to) did.after ∙ ap (λ (e : Option ℕ). max me.0.raised_to (unwrap_or e 0)) did.allowed.1
       ∙ ap (max me.0.raised_to) (((h.laws.invariant.device.cells id me.0 0 here (lit< tt)).end did.state.end did.allowed.1).1) in
       let more : me.0.raised_to ≤ w.raised_to = omega arith in
-      let made = (listed_made s h'.state h.laws.trail h'.laws.trail id me.0 w here (sym h'.shows.views ∙ ap (λ (l : List View). set l id w) h.shows.views)).raised more in
+      let made = (listed_made s h'.state h.laws h'.laws id me.0 w here (sym h'.shows.views ∙ ap (λ (l : List View). set l id w) h.shows.views)).raised more in
       let shown : g n ≡ h'.state.flushed = sym (get_or-set_same t.words at (g n) 0 (let e = h.shows.words in omega arith)) ∙ h'.shows.latches.word flushed_word tt in
       let highest = h.laws.trail.flushed.above id me.0 here in
       let is_flushed : n ≡ s.flushed = h.shows.latches.word flushed_word tt in
       let is_end : get_or t.words (end_place o.config.frames) 0 ≡ s.end = h.shows.latches.word end_word tt in
       omega arith
+
+  -- and what an operation on a hint word stores, if it keeps the rule and tells that the word got a value
+  pub hint_stored : HintMustBeStored d o
+  hint_stored number value slots id a b g me t below h0 allows =
+      let at : ℕ = hint_place o.config.frames number in
+      let n : ℕ = get_or t.words at 0 in
+      let h = h0.held in
+      let s = h.state in
+      let r = allows t h h0.wide h0.there h0.small in
+      let w : View = r.0 in
+      let h' = r.3 in
+      let did : DidWord (store_hint number value) me.0 w n = r.4.1 in
+      let here : get_elem? s.pool.core.views id ≡ some me.0 = ap (λ (l : List View). get_elem? l id) (sym h.shows.views) ∙ h0.there in
+      let made = (listed_made s h'.state h.laws h'.laws id me.0 w here (sym h'.shows.views ∙ ap (λ (l : List View). set l id w) h.shows.views)).stored
+      (record { number = number; found = n; left = value }) (ap (λ (v : View). v.hints) did.after) (h.shows.latches.word (hint_word number) below) number in
+      sym (get_or-set_same t.words at (g n) 0 (let e = h.shows.words in omega arith)) ∙ h'.shows.latches.word (hint_word number) below ∙ made ∙ put_at s.hint number value number refl

@@ -1,6 +1,6 @@
 -- Loads of tag words: the tag is of a block of the relations, and a pin remembers it.
 use Rattle.std.proofs.Common.{◌≡◌, ◌≢◌, ℕ, ◌<◌, cond, Bool, true, false, Option, Some, None, List, get_or, sym, refl, ap, ◌∙◌, subst, arith, ne_eqb}
-use Rattle.std.specs.Prelude.{IfSome}
+use Rattle.std.specs.Prelude.{IfSome, is_some}
 use Rattle.std.proofs.lemmas.Option.{same_Some}
 use mathlib.Core.Option.{none}
 use Rattle.atomic_table.specs.Table.{Me, step, Allows}
@@ -23,7 +23,7 @@ use Rattle.table_rule.specs.Layout.{partition_of_tag, tag_partition, tag_place}
 use Rattle.table_rule.specs.Shows.{Devices, RuleHolds}
 use Rattle.table_rule.proofs.Tags.{packed_is, unpacked_is}
 use Rattle.frame_table.specs.Kinds.{pins}
-use Rattle.frame_table.specs.Seats.{MayChange, NamesIn, NamesStored}
+use Rattle.frame_table.specs.Seats.{MayChange, NamesIn, NamesStored, tag_word}
 use Rattle.frame_table.specs.FrameSteps.{Did, always, tells, tells_tag}
 use Rattle.frame_table.proofs.Allowing.{allows_with}
 use Rattle.frame_table.proofs.Holding.{read_after, tag_loads, tag_read}
@@ -73,6 +73,11 @@ tag_settled f found v w (Some tag) d e back = λ pinned settled. ap (λ (l : Lin
 pub tag_handed : (f found : ℕ) (v w : View) (r : Option Tag) → Did (pins pin.load_tag) f v w found → IfSome r (λ tag. (link v f).role ≢ Absent → (link v f).pending ≡ false → (link w f).tag ≡ Some (packed_tag tag)) → IfSome r (λ tag. (link v f).role ≡ HandedOut → (link w f).tag ≡ Some (packed_tag tag))
 tag_handed f found v w None d known = tt
 tag_handed f found v w (Some tag) d known = λ handed. known (λ e. let no : HandedOut ≡ Absent = sym handed ∙ e in absurd (cc)) (handed_settled (pins pin.load_tag) f found v w d handed)
+
+-- the frame of a handed-out pin has a tag
+pub tag_had : (f : ℕ) (v w : View) (r : Option Tag) → Did (pins pin.load_tag) f v w (tag_word r) → (link v f).role ≡ HandedOut → is_some r ≡ true
+tag_had f v w None d handed = absurd (((d.laws.invariant.pool.core.grid.cells d.seat v f d.there d.inside).handed_out handed).named d.says)
+tag_had f v w (Some tag) d handed = refl
 
 -- a tag that names a block lies in the partition of its number
 pub packed_partition : (tag : Tag) → names_block tag ≡ true → tag_partition (packed_tag tag) ≡ partition_number tag

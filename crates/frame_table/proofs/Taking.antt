@@ -41,7 +41,7 @@ use Rattle.table_rule.proofs.Places.{latch_low, latch_apart}
 use Rattle.history_core.specs.Words.{word_in, words_of}
 use Rattle.history_core.specs.Laws.{Laws}
 use Rattle.table_rule.specs.Shows.{ShowsFrame, ShowsLatches, is_taken, HasTurn, is_out, IsHome, Devices, KeepsOpening, Shows, RuleHolds}
-use Rattle.frame_table.specs.Latches.{MayLeave, LatchAllowed, HasLatch, part_kind, lane_kind, log_kind, view_latched, state_latched, turn_event, DidTurn, SameWork, work_of, IsTurned, took, left}
+use Rattle.frame_table.specs.Latches.{MayLeave, LatchAllowed, HasLatch, part_kind, lane_kind, log_kind, view_latched, state_latched, turn_event, DidTurn, SameWork, work_of, view_counted, IsTurned, took, left}
 use Rattle.history_core.proofs.Laws.{laws_kept}
 use Rattle.frame_table.proofs.Frames.{frame_else, put_keeps, same_at, home_before, SameLane, SameDevice, lane_none, device_none, SameValues, gives_same}
 
@@ -280,14 +280,15 @@ log_work : (v : View) → work_of (record v { device_calls = v.device_calls ++ [
 log_work v i = record (work_of v) { device_calls = append-nil v.device_calls i; met = no_met v i; saw_down = or-false v.saw_down i }
 
 -- what a step at a latch makes of the view
-work_after : (takes : Bool) (x : Turn) (s : State) (v : View) → SameWork v (view_latched takes x s v)
-work_after takes (Partition p) s v = refl
+work_after : (takes : Bool) (x : Turn) (s : State) (v : View) → SameWork (view_counted takes x v) (view_latched takes x s v)
+work_after true (Partition p) s v = refl
+work_after false (Partition p) s v = refl
 work_after true (Lane q) s v = lane_work v
 work_after false (Lane q) s v = lane_work v
 work_after true Log s v = log_work v
 work_after false Log s v = log_work v
 
-pub turn_work : (takes : Bool) (x : Turn) (v w : View) → DidTurn takes x v w → SameWork v w
+pub turn_work : (takes : Bool) (x : Turn) (v w : View) → DidTurn takes x v w → SameWork (view_counted takes x v) w
 turn_work takes x v w d = ap work_of d.after ∙ work_after takes x d.state v
 
 turned_so : (takes : Bool) (x : Turn) (s : State) (v : View) → HasLatch x s → length v.partitions ≡ s.pool.core.partitions → length v.lanes ≡ s.lanes → IsTurned takes x v (view_latched takes x s v)

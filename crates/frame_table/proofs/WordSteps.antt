@@ -18,7 +18,7 @@ use Rattle.history_core.specs.Laws.{Laws}
 use Rattle.history_core.specs.State.{State, next_hand}
 use Rattle.history_core.specs.Words as core
 use Rattle.history_core.specs.Words.{Word, end_word, is_word, word_of, word_at, WordAllowed, number_after}
-use Rattle.history_core.specs.Steps.{Step, unmarked, looked, word, words, reads, worded, view_worded, state_set}
+use Rattle.history_core.specs.Steps.{Step, unmarked, looked, word, words, reads, after_word, view_after_word, state_set}
 use Rattle.history_core.proofs.Laws.{laws_kept}
 use Rattle.history_core.proofs.Beginning.{link_begun}
 use Rattle.history_core.proofs.Words.{is_set, end_stays, link_left}
@@ -29,17 +29,19 @@ use Rattle.table_rule.specs.declared.turn.Place.TheVariants as place
 use Rattle.table_rule.specs.declared.turn.Turn.{Turn}
 use Rattle.table_rule.specs.declared.turn.Turn.TheVariants as turn
 use Rattle.table_rule.specs.Shows.{is_taken, ShowsLatches, Devices, Shows, RuleHolds, is_out}
-use Rattle.frame_table.specs.WordSteps.{WordKind, at_word, load_end, read_end, begin_checkpoint, load_flushed, raise_flushed, load_hand, add_hand, kind_word, number_left, word_event, IsWordAllowed, end_known, read_of, view_of, next_of, DidWord, tells_word}
+use Rattle.frame_table.specs.WordSteps.{WordKind, at_word, load_end, read_end, begin_checkpoint, load_flushed, raise_flushed, load_hand, add_hand, load_hint, store_hint, kind_word, number_left, word_event, IsWordAllowed, end_known, read_of, view_of, next_of, DidWord, tells_word, tells_hint}
 use Rattle.frame_table.specs.declared.log_words.EndLoad.{EndLoad}
 use Rattle.frame_table.specs.declared.log_words.EndLoad.TheVariants.{Plain, Read, Checkpoint}
 use Rattle.frame_table.specs.EndLoads.{IsEndAllowed, end_kind}
-use Rattle.table_rule.specs.Layout.{latch_place, word_place, word_count, HasWord, end_place, flushed_place, hand_place}
+use Rattle.table_rule.specs.Layout.{latch_place, word_place, word_count, HasWord, end_place, flushed_place, hand_place, hint_place}
+use Rattle.history_core.specs.Words.{hint_count}
 use Rattle.table_rule.proofs.Places.{word_behind, latch_apart, said}
+use Rattle.frame_table.proofs.Allowing.{allows_with}
 use Rattle.frame_table.proofs.Frames.{frame_else, lane_none, device_none, same_out, home_before, gives_same}
 
 -- what a kind at a word asks, it asks in the protocol, where the log ends as the view has loaded it
-core_kind : (k : core.WordKind) (s : State) (v : View) → IsWordAllowed (at_word k) s v → WordAllowed k s v × (worded k s v ≡ view_of (at_word k) (word_of (word_at k) s) v)
-core_kind core.raise_flushed s v a = (a.0, ap (λ (end : ℕ). view_worded core.raise_flushed s.flushed end v) (sym (ap (λ (o : Option ℕ). unwrap_or o 0) a.1)))
+core_kind : (k : core.WordKind) (s : State) (v : View) → IsWordAllowed (at_word k) s v → WordAllowed k s v × (after_word k s v ≡ view_of (at_word k) (word_of (word_at k) s) v)
+core_kind core.raise_flushed s v a = (a.0, ap (λ (end : ℕ). view_after_word core.raise_flushed s.flushed end v) (sym (ap (λ (o : Option ℕ). unwrap_or o 0) a.1)))
 core_kind _ s v a = (a, refl)
 
 -- each kind is a step of the protocol
@@ -149,6 +151,17 @@ module _ {L G : Type 0} (d : Devices L G) (o : Opening L G) (slots id : ℕ) (me
 
   pub adds_hand_there : Allows (RuleHolds d o) slots id me (hand_place o.config.frames) (λ n. (n + 1) % 2 ^ 64) (tells_word add_hand (step slots (hand_place o.config.frames) 1 0 none) me)
   adds_hand_there = acts_behind d o add_hand tt slots id 1 0 (λ n. (n + 1) % 2 ^ 64) me live (λ s l f there small. (tt, hand_moves s.hand small))
+
+  -- a hint word is loaded: it names no frame, or one that is there
+  pub loads_hint_there : (number : ℕ) → number < hint_count o.config.frames → Allows (RuleHolds d o) slots id me (hint_place o.config.frames number) (λ n. n) (tells_hint o.config.frames number (step slots (hint_place o.config.frames number) 0 0 none) me)
+  loads_hint_there number below = let at : ℕ = hint_place o.config.frames number in allows_with (RuleHolds d o) slots id me at (λ n. n) (tells_word (load_hint number) (step slots at 0 0 none) me) (λ found. found ≤ o.config.frames)
+      (acts_behind d o (load_hint number) below slots id 0 0 (λ n. n) me live (λ s l f there small. (subst (λ (n : ℕ). number < hint_count n) (sym f) below, refl)))
+      (λ t h there. let says : get_or t.words at 0 ≡ h.state.hint number = h.shows.latches.word (kind_word (load_hint number)) below in
+      let named = h.laws.hints.named number in let frames = h.shows.fixed.frames in omega arith)
+
+  -- and it gets a value
+  pub stores_hint_there : (number value : ℕ) → number < hint_count o.config.frames → value ≤ o.config.frames → Allows (RuleHolds d o) slots id me (hint_place o.config.frames number) (λ _. value) (tells_word (store_hint number value) (step slots (hint_place o.config.frames number) value 0 none) me)
+  stores_hint_there number value below few = acts_behind d o (store_hint number value) below slots id value 0 (λ _. value) me live (λ s l f there small. ((subst (λ (n : ℕ). number < hint_count n) (sym f) below, (omega arith)), refl))
 
 -- the flushed position is never below what a view has loaded of it
 pub flushed_below : (v w : View) (found : ℕ) → DidWord load_flushed v w found → v.flushed ≤ found

@@ -100,11 +100,12 @@ Tried k f v w false = Looks f v w
 abbrev pub Unpinned : ℕ → ℕ → View → View → Type 0
 Unpinned f word v w = (u : View) × (was : ℕ) × Looks f v u × Did (pins pin.unpin) f u w was × (fields word ≡ unpinned_fields (fields was))
 
--- why a frame is not pinned
+-- why a frame is not pinned: its header was locked; or it had no tag; or neither was so, and then the word changed before the pin
 abbrev pub Refuses : ℕ → View → View → TryPin → Type 0
 Refuses f v w (Locked was) = Did looking f v w was × (has_locked was ≡ true)
 Refuses f v w (Untagged was) = Did looking f v w was × (has_locked was ≡ false) × (has_tag was ≡ false)
-Refuses f v w (Changed was now) = (was ≢ now) × ((u : View) × Did looking f v u was × Did looking f u w now)
+Refuses f v w (Changed was now) = (has_locked was ≡ false) × (has_tag was ≡ true) × (was ≢ now)
+    × ((u : View) × Did looking f v u was × Did looking f u w now)
 
 -- the first backend's view after it gave a new backend its number, and the new backend's, where the log begins at `base`
 abbrev pub kept_view : View → View

@@ -1,5 +1,5 @@
 -- The steps at latches: where they are allowed, and what they make of the state.
-use Rattle.std.specs.Prelude.{◌≡◌, ◌≢◌, ℕ, ◌<◌, ◌≤◌, Vec, vec_len, vec_capacity, Bool, true, false, List, [], ◌∷◌, map, Some, None}
+use Rattle.std.specs.Prelude.{◌≡◌, ◌≢◌, ℕ, ◌+◌, ◌<◌, ◌≤◌, Vec, vec_len, vec_capacity, Bool, true, false, List, [], ◌∷◌, map, Some, None}
 use Rattle.std.specs.Global.{Global}
 use mathlib.Core.Option.{some}
 use lib.ListN.{get_elem?}
@@ -94,6 +94,13 @@ work_of v = record v { partitions = []; lanes = []; log = no_log; steps = 0 }
 
 abbrev pub SameWork : View → View → Type 0
 SameWork v w = work_of w ≡ work_of v
+
+-- a view with one more latch of a partition counted, where it takes one
+abbrev pub view_counted : Bool → Turn → View → View
+view_counted true (Partition p) v = record v { turns = v.turns + 1 }
+view_counted true (Lane q) v = v
+view_counted true Log v = v
+view_counted false x v = v
 
 module _ {L G : Type 0} where
   -- where the latch was free it was taken, and else nothing happened

@@ -29,7 +29,7 @@ use Rattle.table_rule.specs.Shows.{HasTurn}
 
 -- What a step at a frame leaves of a view: all but its links and partitions, its marks, and what it lists and counts of steps, loads and changed words
 abbrev pub self_of : View → View
-self_of v = record v { links = []; partitions = []; steps = 0; loads = []; changes = []; dirtied_or_synced = false; had_output = false; last_ended = None; unentered = [] }
+self_of v = record v { links = []; partitions = []; steps = 0; loads = []; changes = []; dirtied_or_synced = false; had_output = false; last_ended = None; unentered = []; residents = [] }
 
 abbrev pub SameSelf : View → View → Type 0
 SameSelf v w = self_of w ≡ self_of v
@@ -56,7 +56,7 @@ MarksBegun input v w = view_marks w ≡ record (view_marks v) { had_output = v.h
 abbrev pub MarksEnded : StateWord → View → View → Type 0
 MarksEnded stored v w = view_marks w ≡ record (view_marks v) { last_ended = Some stored }
 
--- What a view lists is only added to, and what it counts doesn't fall
+-- The loads and the changes of state words that a view lists are only added to, and its count of steps doesn't fall
 pub record Grows (v w : View) : Type 0 where
   pub loads : (ls : List Load) × (w.loads ≡ v.loads ++ ls)
   pub changes : (cs : List WordChange) × (w.changes ≡ v.changes ++ cs)

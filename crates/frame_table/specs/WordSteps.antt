@@ -1,5 +1,5 @@
--- Steps at the words after those of the frames: the log's end, the flushed position, and the clock's hand.
-use Rattle.std.specs.Prelude.{◌≡◌, ◌≢◌, ℕ, ◌<◌, false, true, Option, Some, None, unwrap_or}
+-- Steps at the words after those of the frames: the log's end, the flushed position, the clock's hand, and the hint words.
+use Rattle.std.specs.Prelude.{◌≡◌, ◌≢◌, ℕ, ◌<◌, ◌≤◌, false, true, Option, Some, None, unwrap_or}
 use mathlib.Core.Option.{some}
 use lib.ListN.{get_elem?}
 use Rattle.atomic_table.specs.Table.{Me, Step}
@@ -12,7 +12,7 @@ use Rattle.history_core.specs.State.{State}
 use Rattle.history_core.specs.Words as core
 use Rattle.history_core.specs.Words.{Word, end_word, word_of, word_at, WordAllowed, number_after}
 use Rattle.history_core.specs.Laws.{Laws}
-use Rattle.history_core.specs.Steps.{Event, word, read, looked, has_read, view_worded, state_set}
+use Rattle.history_core.specs.Steps.{Event, word, read, looked, has_read, view_after_word, state_set}
 use Rattle.table_rule.specs.declared.value.Value.{Value}
 
 pub data WordKind : Type 0 where
@@ -41,6 +41,13 @@ load_hand = at_word core.load_hand
 
 abbrev pub add_hand : WordKind
 add_hand = at_word core.add_hand
+
+-- the hint word of this number is loaded, and gets a value
+abbrev pub load_hint : ℕ → WordKind
+load_hint number = at_word (core.load_hint number)
+
+abbrev pub store_hint : ℕ → ℕ → WordKind
+store_hint number value = at_word (core.store_hint number value)
 
 -- the word that a kind is at
 abbrev pub kind_word : WordKind → Word
@@ -81,7 +88,7 @@ end_known v = unwrap_or v.log.end 0
 
 -- What a kind makes of the view, where the number found is `found`
 abbrev pub view_of : WordKind → ℕ → View → View
-view_of (at_word k) found v = view_worded k found (end_known v) v
+view_of (at_word k) found v = view_after_word k found (end_known v) v
 view_of (read_end f) found v = looked (seen.LogEnd found) (read_of (link v f).tag (link v f).copied found v)
 
 -- the state after it, by backend i, whose view is v
@@ -105,3 +112,7 @@ module _ {L G : Type 0} where
   -- a step at such a word, where the slots in hand stay
   abbrev pub tells_word : WordKind → Step (Value L G) → Me (Value L G) View → ℕ → Me (Value L G) View → Type 0
   tells_word k st m found m' = (m'.1 ≡ m.1) × DidWord k m.0 m'.0 found
+
+  -- a load of a hint word in a table of n frames: it names none past them
+  abbrev pub tells_hint : ℕ → ℕ → Step (Value L G) → Me (Value L G) View → ℕ → Me (Value L G) View → Type 0
+  tells_hint n number st m found m' = tells_word (load_hint number) st m found m' × (found ≤ n)

@@ -27,7 +27,7 @@ impl<L: BlockLane, G: LogDevice> FrameTable<L, G> {
         log: G,
         base: u64,
     ) -> Result<(FrameTable<L, G>, Seat<Value<L, G>, View>), BuildRefused<L, G>>
-        requires frames { config.frames ≤ 4096 }
+        requires frames { (1 ≤ config.frames) × (config.frames ≤ 4096) }
         requires backends { (1 ≤ config.passes) × (config.passes ≤ 64) }
         requires lanes { (1 ≤ config.lanes) × (config.lanes ≤ 16) × (length lanes.items ≡ config.lanes) }
         requires base { base ≤ 2 ^ 62 }

@@ -1,5 +1,5 @@
 //! Calls at tag words, and calls under a buffer header.
-ghost use Rattle.std.specs.Prelude.{◌≡◌, ◌≢◌, ◌+◌, ◌<◌, ◌≤◌, ◌^◌, ℕ, true, false, Some, None, IfSome};
+ghost use Rattle.std.specs.Prelude.{◌≡◌, ◌≢◌, ◌+◌, ◌<◌, ◌≤◌, ◌^◌, ℕ, true, false, Some, None, IfSome, is_some};
 ghost use Rattle.state_word.specs.Fields.{fields, unlocked_fields};
 ghost use Rattle.block_tag.specs.Names.{names_block, packed_tag, partition_number, unpacked_tag};
 ghost use Rattle.pin_core.specs.declared.view.View.{View};
@@ -51,6 +51,7 @@ impl<L: BlockLane, G: LogDevice> FrameTable<L, G> {
         ensures named { IfSome result (λ tag. names_block tag ≡ true) }
         ensures listed { IfSome result (λ tag. has_block (relations_of self.now) tag ≡ true) }
         ensures placed { IfSome result (λ tag. tag_partition (packed_tag tag) ≡ partition_number tag) }
+        ensures tagged { (link seat.old.me.0 frame).role ≡ HandedOut → is_some result ≡ true }
         ensures handed { IfSome result (λ tag. (link seat.old.me.0 frame).role ≡ HandedOut → (link seat.new.me.0 frame).tag ≡ Some (packed_tag tag)) }
         ensures settled { IfSome result (λ tag. (link seat.old.me.0 frame).role ≢ Absent → (link seat.old.me.0 frame).pending ≡ false → (link seat.new.me.0 frame).tag ≡ Some (packed_tag tag)) }
         ensures read { link seat.new.me.0 frame ≡ read_link result (link seat.old.me.0 frame) }

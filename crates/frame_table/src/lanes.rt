@@ -18,16 +18,9 @@ use log_device::LogDevice;
 use pin_core::View;
 use segment_store::BlockLane;
 use std::marker::Brand;
-use table_rule::{FIRST_LANE, NotedLane, Turn, Value};
+use table_rule::{NotedLane, Turn, Value};
 
 impl<L: BlockLane, G: LogDevice> FrameTable<L, G> {
-    /// The slot of a lane.
-    fn lane_slot(&self, lane: u32) -> usize
-        ensures { result ≡ slot_of (frames_of self.now) (Of (Lane lane)) }
-    {
-        self.config.frames as usize + FIRST_LANE + lane as usize
-    }
-
     fn lane_out_at<D: AtLane>(
         &self,
         seat: &mut Seat<Value<L, G>, View>,
@@ -64,7 +57,7 @@ impl<L: BlockLane, G: LogDevice> FrameTable<L, G> {
         ensures did { DidSteps (out_events lane (taken_at (lane_devices L.BlockLane) self.now lane result.device)) seat.old.me.0 seat.new.me.0 }
     {
         let place = self.latch(Turn::Lane(lane));
-        let slot = self.lane_slot(lane);
+        let slot = self.slot(Turn::Lane(lane));
         match self.lane_out_at::<Brand>(seat, lane, place, slot) {
             Value::Lane(out) => out,
             _other => unreachable!(),
@@ -110,7 +103,7 @@ impl<L: BlockLane, G: LogDevice> FrameTable<L, G> {
         ensures did { DidSteps (back_events (lane_devices L.BlockLane) lane noted.device noted.call) seat.old.me.0 seat.new.me.0 }
     {
         let place = self.latch(Turn::Lane(lane));
-        let slot = self.lane_slot(lane);
+        let slot = self.slot(Turn::Lane(lane));
         self.lane_back_at::<Brand>(seat, lane, place, slot, noted)
     }
 }

@@ -10,6 +10,7 @@ mod content;
 mod content_plays;
 mod content_word;
 mod headers;
+mod hints;
 mod io_right;
 mod lane_plays;
 mod lanes;

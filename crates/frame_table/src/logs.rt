@@ -22,16 +22,9 @@ use log_device::LogDevice;
 use pin_core::View;
 use segment_store::BlockLane;
 use std::marker::Brand;
-use table_rule::{LOG_PLACE, NotedLog, Turn, Value, end_place};
+use table_rule::{NotedLog, Turn, Value, end_place};
 
 impl<L: BlockLane, G: LogDevice> FrameTable<L, G> {
-    /// The slot of the log.
-    fn log_slot(&self) -> usize
-        ensures { result ≡ slot_of (frames_of self.now) (Of Log) }
-    {
-        self.config.frames as usize + LOG_PLACE
-    }
-
     fn log_out_at<D: AtLog>(
         &self,
         seat: &mut Seat<Value<L, G>, View>,
@@ -63,7 +56,7 @@ impl<L: BlockLane, G: LogDevice> FrameTable<L, G> {
         ensures went { LogWent G.bytes G.synced G.faults G.calls result seat.old.me.0 seat.new.me.0 }
     {
         let place = self.latch(Turn::Log);
-        let slot = self.log_slot();
+        let slot = self.slot(Turn::Log);
         match self.log_out_at::<Brand>(seat, place, slot) {
             Value::Log(log) => log,
             _other => unreachable!(),
@@ -106,7 +99,7 @@ impl<L: BlockLane, G: LogDevice> FrameTable<L, G> {
         ensures came { LogCame G.bytes G.synced G.faults G.calls log seat.old.me.0 seat.new.me.0 }
     {
         let place = self.latch(Turn::Log);
-        let slot = self.log_slot();
+        let slot = self.slot(Turn::Log);
         self.log_back_at::<Brand>(seat, place, slot, log)
     }
 

@@ -22,13 +22,6 @@ use std::marker::Brand;
 use table_rule::{Mapped, Turn, Value};
 
 impl<L: BlockLane, G: LogDevice> FrameTable<L, G> {
-    /// The slot of a partition's map.
-    fn map_slot(&self, partition: u32) -> usize
-        ensures { result ≡ slot_of (frames_of self.now) (Of (Partition partition)) }
-    {
-        self.config.frames as usize + partition as usize
-    }
-
     fn out_at<D: AtMap>(
         &self,
         seat: &mut Seat<Value<L, G>, View>,
@@ -65,7 +58,7 @@ impl<L: BlockLane, G: LogDevice> FrameTable<L, G> {
         ensures did { DidMap (parts.map_out (map entry_of result.items)) partition seat.old.me.0 seat.new.me.0 }
     {
         let place = self.latch(Turn::Partition(partition));
-        let slot = self.map_slot(partition);
+        let slot = self.slot(Turn::Partition(partition));
         match self.out_at::<Brand>(seat, partition, place, slot) {
             Value::Map(map) => map,
             _other => unreachable!(),
@@ -110,7 +103,7 @@ impl<L: BlockLane, G: LogDevice> FrameTable<L, G> {
         ensures did { ComesBack (map entry_of entries.items) partition seat.old.me.0 seat.new.me.0 (hold seat.old.me.0 partition).change }
     {
         let place = self.latch(Turn::Partition(partition));
-        let slot = self.map_slot(partition);
+        let slot = self.slot(Turn::Partition(partition));
         self.back_at::<Brand>(seat, partition, place, slot, entries)
     }
 }

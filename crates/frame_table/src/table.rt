@@ -8,7 +8,7 @@ ghost use Rattle.table_rule.specs.Layout as layout;
 ghost use Rattle.table_rule.specs.Shows.{devices};
 ghost use Rattle.frame_table.specs.Kinds as kinds;
 ghost use Rattle.frame_table.specs.Kinds.{FrameKind, pages, part_of, pins};
-ghost use Rattle.frame_table.specs.Stores.{FlushedMustRise, HandMustMove, Makes, MustStore};
+ghost use Rattle.frame_table.specs.Stores.{FlushedMustRise, HandMustMove, HintMustBeStored, Makes, MustStore};
 
 use atomic_table::Table;
 use block_tag::Catalog;
@@ -28,6 +28,7 @@ pub struct FrameTable<L: BlockLane, G: LogDevice> {
     ghost counted: { length table.shared.key.lanes.value.items ≡ table.shared.key.config.lanes },
     ghost some: { 1 ≤ table.shared.key.config.lanes },
     ghost few: { table.shared.key.config.lanes ≤ 16 },
+    ghost framed: { (1 ≤ table.shared.key.config.frames) × (table.shared.key.config.frames ≤ 4096) },
     ghost wide: { (table.shared.table_id.words ≡ layout.word_count table.shared.key.config.frames) × (table.shared.table_id.slots ≡ layout.slot_count table.shared.key.config.frames) },
 }
 
@@ -46,7 +47,7 @@ impl<L: BlockLane, G: LogDevice> FrameTable<L, G> {
         &self.catalog
     }
 
-    /// What each call at a state word has to store, whatever the table is at that moment: whoever keeps the table's rule and tells of a step stores the word that the step makes of the word found. So with the clock's hand, and with the flushed position.
+    /// What each call at a state word has to store, whatever the table is at that moment: whoever keeps the table's rule and tells of a step stores the word that the step makes of the word found. So with the clock's hand, with the flushed position, and with the hint words.
     pub fn words_must_be_stored(&self)
         ensures each { (k : FrameKind) → part_of k ≡ kinds.state_word → k ≢ pins pin_kinds.load_state → MustStore (devices L.BlockLane G.LogDevice) self.now.table.shared.key k (Makes k) }
         ensures pin { (ring : Bool) → MustStore (devices L.BlockLane G.LogDevice) self.now.table.shared.key (pins (pin_kinds.pin ring)) (λ f found left. left ≡ pinned_fields ring found) }
@@ -55,6 +56,7 @@ impl<L: BlockLane, G: LogDevice> FrameTable<L, G> {
         ensures dirtied { MustStore (devices L.BlockLane G.LogDevice) self.now.table.shared.key (pages page_kinds.mark_dirty) (λ f found left. left ≡ dirtied_fields found) }
         ensures hand { HandMustMove (devices L.BlockLane G.LogDevice) self.now.table.shared.key }
         ensures flushed { FlushedMustRise (devices L.BlockLane G.LogDevice) self.now.table.shared.key }
+        ensures hints { HintMustBeStored (devices L.BlockLane G.LogDevice) self.now.table.shared.key }
     {}
 }
 

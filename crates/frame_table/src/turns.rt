@@ -1,9 +1,10 @@
 //! Latches.
 ghost use Rattle.std.specs.Prelude.{◌≡◌, ◌<◌, true, false};
-ghost use Rattle.table_rule.specs.Layout.{latch_place, word_count};
+ghost use Rattle.table_rule.specs.declared.turn.Place.TheVariants.{Of};
+ghost use Rattle.table_rule.specs.Layout.{latch_place, slot_of, word_count};
 ghost use Rattle.table_rule.specs.Shows.{HasTurn};
 ghost use Rattle.frame_table.specs.Seats.{CanTurn, SameSeat, frames_of};
-ghost use Rattle.frame_table.specs.Latches.{DidTurn, IsTurned, MayLeave, SameWork};
+ghost use Rattle.frame_table.specs.Latches.{DidTurn, IsTurned, MayLeave, SameWork, view_counted};
 
 use crate::plays::{AtTurn, LeaveTurn, TakeTurn};
 use crate::table::FrameTable;
@@ -22,6 +23,18 @@ impl<L: BlockLane, G: LogDevice> FrameTable<L, G> {
         ensures place { result ≡ latch_place (frames_of self.now) turn }
     {
         let frames = 3 * self.config.frames as usize;
+        match turn {
+            Turn::Partition(partition) => frames + partition as usize,
+            Turn::Lane(lane) => frames + FIRST_LANE + lane as usize,
+            Turn::Log => frames + LOG_PLACE,
+        }
+    }
+
+    /// The slot of what a latch guards.
+    pub(crate) fn slot(&self, turn: Turn) -> usize
+        ensures { result ≡ slot_of (frames_of self.now) (Of turn) }
+    {
+        let frames = self.config.frames as usize;
         match turn {
             Turn::Partition(partition) => frames + partition as usize,
             Turn::Lane(lane) => frames + FIRST_LANE + lane as usize,
@@ -52,7 +65,7 @@ impl<L: BlockLane, G: LogDevice> FrameTable<L, G> {
     pub fn take_turn<R: Wait>(&self, rt: &R, seat: &mut Seat<Value<L, G>, View>, turn: Turn)
         requires seat { CanTurn self.now seat.old turn }
         ensures seat { SameSeat seat.old seat.new }
-        ensures work { SameWork seat.old.me.0 seat.new.me.0 }
+        ensures work { SameWork (view_counted true turn seat.old.me.0) seat.new.me.0 }
         ensures turned { IsTurned true turn seat.old.me.0 seat.new.me.0 }
         ensures did { DidTurn true turn seat.old.me.0 seat.new.me.0 }
     {

@@ -5,7 +5,7 @@ ghost use Rattle.segment_store.specs.Contents.{Pages};
 ghost use Rattle.frame_table.specs.declared.log_words.EndLoad.{EndLoad};
 ghost use Rattle.frame_table.specs.declared.log_words.EndLoad.TheVariants.{Plain};
 ghost use Rattle.frame_table.specs.EndLoads.{tells_end_load};
-ghost use Rattle.frame_table.specs.WordSteps.{WordKind, tells_word, load_flushed, raise_flushed, load_hand, add_hand};
+ghost use Rattle.frame_table.specs.WordSteps.{WordKind, tells_hint, tells_word, load_flushed, raise_flushed, load_hand, add_hand};
 
 use atomic_table::Play;
 use pin_core::View;
@@ -15,6 +15,11 @@ use table_rule::Value;
 /// Which kind a step at such a word is.
 pub(crate) trait StepsAt {
     ghost kind: { WordKind };
+}
+
+// Each call picks the kind.
+impl StepsAt for Brand {
+    ghost kind = { load_hand };
 }
 
 pub(crate) struct StepAt<D> {
@@ -84,4 +89,25 @@ pub(crate) struct AddHand;
 
 impl StepsAt for AddHand {
     ghost kind = { add_hand };
+}
+
+/// How many frames there are, and the number of the hint word. Each call picks it.
+pub(crate) trait AtHint {
+    ghost frames: { ℕ };
+
+    ghost number: { ℕ };
+}
+
+impl AtHint for Brand {
+    ghost frames = { 0 };
+
+    ghost number = { 0 };
+}
+
+pub(crate) struct LoadHint<D> {
+    hint: PhantomData<D>,
+}
+
+impl<L, G, D: AtHint> Play<Value<L, G>, View> for LoadHint<D> {
+    ghost then = { tells_hint D.frames D.number };
 }

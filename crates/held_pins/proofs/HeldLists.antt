@@ -159,6 +159,11 @@ held_standing [] f i h s e = let inside = s.inside in absurd (omega arith)
 held_standing (x ∷ xs) f zero h s e = held_here (held_of x) (held_in xs) f (stands_first f x xs s) ∙ ap (λ (y : HeldPin). Some (held_of y)) (sym e)
 held_standing (x ∷ xs) f (suc i) h s e = held_past (held_of x) (held_in xs) f (stands_past f i x xs s) ∙ held_standing xs f i h (stands_later f i x xs s) e
 
+pub stands_held : (hs : List HeldPin) (f i : ℕ) → StandsAt f i hs → held_at (held_in hs) f ≢ None
+stands_held [] f i s = absurd (let e = s.inside in omega arith)
+stands_held (x ∷ xs) f zero s = λ none. none-some (held_of x) (sym none ∙ held_here (held_of x) (held_in xs) f (stands_first f x xs s))
+stands_held (x ∷ xs) f (suc i) s = λ none. stands_held xs f i (stands_later f i x xs s) (sym (held_past (held_of x) (held_in xs) f (stands_past f i x xs s)) ∙ none)
+
 pub more_standing : (hs : List HeldPin) (f i n : ℕ) (h : HeldPin) → StandsAt f i hs → h ≡ get_or hs i h → n ≡ h.tokens + 1 → held_in (set hs i (record h { tokens = n })) ≡ tokens_more f (held_in hs)
 more_standing [] f i n h s e m = let inside = s.inside in absurd (omega arith)
 more_standing (x ∷ xs) f zero n h s e m = ap (λ (y : HeldPin × ℕ). record (held_of y.0) { tokens = y.1 } ∷ held_in xs) (λ k. (e k, m k)) ∙ ap (λ (y : HeldPin). record (held_of x) { tokens = y.tokens + 1 } ∷ held_in xs) e ∙ sym (more_here (held_of x) (held_in xs) f (stands_first f x xs s))

@@ -1,2 +1,3 @@
 pub mod HeldLists
 pub mod Keeping
+pub mod Resting

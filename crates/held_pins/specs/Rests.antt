@@ -34,6 +34,7 @@ kept_by_calls v = record v {
   had_output = false;
   last_ended = None;
   unentered = [];
+  residents = [];
 }
 
 -- A backend has nothing at a frame but maybe a pin and a content lock

@@ -102,6 +102,17 @@ impl HeldPins {
         }
     }
 
+    /// Whether a frame is pinned.
+    pub fn holds(&self, frame: u32) -> bool
+        ensures held { result ≡ true → held_at self.now frame ≢ None }
+        ensures none { result ≡ false → held_at self.now frame ≡ None }
+    {
+        match place_at(&self.pins, frame) {
+            Some(_place) => true,
+            None => false,
+        }
+    }
+
     /// One more token of a frame that is pinned.
     pub fn add_token(&mut self, frame: u32)
         requires pinned { held_at self.old frame ≢ None }

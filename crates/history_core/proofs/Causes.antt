@@ -24,7 +24,7 @@ use Rattle.page_core.specs.Steps as page_steps
 use Rattle.history_core.specs.State.{Lane, State, Store, failed, opening}
 use Rattle.history_core.specs.Lanes as lane_kinds
 use Rattle.history_core.specs.Lanes.{swept_by, LaneKind, lane_after, lane_hold_after, lane_met_by, fault_of, syncs, is_failed_write}
-use Rattle.history_core.specs.Steps.{LaneAlone, MayWriteLane, Notes, Step, pools, lanes, writes, notes, logs, enters, reads, Event, Run, rests, goes, stepped, looked, aside, pool_after, logged_noting, pool_noting, paged, laned, has_read, has_written, words, worded}
+use Rattle.history_core.specs.Steps.{LaneAlone, MayWriteLane, Notes, Step, pools, lanes, writes, notes, logs, enters, reads, Event, Run, rests, goes, stepped, looked, aside, pool_after, logged_noting, pool_noting, paged, laned, has_read, has_written, words, after_word}
 use Rattle.history_core.specs.Log.{change_size, Change}
 use Rattle.history_core.specs.Device as log_kinds
 use Rattle.history_core.specs.Device.{LogKind, view_logged}
@@ -301,7 +301,7 @@ marks_kept (notes {s = s} i q f noted k v there live low inside a x) h m = notes
 marks_kept (logs {s = s} i k v there live a record_is) h m = λ none. let x = aside_marks s h m i v (view_logged k v) there (omega arith) refl (no_write_fault k v) refl none in record { frames = x.frames; blocks = x.blocks; views = x.views }
 marks_kept (enters {s = s} i f p ch v there live inside x) h m = entered_marks s h m i f p ch v there inside refl refl refl (λ tag. refl)
 marks_kept (reads {s = s} i f tag p v there live inside a) h m = aside_marks s h m i v (looked (seen.LogEnd s.end) (has_read s.end tag p v)) there (omega arith) refl refl refl
-marks_kept (words {s = s} i k v there live a) h m = λ none. let x = aside_marks s h m i v (worded k s v) there (omega arith) refl refl refl none in record { frames = x.frames; blocks = x.blocks; views = x.views }
+marks_kept (words {s = s} i k v there live a) h m = λ none. let x = aside_marks s h m i v (after_word k s v) there (omega arith) refl refl refl none in record { frames = x.frames; blocks = x.blocks; views = x.views }
 
 pub marks_after : {es : List Event} {s t : State} → Run es s t → HistoryInvariant s → MarksLaw s → MarksLaw t
 marks_after rests h m = m

@@ -16,7 +16,7 @@ use Rattle.page_core.specs.Steps as page_steps
 use Rattle.page_core.specs.Steps.{HasNoWriteOut}
 use Rattle.history_core.specs.State.{State}
 use Rattle.history_core.specs.Lanes.{take_lane, leave_lane, lane_out, write_block, sync_lane, lane_back}
-use Rattle.history_core.specs.Steps.{pools, lanes, writes, notes, words, state_worded, Run, rests, goes}
+use Rattle.history_core.specs.Steps.{pools, lanes, writes, notes, words, state_after_word, Run, rests, goes}
 use Rattle.history_core.specs.Words.{load_flushed, begin_checkpoint}
 use Rattle.history_core.specs.Sample.{sample_lane}
 use Rattle.history_core.specs.Put.{IsPut}
@@ -29,7 +29,7 @@ abbrev split_at : State → State
 split_at s = record s { pool = record s.pool { core = split_state s.pool.core (view_of s) } }
 
 abbrev begun_at : State → State
-begun_at s = state_worded begin_checkpoint s 1 (second_of s)
+begun_at s = state_after_word begin_checkpoint s 1 (second_of s)
 
 abbrev joined_at : State → State
 joined_at s = record s { pool = record s.pool { core = joined_state s.pool.core (view_of s) 1 (second_of s) } }

@@ -25,7 +25,7 @@ use Rattle.page_core.specs.Kinds.{begin_write, make_entry}
 use Rattle.history_core.specs.Log.{change_size}
 use Rattle.history_core.specs.Device as log_kinds
 use Rattle.history_core.specs.Device.{LogKind, view_logged}
-use Rattle.history_core.specs.Steps.{Event, stepped, looked, pool_noting, paged, laned, has_read, has_written, Step, pools, lanes, writes, notes, logs, enters, reads, Run, rests, goes, words, worded}
+use Rattle.history_core.specs.Steps.{Event, stepped, looked, pool_noting, paged, laned, has_read, has_written, Step, pools, lanes, writes, notes, logs, enters, reads, Run, rests, goes, words, after_word}
 use Rattle.history_core.specs.Invariant.{HistoryInvariant}
 use Rattle.history_core.proofs.Counts.{known, more, counts_kept, count_stays, other_link, risen_later}
 use Rattle.history_core.proofs.LogCounting.{log_counting, log_counts_open}
@@ -257,7 +257,7 @@ lane_counting (notes {s = s} i q f noted k v there live low inside a x) h m = la
 lane_counting (logs {s = s} i k v there live a record_is) h m = logged_counts s h m i k v there
 lane_counting (enters {s = s} i f p ch v there live inside x) h m = unlaned_counts s h m i v (has_written ch (s.end + change_size ch) (s.pool.core.frame f).tag p (paged (make_entry p) s.pool f v)) there refl refl refl refl
 lane_counting (reads {s = s} i f tag p v there live inside a) h m = unlaned_counts s h m i v (looked (seen.LogEnd s.end) (has_read s.end tag p v)) there refl refl refl refl
-lane_counting (words {s = s} i k v there live a) h m = let x = unlaned_counts s h m i v (worded k s v) there refl refl refl refl in record { lanes = record { columns = x.lanes.columns; cells = x.lanes.cells }; reads_rose = x.reads_rose; writes_rose = x.writes_rose }
+lane_counting (words {s = s} i k v there live a) h m = let x = unlaned_counts s h m i v (after_word k s v) there refl refl refl refl in record { lanes = record { columns = x.lanes.columns; cells = x.lanes.cells }; reads_rose = x.reads_rose; writes_rose = x.writes_rose }
 
 pub counting : {e : Event} {s t : State} → Step e s t → HistoryInvariant s → CountsLaw s → CountsLaw t
 counting x h m = record { lanes = lane_counting x h m.lanes; log = log_counting x h m.log }

@@ -18,7 +18,7 @@ use Rattle.history_core.specs.Device.{view_logged}
 use Rattle.history_core.specs.State.{State, Store, opening}
 use Rattle.history_core.specs.Invariant.{HistoryInvariant}
 use Rattle.history_core.specs.Ends.{EndsLaw}
-use Rattle.history_core.specs.Steps.{Event, stepped, looked, pool_noting, paged, laned, has_read, has_written, Step, pools, lanes, writes, notes, logs, enters, reads, words, worded}
+use Rattle.history_core.specs.Steps.{Event, stepped, looked, pool_noting, paged, laned, has_read, has_written, Step, pools, lanes, writes, notes, logs, enters, reads, words, after_word}
 use Rattle.history_core.specs.Words.{WordKind, load_end}
 use Rattle.grid.proofs.Lists.{at_set, at_end, at_only}
 
@@ -46,7 +46,7 @@ pools_ends s from m (pin_steps.joins j v u there other here live free) = let w :
     ends_set s.end (set s.pool.core.views 0 w) (ends_set s.end s.pool.core.views m s.end 0 w (omega arith) (omega arith)) s.end j emptied_view (omega arith) (omega arith)
 
 -- a kind at a word shows the view the log's end at most
-seen_more : (k : WordKind) (s : State) (v : View) → (worded k s v).end_seen ≤ max v.end_seen s.end
+seen_more : (k : WordKind) (s : State) (v : View) → (after_word k s v).end_seen ≤ max v.end_seen s.end
 seen_more load_end s v = omega arith
 seen_more _ s v = omega arith
 
@@ -59,7 +59,7 @@ ends_kept (notes {s = s} i q f noted k v there live low inside a x) h m = ends_s
 ends_kept (logs {s = s} i k v there live a record_is) h m = ends_same s.end s.pool.core.views m i v (view_logged k v) there refl
 ends_kept (enters {s = s} i f p ch v there live inside x) h m = let low = m i v there in ends_set s.end s.pool.core.views m (s.end + change_size ch) i (has_written ch (s.end + change_size ch) (s.pool.core.frame f).tag p (paged (make_entry p) s.pool f v)) (omega arith) (omega arith)
 ends_kept (reads {s = s} i f tag p v there live inside a) h m = ends_seen s.end s.pool.core.views m i v (looked (seen.LogEnd s.end) (has_read s.end tag p v)) there (omega arith)
-ends_kept (words {s = s} i k v there live a) h m = ends_seen s.end s.pool.core.views m i v (worded k s v) there (seen_more k s v)
+ends_kept (words {s = s} i k v there live a) h m = ends_seen s.end s.pool.core.views m i v (after_word k s v) there (seen_more k s v)
 
 pub ends_open : (c : Config) (store : Store) (page : Page) → EndsLaw (opening c store page)
 ends_open c store page i v there = let e : c.base ≡ v.end_seen = ap (λ (x : View). x.end_seen) (at_only (first_view c.base c.frames c.partitions c.lanes) v i there).0 in omega arith

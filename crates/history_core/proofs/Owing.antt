@@ -37,7 +37,7 @@ use Rattle.history_core.specs.Lanes.{LaneKind, lane_after}
 use Rattle.history_core.specs.Device.{view_logged}
 use Rattle.history_core.specs.Invariant.{HistoryInvariant}
 use Rattle.history_core.specs.Debts.{Taken, IsCurrent, IsStoredOrLeft, LinkDebt, ViewDebts, Debts, has_visited, has_left_to_write, taken_of, DebtsLaw}
-use Rattle.history_core.specs.Steps.{Event, IsPlain, MayWriteLane, Notes, CanEnter, new_entry, logged_noting, pool_noting, stepped, looked, paged, laned, has_read, has_written, Step, pools, lanes, writes, notes, logs, enters, reads, Run, rests, goes, words, worded, state_worded}
+use Rattle.history_core.specs.Steps.{Event, IsPlain, MayWriteLane, Notes, CanEnter, new_entry, logged_noting, pool_noting, stepped, looked, paged, laned, has_read, has_written, Step, pools, lanes, writes, notes, logs, enters, reads, Run, rests, goes, words, after_word, state_after_word}
 use Rattle.history_core.specs.Words.{WordKind, begin_checkpoint}
 use Rattle.history_core.proofs.Beginning.{BegunHere, link_begun}
 use Rattle.history_core.proofs.Blocks.{plain_block, tag_goes, written_is_logged}
@@ -312,15 +312,15 @@ module _ (s : State) (h : HistoryInvariant s) (d : DebtsLaw s) (i f : ℕ) (p : 
       (touches_at s h d i f v (has_written c end' tag_of p (paged (make_entry p) s.pool f v)) l there live inside refl refl refl) (record { stored_or_left = own.stored_or_left; done = own.done })
 
 -- a kind at a word
-words_owe : (s : State) (h : HistoryInvariant s) (d : DebtsLaw s) (i : ℕ) (k : WordKind) (v : View) → get_elem? s.pool.core.views i ≡ some v → DebtsLaw (state_worded k s i v)
-words_owe s h d i begin_checkpoint v there = let w : View = worded begin_checkpoint s v in let x = d.each i v there in let begun : BegunHere v w = record { emptied = refl; number = refl; next = refl; joined = refl; links = refl; partitions = refl } in
+words_owe : (s : State) (h : HistoryInvariant s) (d : DebtsLaw s) (i : ℕ) (k : WordKind) (v : View) → get_elem? s.pool.core.views i ≡ some v → DebtsLaw (state_after_word k s i v)
+words_owe s h d i begin_checkpoint v there = let w : View = after_word begin_checkpoint s v in let x = d.each i v there in let begun : BegunHere v w = record { emptied = refl; number = refl; next = refl; joined = refl; links = refl; partitions = refl } in
     debts_set (taken_of s) s.pool.core.frames s.pool.core.frame s.end s.pool.logged s.pool.core.views d i w (record {
       begun = omega arith;
       kept_begun = x.kept_begun;
       own = λ f below. subst (LinkDebt (taken_of s) (s.pool.core.frame f) s.end) (sym (link_begun v w begun f)) (record { stored_or_left = λ p. absurd (cc); done = (x.own f below).done });
       kept = x.kept;
     })
-words_owe s h d i k v there = aside_owe s h d i v (worded k s v) there refl refl refl
+words_owe s h d i k v there = aside_owe s h d i v (after_word k s v) there refl refl refl
 
 pub debts_kept : {e : Event} {s t : State} → Step e s t → HistoryInvariant s → DebtsLaw s → DebtsLaw t
 debts_kept (pools {s = s} (page_steps.cores x) a) h d = pins_owe s h d x

@@ -19,7 +19,7 @@ use Rattle.history_core.specs.Log.{record_size, head_bytes, records, log_bytes, 
 use Rattle.history_core.specs.State.{State, last_position}
 use Rattle.history_core.specs.Lanes.{take_lane, leave_lane, lane_out, write_block, CanTakeOut, lane_after}
 use Rattle.history_core.specs.Device.{LogKind, take_log, leave_log, log_out, append, sync_log, log_back, device_after, view_logged}
-use Rattle.history_core.specs.Steps.{CanLog, aside, pool_after, laned, new_entry, has_written, pools, lanes, writes, notes, logs, enters, words, state_worded, Run, rests, goes}
+use Rattle.history_core.specs.Steps.{CanLog, aside, pool_after, laned, new_entry, has_written, pools, lanes, writes, notes, logs, enters, words, state_after_word, Run, rests, goes}
 use Rattle.history_core.specs.Words.{load_flushed, raise_flushed}
 use Rattle.history_core.specs.Steps as steps
 use Rattle.history_core.specs.Sample.{sample_store, sample_lane, sample_log}
@@ -46,10 +46,10 @@ entered p s = let tag = (s.pool.core.frame 0).tag in let end = s.end + change_si
 }
 
 abbrev state_raised : State → State
-state_raised s = state_worded raise_flushed s 0 (view_of s)
+state_raised s = state_after_word raise_flushed s 0 (view_of s)
 
 abbrev pub loaded_by : ℕ → State → State
-loaded_by i s = state_worded load_flushed s i (view_at i s)
+loaded_by i s = state_after_word load_flushed s i (view_at i s)
 
 abbrev pub written_by : ℕ → Page → State → State
 written_by i p s = record s { pool = pool_after begin_write s.pool i 0 (laned (write_block 0 7 p) 0 (view_at i s) (steps.paged begin_write s.pool 0 (view_at i s))); lane = put s.lane 0 (lane_after (write_block 0 7 p) (s.lane 0)) }

@@ -7,7 +7,7 @@ use Rattle.history_core.specs.Log.{head_bytes}
 use Rattle.history_core.specs.State.{State}
 use Rattle.history_core.specs.Lanes.{LaneKind, take_lane, leave_lane, lane_out, read_block, lane_back, CanTakeOut, lane_after}
 use Rattle.history_core.specs.Device.{LogKind, take_log, leave_log, log_out, sync_log, log_back, device_after, view_logged}
-use Rattle.history_core.specs.Steps.{aside, stepped, laned, rests, goes, lanes, logs, words, state_worded}
+use Rattle.history_core.specs.Steps.{aside, stepped, laned, rests, goes, lanes, logs, words, state_after_word}
 use Rattle.history_core.specs.Words.{load_end, load_flushed, raise_flushed}
 use Rattle.history_core.specs.Sample.{short_page, sample_start, sample_lane, sample_log, SampleRuns}
 use Rattle.grid.specs.Shape.{put}
@@ -49,13 +49,13 @@ abbrev s9 : State
 s9 = at_log (log_back false) s8
 
 abbrev s10 : State
-s10 = state_worded raise_flushed s9 0 (view_of s9)
+s10 = state_after_word raise_flushed s9 0 (view_of s9)
 
 abbrev s11 : State
 s11 = at_log leave_log s10
 
 abbrev s12 : State
-s12 = state_worded load_flushed s11 0 (view_of s11)
+s12 = state_after_word load_flushed s11 0 (view_of s11)
 
 goes_out : CanTakeOut sample_lane (s1.lane 0) (lane_hold (view_of s1) 0)
 goes_out = record { held = refl; home = refl; reads = refl; writes = refl; pages = λ blocks k b e at. absurd (cc); marks = λ k m at. absurd (cc) }
@@ -66,7 +66,7 @@ sample = (
   record { placed = λ tag. lit< tt; based = omega arith; named = λ tag. refl; synced = omega arith; there = λ tag block known. refl },
   (
     s5,
-    state_worded load_end s12 0 (view_of s12),
+    state_after_word load_end s12 0 (view_of s12),
     (goes (lanes 0 0 take_lane (view_of sample_start) refl refl (lit< tt) (record { free = refl }) tt)
         (goes (lanes 0 0 (lane_out sample_lane) (view_of s1) refl refl (lit< tt) goes_out tt)
         (goes (lanes 0 0 (read_block 7 short_page) (view_of s2) refl refl (lit< tt) (record { call = record { out = λ e. cc; once = refl }; given = λ e. refl }) refl)

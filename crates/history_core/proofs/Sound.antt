@@ -27,7 +27,7 @@ use Rattle.history_core.specs.State.{State, Store, opening}
 use Rattle.history_core.specs.Invariant.{HistoryInvariant}
 use Rattle.history_core.specs.Histories.{IsStored, ImagesAlone}
 use Rattle.history_core.specs.Sound.{WasSound, SoundLaw, ShowsSound, UnsoundStay, UnsoundAreFirst}
-use Rattle.history_core.specs.Steps.{Event, new_entry, stepped, looked, pool_noting, paged, laned, has_read, has_written, Step, pools, lanes, writes, notes, logs, enters, reads, words, worded}
+use Rattle.history_core.specs.Steps.{Event, new_entry, stepped, looked, pool_noting, paged, laned, has_read, has_written, Step, pools, lanes, writes, notes, logs, enters, reads, words, after_word}
 use Rattle.history_core.proofs.Calls.{at_both}
 use Rattle.history_core.proofs.Histories.{clean_stored}
 use Rattle.history_core.proofs.Logs.{cut_all, ends_below, cell_absent, after_none, after_images, entry_longer, IsLastUpto, last_upto, cell_upto}
@@ -112,7 +112,7 @@ sound_kept (enters {s = s} i f p ch v there live inside x) h m = let tag = (s.po
   calls = calls_added s s.pool.core.views m.calls i v (has_written ch end tag p (paged (make_entry p) s.pool f v)) _ there refl was;
 }
 sound_kept (reads {s = s} i f tag p v there live inside a) h m = record { entries = m.entries; calls = calls_added s s.pool.core.views m.calls i v (looked (seen.LogEnd s.end) (has_read s.end tag p v)) _ there refl (remembered s h m.entries i f tag v there inside a.remembered (locked_sound s h m.entries i f v there inside a.right)) }
-sound_kept (words {s = s} i k v there live a) h m = record { entries = m.entries; calls = calls_same s s.pool.core.views m.calls i v (worded k s v) there refl }
+sound_kept (words {s = s} i k v there live a) h m = record { entries = m.entries; calls = calls_same s s.pool.core.views m.calls i v (after_word k s v) there refl }
 
 pub sound_open : (c : Config) (store : Store) (page : Page) → SoundLaw (opening c store page)
 sound_open c store page = record {

@@ -18,7 +18,7 @@ use Rattle.history_core.specs.Log.{change_size}
 use Rattle.history_core.specs.State.{State}
 use Rattle.history_core.specs.Lanes.{lane_back}
 use Rattle.history_core.specs.Device.{view_logged}
-use Rattle.history_core.specs.Steps.{Event, pool, stepped, looked, pool_noting, paged, laned, has_read, has_written, Step, pools, lanes, writes, notes, enters, reads, logs, words, worded}
+use Rattle.history_core.specs.Steps.{Event, pool, stepped, looked, pool_noting, paged, laned, has_read, has_written, Step, pools, lanes, writes, notes, enters, reads, logs, words, after_word}
 use Rattle.history_core.specs.Histories.{LeavesCalls, HasCallsOf, CallsStay}
 use Rattle.grid.proofs.Lists.{set_here, set_else, at_longer}
 
@@ -56,7 +56,7 @@ step_stays (notes {s = s} i n f noted k u there live low inside a x) j v at leav
 step_stays (logs {s = s} i k u there live a record_is) j v at leaves = set_stays s.pool.core.views i j u (view_logged k u) v there refl refl at
 step_stays (enters {s = s} i f p ch u there live inside x) j v at leaves = other_stays s.pool.core.views i j (has_written ch (s.end + change_size ch) (s.pool.core.frame f).tag p (paged (make_entry p) s.pool f u)) v leaves at
 step_stays (reads {s = s} i f tag p u there live inside a) j v at leaves = other_stays s.pool.core.views i j (looked (seen.LogEnd s.end) (has_read s.end tag p u)) v leaves at
-step_stays (words {s = s} i k u there live a) j v at leaves = set_stays s.pool.core.views i j u (worded k s u) v there refl refl at
+step_stays (words {s = s} i k u there live a) j v at leaves = set_stays s.pool.core.views i j u (after_word k s u) v there refl refl at
 
 pub calls_stay : (s : State) → CallsStay s
 calls_stay s e t x i v at leaves = step_stays x i v at leaves

@@ -44,7 +44,7 @@ use Rattle.history_core.specs.Lanes as lane_kinds
 use Rattle.history_core.specs.Lanes.{swept_by, LaneKind, LaneAllowed, lane_after, lane_hold_after, lane_shape, lane_part}
 use Rattle.history_core.specs.Homes.{Home, home_of, IsClean, HomeLink, home_shape, home_part, IsUnframed, IsFlushedCell}
 use Rattle.history_core.specs.Invariant.{HistoryLaw, written_of, HistoryInvariant}
-use Rattle.history_core.specs.Steps.{Event, IsPlain, PoolAllowed, stepped, looked, aside, pool_after, pool_noting, CanNoteLaneRead, paged, laned, LaneAlone, CanWrite, MayWriteLane, Notes, new_entry, CanEnter, CanRead, has_read, has_written, Step, pools, lanes, writes, notes, enters, reads, logs, Run, rests, goes, words, worded, state_worded, has_raised, MakesPage}
+use Rattle.history_core.specs.Steps.{Event, IsPlain, PoolAllowed, stepped, looked, aside, pool_after, pool_noting, CanNoteLaneRead, paged, laned, LaneAlone, CanWrite, MayWriteLane, Notes, new_entry, CanEnter, CanRead, has_read, has_written, Step, pools, lanes, writes, notes, enters, reads, logs, Run, rests, goes, words, after_word, state_after_word, has_raised, MakesPage}
 use Rattle.history_core.specs.Words.{WordKind, load_end, begin_checkpoint, load_flushed, raise_flushed, WordAllowed}
 use Rattle.history_core.specs.Device.{LogKind, take_log, leave_log, log_out, append, fail_append, sync_log, fail_sync, log_back, see_down, LogAllowed, device_after, view_logged, log_weigh, log_shape, log_part}
 use Rattle.history_core.proofs.Device.{log_keeps, enter_keeps, end_keeps, synced_all}
@@ -713,8 +713,8 @@ module _ (s : State) (h : HistoryInvariant s) (i f : ℕ) (p : Page) (ch : Chang
 -- A kind at a word, by backend i
 module _ (s : State) (h : HistoryInvariant s) (i : ℕ) (v : View) (there : get_elem? s.pool.core.views i ≡ some v) where
   -- the holder of the log's latch keeps the log end that it loads
-  loads_end_step : HistoryInvariant (state_worded load_end s i v)
-  loads_end_step = let w : View = worded load_end s v in let same : SameHere v w = record { backend = record { emptied = refl; number = refl; next = refl; links = refl; partitions = refl }; joined = refl; links = refl; partitions = refl } in
+  loads_end_step : HistoryInvariant (state_after_word load_end s i v)
+  loads_end_step = let w : View = after_word load_end s v in let same : SameHere v w = record { backend = record { emptied = refl; number = refl; next = refl; links = refl; partitions = refl }; joined = refl; links = refl; partitions = refl } in
       assemble_same s h (aside s.pool i w) s.lane (pool_aside s.pool i v w h.pool there same) refl h.known (refl, refl)
       (record {
         device = sweep log_shape log_part log_part 1 (λ _. s.device) (λ _. s.device) (λ _. written_of s) (λ _. written_of s) s.pool.core.views i v w h.device there (λ g below. end_keeps (written_of s) s.device v.saw_down v.log);
@@ -724,20 +724,20 @@ module _ (s : State) (h : HistoryInvariant s) (i : ℕ) (v : View) (there : get_
       })
       (blocks_aside s h i v w there refl)
 
-  begins_step : HistoryInvariant (state_worded begin_checkpoint s i v)
-  begins_step = let w : View = worded begin_checkpoint s v in let begun : BegunHere v w = record { emptied = refl; number = refl; next = refl; joined = refl; links = refl; partitions = refl } in
+  begins_step : HistoryInvariant (state_after_word begin_checkpoint s i v)
+  begins_step = let w : View = after_word begin_checkpoint s v in let begun : BegunHere v w = record { emptied = refl; number = refl; next = refl; joined = refl; links = refl; partitions = refl } in
       assemble_same s h (aside s.pool i w) s.lane (pool_begun i v w begun s.pool h.pool there) refl h.known (refl, refl)
       (outer_same s.known s.origin s.log s.lanes s.lane s.flushed (written_of s) s.device s.pool.core.views (outer_of s h) i v w there (record { calls = refl; front = refl; joined = refl; flushed = refl; emptied = refl; number = refl; kept = refl }) refl refl refl refl)
       (record { homes = homes_begun i v w begun s.pool.core.frames s.pool.core.frame (home_of s) s.pool.core.views h.homes there; unframed = h.unframed; flushed_cells = h.flushed_cells })
 
-  words_step : (k : WordKind) → WordAllowed k s v → HistoryInvariant (state_worded k s i v)
+  words_step : (k : WordKind) → WordAllowed k s v → HistoryInvariant (state_after_word k s i v)
   words_step load_end a = loads_end_step
   words_step begin_checkpoint a = begins_step
-  words_step load_flushed a = let w : View = worded load_flushed s v in with_view s h i v w there (record { backend = record { emptied = refl; number = refl; next = refl; links = refl; partitions = refl }; joined = refl; links = refl; partitions = refl }) refl refl refl
+  words_step load_flushed a = let w : View = after_word load_flushed s v in with_view s h i v w there (record { backend = record { emptied = refl; number = refl; next = refl; links = refl; partitions = refl }; joined = refl; links = refl; partitions = refl }) refl refl refl
       (history_loaded s.known s.origin s.log s.flushed s.pool.core.views h.history i v w there refl refl refl refl refl refl refl)
   words_step raise_flushed synced = raises_step s h i v there synced
   -- no law speaks of the others
-  words_step k a = let w : View = worded k s v in let x = with_view s h i v w there (record { backend = record { emptied = refl; number = refl; next = refl; links = refl; partitions = refl }; joined = refl; links = refl; partitions = refl }) refl refl refl
+  words_step k a = let w : View = after_word k s v in let x = with_view s h i v w there (record { backend = record { emptied = refl; number = refl; next = refl; links = refl; partitions = refl }; joined = refl; links = refl; partitions = refl }) refl refl refl
       (history_same s.known s.origin s.log s.flushed s.pool.core.views h.history i v w there (record { calls = refl; front = refl; joined = refl; flushed = refl; emptied = refl; number = refl; kept = refl })) in record {
         pool = x.pool;
         logged = x.logged;

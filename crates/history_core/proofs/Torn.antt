@@ -19,12 +19,12 @@ use Rattle.page_core.specs.Sample.{example_page}
 use Rattle.page_core.specs.Steps as page_steps
 use Rattle.page_core.specs.Steps.{HasNoWriteOut}
 use Rattle.history_core.specs.Log.{Entry, Change, image, ranges, resize, record_size, head_bytes, record_bytes, log_bytes, change_size, IsChange, end_of, cell}
-use Rattle.history_core.specs.State.{State, last_position, stored, unsynced}
+use Rattle.history_core.specs.State.{State, last_position, stored}
 use Rattle.history_core.specs.Lanes.{take_lane, leave_lane, lane_out, write_block, CanTakeOut}
 use Rattle.history_core.specs.Device.{take_log, log_out, fail_append}
 use Rattle.history_core.specs.Steps.{CanLog, pools, lanes, writes, notes, logs, Run, rests, goes}
 use Rattle.history_core.specs.Sample.{sample_store, sample_lane}
-use Rattle.history_core.specs.Put.{put_entry, put_bytes, change, write_out}
+use Rattle.history_core.specs.Put.{put_entry, put_bytes, write_out}
 use Rattle.history_core.specs.Crashes.{Survives, first, one_more}
 use Rattle.history_core.specs.Torn.{IsNext, later_page, torn_record, synced_log, tear, HasTorn, refuse, HasRefused, TornRuns, RefusedRuns, CrashRuns}
 use Rattle.history_core.proofs.Logs.{changed_image, cell_longer, cell_none}

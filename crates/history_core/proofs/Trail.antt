@@ -26,8 +26,11 @@ use Rattle.history_core.specs.Lanes.{lane_back}
 use Rattle.history_core.specs.Device.{view_logged}
 use Rattle.history_core.specs.State.{State, Store, next_hand, opening}
 use Rattle.history_core.specs.Invariant.{HistoryInvariant}
+use Rattle.history_core.specs.Laws.{Laws}
+use Rattle.history_core.specs.Hints.{FollowsHints}
+use Rattle.history_core.proofs.Hints.{hints_same, hints_unstored, hints_stored}
 use Rattle.history_core.specs.Trail.{sum_found, sum_left, Follows, IsHighest, TrailLaw, HasSameWords, ListedIsMade}
-use Rattle.history_core.specs.Steps.{Event, stepped, looked, pool_noting, paged, laned, has_read, has_written, Step, pools, lanes, writes, notes, logs, enters, reads, words, worded}
+use Rattle.history_core.specs.Steps.{Event, stepped, looked, pool_noting, paged, laned, has_read, has_written, Step, pools, lanes, writes, notes, logs, enters, reads, words, after_word}
 use Rattle.history_core.specs.Words.{flushed_word, hand_word, WordKind, raise_flushed, add_hand, word_at, number_after, word_set}
 use Rattle.grid.specs.Shape.{put, total}
 use Rattle.grid.proofs.Lists.{at_set, at_end, at_only, at_longer, put_at, put_else, set_here, set_else}
@@ -160,7 +163,7 @@ words_kept (notes {s = s} i q f noted k v there live low inside a x) m = let b :
 words_kept (logs {s = s} i k v there live a record_is) m = rests_aside s.pool.core.frame s.pool.core.views m i v (view_logged k v) there refl
 words_kept (enters {s = s} i f p ch v there live inside x) m = moves s.pool.core.frame s.pool.core.views m i f v (has_written ch (s.end + change_size ch) (s.pool.core.frame f).tag p (paged (make_entry p) s.pool f v)) (s.pool.core.frame f) there (lists_none f (s.pool.core.frame f).word v.changes)
 words_kept (reads {s = s} i f tag p v there live inside a) m = rests_aside s.pool.core.frame s.pool.core.views m i v (looked (seen.LogEnd s.end) (has_read s.end tag p v)) there refl
-words_kept (words {s = s} i k v there live a) m = rests_aside s.pool.core.frame s.pool.core.views m i v (worded k s v) there refl
+words_kept (words {s = s} i k v there live a) m = rests_aside s.pool.core.frame s.pool.core.views m i v (after_word k s v) there refl
 
 -- the moves that the views count
 abbrev pub Ticks : List View → ℕ
@@ -183,9 +186,9 @@ pools_ticks s (pin_steps.joins j v u there other here live free) = let w : View 
     let a = total-set (λ (y : View). y.ticks) s.pool.core.views 0 v w there in let c = total-set (λ (y : View). y.ticks) vs j u emptied_view also in omega arith
 
 -- a kind at a word
-hand_worded : (k : WordKind) (s : State) (i : ℕ) (v : View) → get_elem? s.pool.core.views i ≡ some v → s.hand ≡ Ticks s.pool.core.views % 18446744073709551616 → word_set (word_at k) (number_after k s) s hand_word ≡ Ticks (set s.pool.core.views i (worded k s v)) % 18446744073709551616
-hand_worded add_hand s i v there m = ap next_hand m ∙ hand_on (Ticks s.pool.core.views) ∙ ap (λ (n : ℕ). n % 18446744073709551616) (let a = total-set (λ (y : View). y.ticks) s.pool.core.views i v (worded add_hand s v) there in omega arith)
-hand_worded k s i v there m = m ∙ ap (λ (n : ℕ). n % 18446744073709551616) (sym (same_ticks s.pool.core.views i v (worded k s v) there refl))
+hand_after_word : (k : WordKind) (s : State) (i : ℕ) (v : View) → get_elem? s.pool.core.views i ≡ some v → s.hand ≡ Ticks s.pool.core.views % 18446744073709551616 → word_set (word_at k) (number_after k s) s hand_word ≡ Ticks (set s.pool.core.views i (after_word k s v)) % 18446744073709551616
+hand_after_word add_hand s i v there m = ap next_hand m ∙ hand_on (Ticks s.pool.core.views) ∙ ap (λ (n : ℕ). n % 18446744073709551616) (let a = total-set (λ (y : View). y.ticks) s.pool.core.views i v (after_word add_hand s v) there in omega arith)
+hand_after_word k s i v there m = m ∙ ap (λ (n : ℕ). n % 18446744073709551616) (sym (same_ticks s.pool.core.views i v (after_word k s v) there refl))
 
 hand_kept : {e : Event} {s t : State} → Step e s t → s.hand ≡ Ticks s.pool.core.views % 18446744073709551616 → t.hand ≡ Ticks t.pool.core.views % 18446744073709551616
 hand_kept (pools {s = s} (page_steps.cores x) a) m = m ∙ ap (λ (n : ℕ). n % 18446744073709551616) (sym (pools_ticks s x))
@@ -196,7 +199,7 @@ hand_kept (notes {s = s} i q f noted k v there live low inside a x) m = m ∙ ap
 hand_kept (logs {s = s} i k v there live a record_is) m = m ∙ ap (λ (n : ℕ). n % 18446744073709551616) (sym (same_ticks s.pool.core.views i v (view_logged k v) there refl))
 hand_kept (enters {s = s} i f p ch v there live inside x) m = m ∙ ap (λ (n : ℕ). n % 18446744073709551616) (sym (same_ticks s.pool.core.views i v (has_written ch (s.end + change_size ch) (s.pool.core.frame f).tag p (paged (make_entry p) s.pool f v)) there refl))
 hand_kept (reads {s = s} i f tag p v there live inside a) m = m ∙ ap (λ (n : ℕ). n % 18446744073709551616) (sym (same_ticks s.pool.core.views i v (looked (seen.LogEnd s.end) (has_read s.end tag p v)) there refl))
-hand_kept (words {s = s} i k v there live a) m = hand_worded k s i v there m
+hand_kept (words {s = s} i k v there live a) m = hand_after_word k s i v there m
 
 -- where one view raises the flushed position, or not
 pub highest_set : (flushed : ℕ) (views : List View) → IsHighest flushed views → (i : ℕ) (v w : View) → get_elem? views i ≡ some v → v.raised_to ≤ w.raised_to → IsHighest (max flushed w.raised_to) (set views i w)
@@ -239,9 +242,9 @@ pools_highest s from m (pin_steps.joins j v u there other here live free) = let 
     highest_taken s.flushed vs x 0 j w u (λ e. other (sym e)) (set_here s.pool.core.views 0 v w there) (set_else s.pool.core.views 0 j w other ∙ here) (omega arith)
 
 -- a kind at a word
-highest_worded : (k : WordKind) (s : State) (i : ℕ) (v : View) → get_elem? s.pool.core.views i ≡ some v → IsHighest s.flushed s.pool.core.views → IsHighest (word_set (word_at k) (number_after k s) s flushed_word) (set s.pool.core.views i (worded k s v))
-highest_worded raise_flushed s i v there m = let w : View = worded raise_flushed s v in subst (λ (n : ℕ). IsHighest n (set s.pool.core.views i w)) (let x = m.above i v there in omega arith) (highest_set s.flushed s.pool.core.views m i v w there (omega arith))
-highest_worded k s i v there m = highest_same s.flushed s.pool.core.views m i v (worded k s v) there refl
+highest_after_word : (k : WordKind) (s : State) (i : ℕ) (v : View) → get_elem? s.pool.core.views i ≡ some v → IsHighest s.flushed s.pool.core.views → IsHighest (word_set (word_at k) (number_after k s) s flushed_word) (set s.pool.core.views i (after_word k s v))
+highest_after_word raise_flushed s i v there m = let w : View = after_word raise_flushed s v in subst (λ (n : ℕ). IsHighest n (set s.pool.core.views i w)) (let x = m.above i v there in omega arith) (highest_set s.flushed s.pool.core.views m i v w there (omega arith))
+highest_after_word k s i v there m = highest_same s.flushed s.pool.core.views m i v (after_word k s v) there refl
 
 highest_kept : {e : Event} {s t : State} → Step e s t → HistoryInvariant s → IsHighest s.flushed s.pool.core.views → IsHighest t.flushed t.pool.core.views
 highest_kept (pools {s = s} (page_steps.cores x) a) h m = pools_highest s (let p = h.based in let q = h.flushed_from in omega arith) m x
@@ -252,7 +255,7 @@ highest_kept (notes {s = s} i q f noted k v there live low inside a x) h m = hig
 highest_kept (logs {s = s} i k v there live a record_is) h m = highest_same s.flushed s.pool.core.views m i v (view_logged k v) there refl
 highest_kept (enters {s = s} i f p ch v there live inside x) h m = highest_same s.flushed s.pool.core.views m i v (has_written ch (s.end + change_size ch) (s.pool.core.frame f).tag p (paged (make_entry p) s.pool f v)) there refl
 highest_kept (reads {s = s} i f tag p v there live inside a) h m = highest_same s.flushed s.pool.core.views m i v (looked (seen.LogEnd s.end) (has_read s.end tag p v)) there refl
-highest_kept (words {s = s} i k v there live a) h m = highest_worded k s i v there m
+highest_kept (words {s = s} i k v there live a) h m = highest_after_word k s i v there m
 
 pub trail_kept : {e : Event} {s t : State} → Step e s t → HistoryInvariant s → TrailLaw s → TrailLaw t
 trail_kept x h m = record { words = words_kept x m.words; hand = hand_kept x m.hand; flushed = highest_kept x h m.flushed }
@@ -301,19 +304,22 @@ pub next_tick : (hand hand' : ℕ) (views : List View) (i : ℕ) (v w : View) �
 next_tick hand hand' views i v w e e' there more = e' ∙ ap (λ (n : ℕ). n % 18446744073709551616) (let a = total-set (λ (y : View). y.ticks) views i v w there in omega arith) ∙ sym (hand_on (Ticks views)) ∙ ap next_hand (sym e)
 
 -- So of two states
-pub words_same : (s t : State) → TrailLaw s → TrailLaw t → s.pool.core.views ≡ t.pool.core.views → HasSameWords s t
+pub words_same : (s t : State) → Laws s → Laws t → s.pool.core.views ≡ t.pool.core.views → HasSameWords s t
 words_same s t a b same = record {
-  words = words_fixed t.pool.core.frame s.pool.core.frame t.pool.core.views b.words (subst (Follows s.pool.core.frame) same a.words);
-  hand = b.hand ∙ ap (λ (l : List View). Ticks l % 18446744073709551616) (sym same) ∙ sym a.hand;
-  flushed = highest_is t.flushed s.flushed t.pool.core.views b.flushed (subst (IsHighest s.flushed) same a.flushed);
+  words = words_fixed t.pool.core.frame s.pool.core.frame t.pool.core.views b.trail.words (subst (Follows s.pool.core.frame) same a.trail.words);
+  hand = b.trail.hand ∙ ap (λ (l : List View). Ticks l % 18446744073709551616) (sym same) ∙ sym a.trail.hand;
+  flushed = highest_is t.flushed s.flushed t.pool.core.views b.trail.flushed (subst (IsHighest s.flushed) same a.trail.flushed);
+  hints = hints_same t.hint s.hint t.pool.core.views b.hints.fixed (subst (FollowsHints s.hint) same a.hints.fixed);
 }
 
-pub listed_made : (s t : State) → TrailLaw s → TrailLaw t → ListedIsMade s t
-listed_made s t a b i v w there views = let words : Follows t.pool.core.frame (set s.pool.core.views i w) = subst (Follows t.pool.core.frame) views b.words in let hand : t.hand ≡ Ticks (set s.pool.core.views i w) % 18446744073709551616 = b.hand ∙ ap (λ (l : List View). Ticks l % 18446744073709551616) views in record {
-  still = λ same. words_fixed t.pool.core.frame s.pool.core.frame (set s.pool.core.views i w) words (rests_aside s.pool.core.frame s.pool.core.views a.words i v w there same);
-  changed = λ f c listed at was. next_word s.pool.core.frame t.pool.core.frame s.pool.core.views i f v w c.found c.left a.words words there (listed ∙ ap (λ (g : ℕ). v.changes ++ record c { frame = g } ∷ []) at) was;
-  others = λ f c listed other. other_word s.pool.core.frame t.pool.core.frame s.pool.core.views i f v w c a.words words there listed other;
-  unmoved = λ same. hand ∙ ap (λ (n : ℕ). n % 18446744073709551616) (same_ticks s.pool.core.views i v w there same) ∙ sym a.hand;
-  moved = λ more. next_tick s.hand t.hand s.pool.core.views i v w a.hand hand there more;
-  raised = λ more. highest_is t.flushed (max s.flushed w.raised_to) (set s.pool.core.views i w) (subst (IsHighest t.flushed) views b.flushed) (highest_set s.flushed s.pool.core.views a.flushed i v w there more);
+pub listed_made : (s t : State) → Laws s → Laws t → ListedIsMade s t
+listed_made s t a b i v w there views = let words : Follows t.pool.core.frame (set s.pool.core.views i w) = subst (Follows t.pool.core.frame) views b.trail.words in let hand : t.hand ≡ Ticks (set s.pool.core.views i w) % 18446744073709551616 = b.trail.hand ∙ ap (λ (l : List View). Ticks l % 18446744073709551616) views in record {
+  still = λ same. words_fixed t.pool.core.frame s.pool.core.frame (set s.pool.core.views i w) words (rests_aside s.pool.core.frame s.pool.core.views a.trail.words i v w there same);
+  changed = λ f c listed at was. next_word s.pool.core.frame t.pool.core.frame s.pool.core.views i f v w c.found c.left a.trail.words words there (listed ∙ ap (λ (g : ℕ). v.changes ++ record c { frame = g } ∷ []) at) was;
+  others = λ f c listed other. other_word s.pool.core.frame t.pool.core.frame s.pool.core.views i f v w c a.trail.words words there listed other;
+  unmoved = λ same. hand ∙ ap (λ (n : ℕ). n % 18446744073709551616) (same_ticks s.pool.core.views i v w there same) ∙ sym a.trail.hand;
+  moved = λ more. next_tick s.hand t.hand s.pool.core.views i v w a.trail.hand hand there more;
+  raised = λ more. highest_is t.flushed (max s.flushed w.raised_to) (set s.pool.core.views i w) (subst (IsHighest t.flushed) views b.trail.flushed) (highest_set s.flushed s.pool.core.views a.trail.flushed i v w there more);
+  unstored = λ same. hints_unstored s.hint t.hint s.pool.core.views a.hints.fixed i v w there (subst (FollowsHints t.hint) views b.hints.fixed) same;
+  stored = λ h listed was. hints_stored s.hint t.hint s.pool.core.views a.hints.fixed i v w h there (subst (FollowsHints t.hint) views b.hints.fixed) listed was;
 }

@@ -31,7 +31,7 @@ use Rattle.history_core.specs.Device.{view_logged}
 use Rattle.history_core.specs.State.{State, Store, opening}
 use Rattle.history_core.specs.Invariant.{HistoryInvariant}
 use Rattle.history_core.specs.Unentered.{IsEntered, NotesUnentered, IsUnentered, HoldsUnentered, IsHeldUnentered}
-use Rattle.history_core.specs.Steps.{Event, IsPlain, Notes, new_entry, stepped, looked, pool_noting, paged, laned, has_read, has_written, Step, pools, lanes, writes, notes, logs, enters, reads, words, worded}
+use Rattle.history_core.specs.Steps.{Event, IsPlain, Notes, new_entry, stepped, looked, pool_noting, paged, laned, has_read, has_written, Step, pools, lanes, writes, notes, logs, enters, reads, words, after_word}
 use Rattle.history_core.specs.Words.{WordKind, begin_checkpoint}
 use Rattle.history_core.proofs.Beginning.{BegunHere, link_begun}
 use Rattle.history_core.proofs.Histories.{at_last}
@@ -96,7 +96,7 @@ noted_kept (notes {s = s} i q f noted k v there live low inside a x) = noted_set
 noted_kept (logs {s = s} i k v there live a record_is) = noted_set s.pool.core.views i v (view_logged k v) there (all_noted v.unentered)
 noted_kept (enters {s = s} i f p c v there live inside x) = noted_set s.pool.core.views i v (has_written c (s.end + change_size c) (s.pool.core.frame f).tag p (paged (make_entry p) s.pool f v)) there (all_noted v.unentered)
 noted_kept (reads {s = s} i f tag p v there live inside a) = noted_set s.pool.core.views i v (looked (seen.LogEnd s.end) (has_read s.end tag p v)) there (all_noted v.unentered)
-noted_kept (words {s = s} i k v there live a) = noted_set s.pool.core.views i v (worded k s v) there (all_noted v.unentered)
+noted_kept (words {s = s} i k v there live a) = noted_set s.pool.core.views i v (after_word k s v) there (all_noted v.unentered)
 
 -- entries are made of frames that are marked dirty
 abbrev EntersDirtied : Link → Type 0
@@ -309,10 +309,10 @@ module _ (s : State) (h : HistoryInvariant s) (m : IsUnenteredLaw s) where
       law_touched n frame es es' views m longer i v w there (noted_set views i v w there (subst (KeepsNoted v.unentered) (sym noted) (noted_more k (frame f) l v.unentered))) f (frame_after k b (frame f)) l' inside r.here r.else
       (subst (MarkMoves (IsEntered es' (frame f).tag) (frame f) (frame_after k b (frame f)) l l') (sym noted) (pages_move (IsEntered es' (frame f).tag) k b (block_of s.pool.logged (frame f).tag) (frame f) l v.unentered (h.pool.pages.cells i v f there inside) (m.marked i f v there) needs))
 
-  words_law : (i : ℕ) (k : WordKind) (v : View) → get_elem? views i ≡ some v → UnenteredLaw n frame es (set views i (worded k s v))
-  words_law i begin_checkpoint v there = let w : View = worded begin_checkpoint s v in let begun : BegunHere v w = record { emptied = refl; number = refl; next = refl; joined = refl; links = refl; partitions = refl } in
+  words_law : (i : ℕ) (k : WordKind) (v : View) → get_elem? views i ≡ some v → UnenteredLaw n frame es (set views i (after_word k s v))
+  words_law i begin_checkpoint v there = let w : View = after_word begin_checkpoint s v in let begun : BegunHere v w = record { emptied = refl; number = refl; next = refl; joined = refl; links = refl; partitions = refl } in
       law_aside n frame es es views m same_entries i v w there (noted_set views i v w there (all_noted v.unentered)) (λ f. subst (Alike (link v f)) (sym (link_begun v w begun f)) (record { holds = λ x. record { right = x.right; dirtied = x.dirtied; unentered = x.unentered }; marked = λ x. x }))
-  words_law i k v there = aside_law i v (worded k s v) there refl refl
+  words_law i k v there = aside_law i v (after_word k s v) there refl refl
 
 pub unentered_kept : {e : Event} {s t : State} → Step e s t → HistoryInvariant s → IsUnenteredLaw s → IsUnenteredLaw t
 unentered_kept (pools {s = s} (page_steps.cores x) a) h m = pins_law s h m x

@@ -4,7 +4,7 @@ use Rattle.pin_core.specs.declared.view.View.{View}
 use Rattle.pin_core.specs.State.{link}
 use Rattle.history_core.specs.State.{State}
 use Rattle.history_core.specs.Words.{Word, end_word, flushed_word, is_word, word_of, WordKind, load_end, begin_checkpoint, word_at, number_after, word_set}
-use Rattle.history_core.specs.Steps.{unmarked, view_worded, state_set}
+use Rattle.history_core.specs.Steps.{unmarked, view_after_word, state_set}
 use Rattle.history_core.proofs.Beginning.{link_begun}
 
 -- in a state where one was set: the log's end is the one that such a state leaves
@@ -24,6 +24,6 @@ end_stays begin_checkpoint s e = refl
 end_stays _ s e = absurd (cc)
 
 -- no kind changes more of what the view has at a frame than a checkpoint's two notes
-pub link_left : (k : WordKind) (found end : ℕ) (v : View) (f : ℕ) → unmarked (link (view_worded k found end v) f) ≡ unmarked (link v f)
-link_left begin_checkpoint found end v f = ap unmarked (link_begun v (view_worded begin_checkpoint found end v) (record { emptied = refl; number = refl; next = refl; joined = refl; links = refl; partitions = refl }) f)
+pub link_left : (k : WordKind) (found end : ℕ) (v : View) (f : ℕ) → unmarked (link (view_after_word k found end v) f) ≡ unmarked (link v f)
+link_left begin_checkpoint found end v f = ap unmarked (link_begun v (view_after_word begin_checkpoint found end v) (record { emptied = refl; number = refl; next = refl; joined = refl; links = refl; partitions = refl }) f)
 link_left _ found end v f = refl

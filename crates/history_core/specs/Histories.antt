@@ -257,3 +257,7 @@ holds_log v = v.log.held
 -- and one has the log's latch where that is taken, and none where it isn't
 abbrev pub LogIsHeld : State → Type 0
 LogIsHeld s = count_by holds_log s.pool.core.views ≡ (if s.device.taken then 1 else 0)
+
+-- a hint word names no frame, by 0, or the frame f that is there, by f + 1
+abbrev pub HintsNameFrames : State → Type 0
+HintsNameFrames s = (number : ℕ) → s.hint number ≤ s.pool.core.frames

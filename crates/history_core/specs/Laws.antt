@@ -10,6 +10,7 @@ use Rattle.history_core.specs.Spent.{SpentLaw}
 use Rattle.history_core.specs.Ends.{EndsLaw}
 use Rattle.history_core.specs.Sound.{SoundLaw}
 use Rattle.history_core.specs.Trail.{TrailLaw}
+use Rattle.history_core.specs.Hints.{HintsLaw}
 use Rattle.history_core.specs.Histories.{IsReached}
 use Rattle.history_core.specs.Swept.{SweptLaw}
 
@@ -36,5 +37,7 @@ pub record Laws (s : State) : Type 0 where
   pub ends : EndsLaw s
   -- of the state words, the hand and the flushed position, which the views fix
   pub trail : TrailLaw s
+  -- of the hint words, which name frames that are there, and which the views fix
+  pub hints : HintsLaw s
   -- of what the lanes' syncs have covered
   pub swept : SweptLaw s

@@ -84,6 +84,8 @@ pub record State : Type 0 where
   pub flushed : ℕ
   -- the word of the clock's hand (`nextVictimBuffer`)
   pub hand : ℕ
+  -- the hint words: each names no frame, by 0, or the frame f, by f + 1
+  pub hint : ℕ → ℕ
 
 -- the page that the block's lane holds, up to which position the block's entries are in it, and whether the block's last write failed
 abbrev pub stored : State → ℕ → Option Page
@@ -174,4 +176,5 @@ opening c store p = record {
   end = c.base;
   flushed = c.base;
   hand = 0;
+  hint = λ _. 0;
 }

@@ -9,6 +9,7 @@ use Rattle.pin_core.specs.declared.view.LaneChange.{LaneChange}
 use Rattle.pin_core.specs.declared.view.LaneChange.TheVariants as lane_change
 use Rattle.pin_core.specs.declared.view.LaneHold.{LaneHold}
 use Rattle.pin_core.specs.declared.view.LogHold.{LogHold}
+use Rattle.pin_core.specs.declared.view.HintStore.{HintStore}
 use Rattle.pin_core.specs.declared.view.Load.{Load}
 use Rattle.pin_core.specs.declared.view.LoadedWord.{LoadedWord}
 use Rattle.pin_core.specs.declared.view.LoadedWord.TheVariants as seen
@@ -25,7 +26,7 @@ use Rattle.page_core.specs.Steps as page_steps
 use Rattle.page_core.specs.Steps.{logged_after}
 use Rattle.history_core.specs.Log.{Entry, Span, Change, image, is_image, ranges, resize, AreRanges, MayMake, change_size, record_bytes, with_spans}
 use Rattle.history_core.specs.State.{State, last_position}
-use Rattle.history_core.specs.Words.{Word, flushed_word, hand_word, word_of, WordKind, load_end, begin_checkpoint, load_flushed, raise_flushed, load_hand, add_hand, word_at, WordAllowed, number_after, word_set}
+use Rattle.history_core.specs.Words.{Word, flushed_word, hand_word, hint_word, word_of, WordKind, load_end, begin_checkpoint, load_flushed, raise_flushed, load_hand, add_hand, load_hint, store_hint, word_at, WordAllowed, number_after, word_set}
 use Rattle.history_core.specs.Lanes.{LaneKind, read_block, fail_read, write_block, fail_write, lane_back, LaneAllowed, lane_after, lane_changed, swept_by}
 use Rattle.history_core.specs.Device.{LogKind, append, fail_append, LogAllowed, device_after, view_logged}
 use Rattle.grid.specs.Shape.{put}
@@ -228,6 +229,7 @@ seen_by load_end found = Some (seen.LogEnd found)
 seen_by begin_checkpoint found = Some (seen.LogEnd found)
 seen_by load_flushed found = Some (seen.Flushed found)
 seen_by load_hand found = Some (seen.Hand found)
+seen_by (load_hint number) found = Some (seen.Hint number found)
 seen_by _ found = None
 
 abbrev pub loads_with : Option LoadedWord → View → List Load
@@ -269,9 +271,14 @@ abbrev pub ticks_by : WordKind → ℕ → ℕ
 ticks_by add_hand n = n + 1
 ticks_by _ n = n
 
+-- it lists what was found in a hint word, and what it left there
+abbrev pub hints_by : WordKind → ℕ → List HintStore → List HintStore
+hints_by (store_hint number value) found hs = hs ++ record { number = number; found = found; left = value } ∷ []
+hints_by _ found hs = hs
+
 -- What a kind makes of the view, where the log ends at `end`
-abbrev pub view_worded : WordKind → ℕ → ℕ → View → View
-view_worded k found end v = record v {
+abbrev pub view_after_word : WordKind → ℕ → ℕ → View → View
+view_after_word k found end v = record v {
   links = links_by k v.links;
   log = record v.log { end = log_end_by k found v.log };
   flushed = flushed_by k found v.flushed;
@@ -280,25 +287,26 @@ view_worded k found end v = record v {
   steps = steps_with (seen_by k found) v.steps;
   ticks = ticks_by k v.ticks;
   loads = loads_with (seen_by k found) v;
+  hints = hints_by k found v.hints;
   upto = upto_by k found v.upto;
 }
 
-abbrev pub worded : WordKind → State → View → View
-worded k s v = view_worded k (word_of (word_at k) s) s.end v
+abbrev pub after_word : WordKind → State → View → View
+after_word k s v = view_after_word k (word_of (word_at k) s) s.end v
 
 -- a view that has loaded the log's end, and one that has raised the flushed position to it
 abbrev pub has_loaded : ℕ → View → View
-has_loaded end v = view_worded load_end end end v
+has_loaded end v = view_after_word load_end end end v
 
 abbrev pub has_raised : ℕ → View → View
-has_raised end v = view_worded raise_flushed end end v
+has_raised end v = view_after_word raise_flushed end end v
 
--- The state where backend i has the view w, and the word has the number, if it is the flushed position or the hand. No kind changes the log's end, and nothing else changes
+-- The state where backend i has the view w, and the word has the number, unless it is the log's end, which no kind changes
 abbrev pub state_set : Word → ℕ → State → ℕ → View → State
-state_set at number s i w = record s { pool = aside s.pool i w; flushed = word_set at number s flushed_word; hand = word_set at number s hand_word }
+state_set at number s i w = record s { pool = aside s.pool i w; flushed = word_set at number s flushed_word; hand = word_set at number s hand_word; hint = λ j. word_set at number s (hint_word j) }
 
-abbrev pub state_worded : WordKind → State → ℕ → View → State
-state_worded k s i v = state_set (word_at k) (number_after k s) s i (worded k s v)
+abbrev pub state_after_word : WordKind → State → ℕ → View → State
+state_after_word k s i v = state_set (word_at k) (number_after k s) s i (after_word k s v)
 
 pub data Step : Event → State → State → Type 0 where
   -- a step of `page_core`
@@ -325,7 +333,7 @@ pub data Step : Event → State → State → Type 0 where
   reads : {s : State} (i f tag : ℕ) (p : Page) (v : View) → get_elem? s.pool.core.views i ≡ some v → v.emptied ≡ false → f < s.pool.core.frames → CanRead tag p (link v f)
       → Step (read i f) s (record s { pool = aside s.pool i (looked (seen.LogEnd s.end) (has_read s.end tag p v)) })
   -- a step at one of the other words by backend i, whose view is v
-  words : {s : State} (i : ℕ) (k : WordKind) (v : View) → get_elem? s.pool.core.views i ≡ some v → v.emptied ≡ false → WordAllowed k s v → Step (word i k) s (state_worded k s i v)
+  words : {s : State} (i : ℕ) (k : WordKind) (v : View) → get_elem? s.pool.core.views i ≡ some v → v.emptied ≡ false → WordAllowed k s v → Step (word i k) s (state_after_word k s i v)
 
 -- the events lead from one state to the other
 pub data Run : List Event → State → State → Type 0 where

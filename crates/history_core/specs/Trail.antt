@@ -4,10 +4,11 @@ use mathlib.Core.Option.{some}
 use lib.ListN.{get_elem?}
 use Rattle.state_word.specs.declared.word.StateWord.{StateWord}
 use Rattle.pin_core.specs.declared.view.View.{View}
+use Rattle.pin_core.specs.declared.view.HintStore.{HintStore}
 use Rattle.pin_core.specs.declared.view.WordChange.{WordChange}
 use Rattle.pin_core.specs.State.{Frame, zero_word}
 use Rattle.history_core.specs.State.{State, next_hand}
-use Rattle.grid.specs.Shape.{total}
+use Rattle.grid.specs.Shape.{put, total}
 
 -- a measure g of words, summed over those that the changes of the frame f found, and that they left
 unfoldable pub sum_found : (StateWord → ℕ) → ℕ → List WordChange → ℕ
@@ -36,11 +37,12 @@ pub record TrailLaw (s : State) : Type 0 where
   -- the flushed position
   pub flushed : IsHighest s.flushed s.pool.core.views
 
--- The frames of two states have the same state words, the hand stands at the same place, and the flushed position is the same
+-- The frames of two states have the same state words, the hand stands at the same place, and the flushed position and the hint words are the same
 pub record HasSameWords (s t : State) : Type 0 where
   pub words : (f : ℕ) → (t.pool.core.frame f).word ≡ (s.pool.core.frame f).word
   pub hand : t.hand ≡ s.hand
   pub flushed : t.flushed ≡ s.flushed
+  pub hints : (number : ℕ) → t.hint number ≡ s.hint number
 
 -- What one view, which was v in the state s and is w in the state t, lists and counts since has been made, and nothing else
 pub record MakesListed (s t : State) (v w : View) : Type 0 where
@@ -55,6 +57,11 @@ pub record MakesListed (s t : State) (v w : View) : Type 0 where
   pub moved : w.ticks ≡ v.ticks + 1 → t.hand ≡ next_hand s.hand
   -- the flushed position is the larger of what it was and of where the view has raised it to
   pub raised : v.raised_to ≤ w.raised_to → t.flushed ≡ max s.flushed w.raised_to
+  -- where it lists no store of a hint word more each hint word is as it was
+  pub unstored : w.hints ≡ v.hints → (number : ℕ) → t.hint number ≡ s.hint number
+  -- where it lists one more, which found the word's value, the word has the value left, and no other hint word changed
+  pub stored : (h : HintStore) → w.hints ≡ v.hints ++ h ∷ [] → h.found ≡ s.hint h.number
+      → (number : ℕ) → t.hint number ≡ put s.hint h.number h.left number
 
 -- one view alone differs between the two states
 abbrev pub ListedIsMade : State → State → Type 0

@@ -1,19 +1,25 @@
 -- The words of the table that no frame and no latch has, and the kinds of step at one.
-use Rattle.std.specs.Prelude.{◌≡◌, ℕ, Bool, true, false, max, if◌then◌else◌}
+use Rattle.std.specs.Prelude.{◌≡◌, ℕ, ◌*◌, ◌<◌, ◌≤◌, Bool, true, false, max, nat_eq, if◌then◌else◌}
 use Rattle.pin_core.specs.declared.view.View.{View}
 use Rattle.history_core.specs.State.{State, next_hand}
 
--- the log's end, the position up to which the log is flushed, and the clock's hand (`nextVictimBuffer`)
+-- the log's end, the position up to which the log is flushed, the clock's hand (`nextVictimBuffer`), and the hint words by their numbers
 pub data Word : Type 0 where
   end_word : Word
   flushed_word : Word
   hand_word : Word
+  hint_word : ℕ → Word
+
+-- how many hint words a table of n frames has
+abbrev pub hint_count : ℕ → ℕ
+hint_count n = 4 * n
 
 -- whether they are one word
 abbrev pub is_word : Word → Word → Bool
 is_word end_word end_word = true
 is_word flushed_word flushed_word = true
 is_word hand_word hand_word = true
+is_word (hint_word a) (hint_word b) = nat_eq a b
 is_word _ _ = false
 
 -- The numbers that the words have
@@ -21,14 +27,16 @@ pub record Words : Type 0 where
   pub end : ℕ
   pub flushed : ℕ
   pub hand : ℕ
+  pub hint : ℕ → ℕ
 
 abbrev pub words_of : State → Words
-words_of s = record { end = s.end; flushed = s.flushed; hand = s.hand }
+words_of s = record { end = s.end; flushed = s.flushed; hand = s.hand; hint = s.hint }
 
 abbrev pub word_in : Word → Words → ℕ
 word_in end_word w = w.end
 word_in flushed_word w = w.flushed
 word_in hand_word w = w.hand
+word_in (hint_word number) w = w.hint number
 
 -- the number that a word has
 abbrev pub word_of : Word → State → ℕ
@@ -44,6 +52,9 @@ pub data WordKind : Type 0 where
   -- the clock's hand is loaded, and moves on (`ClockSweepTick`)
   load_hand : WordKind
   add_hand : WordKind
+  -- the hint word of this number is loaded, and gets a value
+  load_hint : ℕ → WordKind
+  store_hint : ℕ → ℕ → WordKind
 
 -- the word that a kind is at
 abbrev pub word_at : WordKind → Word
@@ -53,16 +64,21 @@ word_at load_flushed = flushed_word
 word_at raise_flushed = flushed_word
 word_at load_hand = hand_word
 word_at add_hand = hand_word
+word_at (load_hint number) = hint_word number
+word_at (store_hint number value) = hint_word number
 
--- the flushed position is raised under the log's latch, after a sync
+-- the flushed position is raised under the log's latch, after a sync; the hint word is there, and the value names no frame or one that is there
 abbrev pub WordAllowed : WordKind → State → View → Type 0
 WordAllowed raise_flushed s v = v.log.synced ≡ true
+WordAllowed (load_hint number) s v = number < hint_count s.pool.core.frames
+WordAllowed (store_hint number value) s v = (number < hint_count s.pool.core.frames) × (value ≤ s.pool.core.frames)
 WordAllowed _ s v = Unit {0}
 
 -- the number that a kind leaves in its word
 abbrev pub number_after : WordKind → State → ℕ
 number_after raise_flushed s = max s.flushed s.end
 number_after add_hand s = next_hand s.hand
+number_after (store_hint number value) s = value
 number_after k s = word_of (word_at k) s
 
 -- the number that each word has where one of them has become `number`

@@ -26,7 +26,7 @@ ghost use Rattle.history_core.specs.Put.{PutRuns};
 ghost use Rattle.history_core.specs.Faults.{FaultRuns};
 ghost use Rattle.history_core.specs.Checkpoints.{CheckpointRuns};
 ghost use Rattle.history_core.specs.Evictions.{EvictionRuns, WaitRuns};
-ghost use Rattle.history_core.specs.Histories.{IsReached, BlocksAreThere, CallsAreLegal, ImagesAlone, ReadsAtBase, SyncsMakeDurable, SyncsCover, JoinedAreApart, CallsAreOwn, FrontsAreReached, CallsStay, CallsAreInOrder, LoadedIsFlushed, LanesGoOutFlushed, HoldsKeepFlushed, NotedWritesAreDone, LogIsHeld, WritesAreEntries, ReadsStand, WritesStand, LogBeforeData, LanesHoldFlushedPages, CleanBlocksAreStored, FramesAreSound, FramesHoldCells, LogWords, EntriesAreDurable, DeviceHoldsLog, LanesAreHeld};
+ghost use Rattle.history_core.specs.Histories.{IsReached, BlocksAreThere, CallsAreLegal, ImagesAlone, ReadsAtBase, SyncsMakeDurable, SyncsCover, JoinedAreApart, CallsAreOwn, FrontsAreReached, CallsStay, CallsAreInOrder, LoadedIsFlushed, LanesGoOutFlushed, HoldsKeepFlushed, NotedWritesAreDone, LogIsHeld, HintsNameFrames, WritesAreEntries, ReadsStand, WritesStand, LogBeforeData, LanesHoldFlushedPages, CleanBlocksAreStored, FramesAreSound, FramesHoldCells, LogWords, EntriesAreDurable, DeviceHoldsLog, LanesAreHeld};
 
 /// What every list of events keeps, whatever the backends do and in whatever order.
 pub fn all_histories()
@@ -81,6 +81,7 @@ pub fn all_histories()
     ensures unsound { (s : State) → Laws s → UnsoundStay s }
     ensures unsound_first { (s : State) → Laws s → UnsoundAreFirst s }
     ensures hold_cells { (s : State) → Laws s → FramesHoldCells s }
+    ensures hints { (s : State) → Laws s → HintsNameFrames s }
     ensures unique { (s : State) → Laws s → TagsAreUnique s.pool.core }
     ensures remembers { (s : State) → Laws s → PinsRemember s.pool.core }
 {}
@@ -120,12 +121,12 @@ pub fn ends_in_history()
     ensures { (s : State) → Laws s → EndsInHistory s }
 {}
 
-/// What the views list of the changes of state words, count of the moves of the clock's hand, and keep of where they raised the flushed position fixes each frame's state word, where the hand stands, and the flushed position.
+/// What the views list of the changes of state words and of the stores of hint words, count of the moves of the clock's hand, and keep of where they raised the flushed position fixes each frame's state word, each hint word, where the hand stands, and the flushed position.
 pub fn lists_fix_words()
     ensures { (s : State) (t : State) → Laws s → Laws t → s.pool.core.views ≡ t.pool.core.views → HasSameWords s t }
 {}
 
-/// A change of a state word that a view lists is made, and none that no view lists; and so with the moves of the clock's hand, and with where the flushed position was raised to.
+/// A change of a state word that a view lists is made, and none that no view lists; and so with the stores of hint words, with the moves of the clock's hand, and with where the flushed position was raised to.
 pub fn listed_changes_are_made()
     ensures { (s : State) (t : State) → Laws s → Laws t → ListedIsMade s t }
 {}

@@ -29,7 +29,8 @@ module _ {L G : Type 0} (contents : L → Option Pages) where
     pub unlocked : (f : ℕ) → HasLock Unlocked f p
 
   -- It has this token alone, and this content lock of its frame
-  pub record HasOnly (lock : Content) (pinned : Pinned) (m : Manager L G) (i : ℕ) (p : PassState) : Type 0 where
+  pub record HasOnly (lock : Content) (pinned : Pinned) (m : Manager L G) (i : ℕ)
+      (p : PassState) : Type 0 where
     pub is : IsNumber m i p
     pub token : IsPinnedFor pinned.tag pinned.frame p.tokens
     pub last : tokens_less pinned.frame p.tokens ≡ no_tokens

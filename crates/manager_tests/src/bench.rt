@@ -90,23 +90,34 @@ pub fn start(
     }
 }
 
-impl<L: BlockLane, G: LogDevice> Bench<L, G> {
-    /// The manager is closed.
-    pub fn close(self) -> (Vec<L>, G)
-        requires first { IsFree L.contents self.manager 0 self.first }
-        requires second { IsFree L.contents self.manager 1 self.second }
-        requires third { IsFree L.contents self.manager 2 self.third }
-    {
-        let Bench {
-            manager,
-            first,
-            second,
-            third,
-            mut passes,
-        } = self;
-        passes.push_reserved(third);
-        passes.push_reserved(first);
-        passes.push_reserved(second);
-        manager.close(passes)
-    }
+/// One of 64 blocks, whose pages tell their numbers, over a log that begins at 0.
+pub fn start_numbered(alloc: Global) -> Result<Bench<TestLane, TestLog>, AllocError>
+    ensures first { IfOk result (λ b. IsFreeIn b.manager 0 b.first) }
+    ensures second { IfOk result (λ b. IsFreeIn b.manager 1 b.second) }
+    ensures third { IfOk result (λ b. IsFreeIn b.manager 2 b.third) }
+    ensures first_unlocked { IfOk result (λ b. IsUnlockedIn b.manager b.first) }
+    ensures second_unlocked { IfOk result (λ b. IsUnlockedIn b.manager b.second) }
+    ensures third_unlocked { IfOk result (λ b. IsUnlockedIn b.manager b.third) }
+{
+    let lane = TestLane::numbered(None);
+    start(alloc, 64, lane, TestLog::new(alloc, 0), 0)
+}
+
+/// The manager is closed. `passes` is empty, with room for its three.
+pub fn close<L: BlockLane, G: LogDevice>(
+    manager: Manager<L, G>,
+    first: Pass,
+    second: Pass,
+    third: Pass,
+    mut passes: Vec<Pass>,
+) -> (Vec<L>, G)
+    requires first { IsFree L.contents manager 0 first }
+    requires second { IsFree L.contents manager 1 second }
+    requires third { IsFree L.contents manager 2 third }
+    requires room { (passes.items ≡ []) × (3 ≤ vec_capacity passes) }
+{
+    passes.push_reserved(third);
+    passes.push_reserved(first);
+    passes.push_reserved(second);
+    manager.close(passes)
 }

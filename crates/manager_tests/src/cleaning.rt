@@ -165,8 +165,10 @@ pub fn wait_and_ask<R: Threads + Wait + Sync>(
             ensures { IsFreeIn manager.entry.now 0 first.exit.now }
         { wait_beside(manager, rt, first, 0, block(0)) },
         &mut || -> Option<Asked>
-            requires { IsSync R.row × IsFreeIn manager.now 1 second.now × IsFreeIn manager.now 2 third.now }
-            ensures { IsFreeIn manager.entry.now 1 second.exit.now × IsFreeIn manager.entry.now 2 third.exit.now }
+            requires { IsSync R.row × IsFreeIn manager.now 1 second.now
+                × IsFreeIn manager.now 2 third.now }
+            ensures { IsFreeIn manager.entry.now 1 second.exit.now
+                × IsFreeIn manager.entry.now 2 third.exit.now }
         { ask_beside(manager, rt, second, third, alloc) },
     )
 }

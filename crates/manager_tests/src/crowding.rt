@@ -3,9 +3,8 @@ ghost use Rattle.backend_pass.specs.Managers.{Belongs};
 ghost use Rattle.manager_tests.specs.Bench.{IsFree, Returns};
 
 use crate::bench::block;
-use crate::reading::{Access, read_once};
-use backend_pass::{Manager, Pass, ReadError};
-use block_tag::Tag;
+use crate::reading::{Access, read_once, refusal};
+use backend_pass::{HintSeen, Manager, Pass, ReadError};
 use log_device::LogDevice;
 use segment_store::BlockLane;
 use std::sync::Wait;
@@ -18,27 +17,10 @@ pub struct Crowded {
     pub refused: Result<Access, ReadError>,
     /// By a pass that has eight tokens.
     pub full: Option<ReadError>,
+    /// What that pass saw of the block's hint.
+    pub unused: HintSeen,
     /// Once a frame was released.
     pub freed: Result<Access, ReadError>,
-}
-
-/// What a read is refused for, by a pass that may have tokens.
-fn refusal<L: BlockLane, G: LogDevice, R: Wait>(
-    manager: &Manager<L, G>,
-    rt: &R,
-    pass: &mut Pass,
-    tag: Tag,
-) -> Option<ReadError>
-    requires { Belongs L.contents manager.now pass.old }
-    ensures { Returns L.contents manager.now pass.old pass.new }
-{
-    match pass.read_buffer(manager, rt, tag, &mut None) {
-        Ok(pinned) => {
-            pass.release(manager, rt, pinned);
-            None
-        }
-        Err(why) => Some(why),
-    }
 }
 
 /// The first pass, which has seven tokens, pins an eighth block; the frames are all pinned then.
@@ -59,12 +41,14 @@ fn crowd<L: BlockLane, G: LogDevice, R: Wait>(
     let refused = read_once(manager, rt, third, 2, block(16), &mut None);
     let census = third.census().first_chunk::<16>().copied();
     let full = refusal(manager, rt, first, block(16));
+    let unused = first.hint_seen();
     first.release(manager, rt, pinned);
     let freed = read_once(manager, rt, third, 2, block(16), &mut None);
     Some(Crowded {
         census,
         refused,
         full,
+        unused,
         freed,
     })
 }

@@ -9,6 +9,8 @@ mod cleaning;
 #[cfg(test)]
 mod crowding;
 #[cfg(test)]
+mod hinting;
+#[cfg(test)]
 mod locking;
 pub mod putting;
 pub mod reading;

@@ -1,7 +1,8 @@
 //! Blocks that are read.
 ghost use Rattle.std.specs.Prelude.{IfErr, IfOk};
 ghost use Rattle.pin_core.specs.declared.view.Content.TheVariants.{Unlocked};
-ghost use Rattle.manager_tests.specs.Bench.{HasOnly, IsFree};
+ghost use Rattle.backend_pass.specs.Managers.{Belongs};
+ghost use Rattle.manager_tests.specs.Bench.{HasOnly, IsFree, Returns};
 
 use crate::bench::block;
 use access_rings::Ring;
@@ -31,7 +32,8 @@ pub fn pin<L: BlockLane, G: LogDevice, R: Wait>(
     ring: &mut Option<Ring>,
 ) -> Result<Pinned, ReadError>
     requires { IsFree L.contents manager.now _number pass.old }
-    ensures pinned { IfOk result (λ pinned. HasOnly L.contents Unlocked pinned manager.now _number pass.new) }
+    ensures pinned { IfOk result (λ pinned.
+        HasOnly L.contents Unlocked pinned manager.now _number pass.new) }
     ensures refused { IfErr result (λ _. IsFree L.contents manager.now _number pass.new) }
 {
     pass.read_buffer(manager, rt, tag, ring)
@@ -70,6 +72,25 @@ pub fn read_once<L: BlockLane, G: LogDevice, R: Wait>(
     };
     unpin(manager, rt, pass, _number, pinned);
     Ok(access)
+}
+
+/// What a read is refused for, by a pass that may have tokens.
+pub fn refusal<L: BlockLane, G: LogDevice, R: Wait>(
+    manager: &Manager<L, G>,
+    rt: &R,
+    pass: &mut Pass,
+    tag: Tag,
+) -> Option<ReadError>
+    requires { Belongs L.contents manager.now pass.old }
+    ensures { Returns L.contents manager.now pass.old pass.new }
+{
+    match pass.read_buffer(manager, rt, tag, &mut None) {
+        Ok(pinned) => {
+            pass.release(manager, rt, pinned);
+            None
+        }
+        Err(why) => Some(why),
+    }
 }
 
 /// Copies the page of a block. The place of the read.

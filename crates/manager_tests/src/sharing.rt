@@ -165,8 +165,10 @@ pub fn copy_beside<R: Threads + Wait + Sync>(
     let (torn, changes) = join_mut(
         rt,
         &mut || -> (Option<u32>, Option<u32>)
-            requires { IsSync R.row × IsFreeIn manager.now 0 first.now × IsFreeIn manager.now 1 second.now }
-            ensures { IsFreeIn manager.entry.now 0 first.exit.now × IsFreeIn manager.entry.now 1 second.exit.now }
+            requires { IsSync R.row × IsFreeIn manager.now 0 first.now
+                × IsFreeIn manager.now 1 second.now }
+            ensures { IsFreeIn manager.entry.now 0 first.exit.now
+                × IsFreeIn manager.entry.now 1 second.exit.now }
         { copy_often_twice(manager, rt, first, second, times, alloc) },
         &mut || -> Option<u32>
             requires { IsSync R.row × IsFreeIn manager.now 2 third.now }

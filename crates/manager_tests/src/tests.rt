@@ -1,10 +1,11 @@
 //! Managers that are run.
-use crate::bench::{Bench, block, start};
+use crate::bench::{Bench, block, close, start, start_numbered};
 use crate::choosing::read_in_order;
 use crate::cleaning::{
     Asked, NotAlone, OwnPins, try_not_alone, try_twice, try_twice_beside, wait_and_ask,
 };
 use crate::crowding::{Crowded, hold_first};
+use crate::hinting::{Sighted, hints_beside_own, sight_once};
 use crate::locking::{Refusals, try_beside_exclusive, try_beside_shared};
 use crate::putting::{flush_once, put_once};
 use crate::reading::{Access, copy_once, copy_shared, read_once};
@@ -12,7 +13,7 @@ use crate::sharing::{Copied, copy_all_twice, copy_beside};
 use crate::waiting::wait_at_both;
 use access_rings::{Ring, RingKind};
 use backend_pass::{
-    CleanupError, Config, FlushError, Manager, PutError, ReadError, Setting, StartError,
+    CleanupError, Config, FlushError, HintSeen, Manager, PutError, ReadError, Setting, StartError,
     StartRefused, TryCleanup, TryLock,
 };
 use block_tag::Catalog;
@@ -76,14 +77,7 @@ fn an_unsound_page_is_refused(rt: HostRuntime) -> Result<(), Fail> {
     let sound = read_once(&manager, &rt, &mut first, 0, block(4), &mut None);
     let unsound = read_once(&manager, &rt, &mut first, 0, block(5), &mut None);
     let past = read_once(&manager, &rt, &mut first, 0, block(0xFFFF_FFFE), &mut None);
-    let (lanes, _log) = Bench {
-        manager,
-        first,
-        second,
-        third,
-        passes,
-    }
-    .close();
+    let (lanes, _log) = close(manager, first, second, third, passes);
     assert_eq!(rt;
         sound,
         Ok(Access {
@@ -111,28 +105,16 @@ fn no_frame_is_left(rt: HostRuntime) -> Result<(), Fail> {
         mut second,
         mut third,
         passes,
-    } = start(
-        rt.alloc(),
-        64,
-        TestLane::numbered(None),
-        TestLog::new(rt.alloc(), 0),
-        0,
-    )?;
+    } = start_numbered(rt.alloc())?;
     let crowded = hold_first(&manager, &rt, &mut first, &mut second, &mut third, 0);
-    let (_lanes, _log) = Bench {
-        manager,
-        first,
-        second,
-        third,
-        passes,
-    }
-    .close();
+    let (_lanes, _log) = close(manager, first, second, third, passes);
     assert_eq!(rt;
         crowded,
         Some(Crowded {
             census: Some([0x8304_0001; 16]),
             refused: Err(ReadError::NoUnpinned { frames: 16 }),
             full: Some(ReadError::PinsFull),
+            unused: HintSeen::Unused,
             freed: Ok(Access {
                 frame: 15,
                 hit: false
@@ -152,30 +134,82 @@ fn fresh_frames_come_before_the_clock(rt: HostRuntime) -> Result<(), Fail> {
         second,
         third,
         passes,
-    } = start(
-        rt.alloc(),
-        64,
-        TestLane::numbered(None),
-        TestLog::new(rt.alloc(), 0),
-        0,
-    )?;
+    } = start_numbered(rt.alloc())?;
     let in_order = read_in_order(&manager, &rt, &mut first, 0, 16);
     let used = read_once(&manager, &rt, &mut first, 0, block(0), &mut None);
     let next = read_once(&manager, &rt, &mut first, 0, block(16), &mut None);
     let after = read_once(&manager, &rt, &mut first, 0, block(17), &mut None);
-    let (_lanes, _log) = Bench {
-        manager,
-        first,
-        second,
-        third,
-        passes,
-    }
-    .close();
+    let (_lanes, _log) = close(manager, first, second, third, passes);
     let access = |frame, hit| Ok(Access { frame, hit });
     assert_eq!(rt; in_order, Ok(16));
     assert_eq!(rt;
         (used, next, after),
         (access(0, true), access(1, false), access(2, false))
+    );
+    Ok(())
+}
+
+/// The blocks 0 and 64 have one hint word. It names no frame, then that of the block that was entered, or found by the map, last.
+#[test]
+fn a_right_hint_takes_no_latch(rt: HostRuntime) -> Result<(), Fail> {
+    let lane = TestLane::numbered(None);
+    let Bench {
+        manager,
+        mut first,
+        mut second,
+        third,
+        passes,
+    } = start(rt.alloc(), 65, lane, TestLog::new(rt.alloc(), 0), 0)?;
+    let found = [
+        sight_once(&manager, &rt, &mut first, 0, block(0)),
+        sight_once(&manager, &rt, &mut first, 0, block(0)),
+        sight_once(&manager, &rt, &mut first, 0, block(64)),
+        sight_once(&manager, &rt, &mut second, 1, block(0)),
+        sight_once(&manager, &rt, &mut first, 0, block(0)),
+    ];
+    let (_lanes, _log) = close(manager, first, second, third, passes);
+    let sighted = |frame, hit, hint, turns| {
+        let access = Access { frame, hit };
+        Ok(Sighted {
+            access,
+            hint,
+            turns,
+        })
+    };
+    let had = HintSeen::Had { frame: 0 };
+    let other = |number| HintSeen::Other { tag: block(number) };
+    assert_eq!(rt;
+        found,
+        [
+            sighted(0, false, HintSeen::Nothing, 2),
+            sighted(0, true, had, 2),
+            sighted(1, false, other(0), 4),
+            sighted(0, true, other(64), 1),
+            sighted(0, true, had, 4)
+        ]
+    );
+    Ok(())
+}
+
+#[test]
+fn a_hint_at_an_own_frame_is_passed_over(rt: HostRuntime) -> Result<(), Fail> {
+    let lane = TestLane::numbered(None);
+    let Bench {
+        manager,
+        mut first,
+        second,
+        third,
+        passes,
+    } = start(rt.alloc(), 65, lane, TestLog::new(rt.alloc(), 0), 0)?;
+    let seen = hints_beside_own(&manager, &rt, &mut first);
+    let (_lanes, _log) = close(manager, first, second, third, passes);
+    assert_eq!(rt;
+        seen,
+        Some([
+            HintSeen::Own { frame: 0 },
+            HintSeen::Unused,
+            HintSeen::Unused
+        ])
     );
     Ok(())
 }
@@ -188,22 +222,9 @@ fn pages_are_their_blocks_in_two_threads(rt: HostRuntime) -> Result<(), Fail> {
         mut second,
         third,
         passes,
-    } = start(
-        rt.alloc(),
-        64,
-        TestLane::numbered(None),
-        TestLog::new(rt.alloc(), 0),
-        0,
-    )?;
+    } = start_numbered(rt.alloc())?;
     let wrong = copy_all_twice(&manager, &rt, &mut first, &mut second, 64, rt.alloc());
-    let (lanes, _log) = Bench {
-        manager,
-        first,
-        second,
-        third,
-        passes,
-    }
-    .close();
+    let (lanes, _log) = close(manager, first, second, third, passes);
     assert_eq!(rt; wrong, (Some(0), Some(0)));
     assert!(rt;
         lanes
@@ -237,14 +258,7 @@ fn copies_beside_changes_are_whole(rt: HostRuntime) -> Result<(), Fail> {
         10000,
         rt.alloc(),
     );
-    let (_lanes, log) = Bench {
-        manager,
-        first,
-        second,
-        third,
-        passes,
-    }
-    .close();
+    let (_lanes, log) = close(manager, first, second, third, passes);
     assert_eq!(rt;
         copied,
         Copied {
@@ -264,23 +278,10 @@ fn a_content_lock_that_another_has_is_busy(rt: HostRuntime) -> Result<(), Fail> 
         mut second,
         third,
         passes,
-    } = start(
-        rt.alloc(),
-        64,
-        TestLane::numbered(None),
-        TestLog::new(rt.alloc(), 0),
-        0,
-    )?;
+    } = start_numbered(rt.alloc())?;
     let exclusive = try_beside_exclusive(&manager, &rt, &mut first, &mut second, block(0));
     let shared = try_beside_shared(&manager, &rt, &mut first, &mut second, block(0));
-    let (_lanes, _log) = Bench {
-        manager,
-        first,
-        second,
-        third,
-        passes,
-    }
-    .close();
+    let (_lanes, _log) = close(manager, first, second, third, passes);
     let busy = Some(TryLock::Busy { word: 262144 });
     assert_eq!(rt;
         exclusive,
@@ -332,14 +333,7 @@ fn two_puts_are_two_records(rt: HostRuntime) -> Result<(), Fail> {
     } = start(rt.alloc(), 64, TestLane::numbered(None), log, 0)?;
     let earlier = put_once(&manager, &rt, &mut first, 0, block(5), &page, &mut None);
     let later = put_once(&manager, &rt, &mut second, 1, block(5), &page, &mut None);
-    let (_lanes, log) = Bench {
-        manager,
-        first,
-        second,
-        third,
-        passes,
-    }
-    .close();
+    let (_lanes, log) = close(manager, first, second, third, passes);
     let mut expected = Vec::new(rt.alloc());
     expected.extend_from_slice(b"PGBUFLOG\0\0\0\0\0\0\0\0")?;
     push_record(&mut expected, 0, 0x2020, 7)?;
@@ -364,24 +358,11 @@ fn a_read_sees_what_another_put(rt: HostRuntime) -> Result<(), Fail> {
         mut second,
         third,
         passes,
-    } = start(
-        rt.alloc(),
-        64,
-        TestLane::numbered(None),
-        TestLog::new(rt.alloc(), 0),
-        0,
-    )?;
+    } = start_numbered(rt.alloc())?;
     let earlier = copy_shared(&manager, &rt, &mut first, 0, block(0), &mut before);
     let put = put_once(&manager, &rt, &mut second, 1, block(0), &page, &mut None);
     let later = copy_once(&manager, &rt, &mut first, 0, block(0), &mut after);
-    let (lanes, _log) = Bench {
-        manager,
-        first,
-        second,
-        third,
-        passes,
-    }
-    .close();
+    let (lanes, _log) = close(manager, first, second, third, passes);
     assert_eq!(rt; (earlier, put, later), (Ok(0), Some(Ok(8224)), Ok(8224)));
     assert_eq!(rt;
         (before.bytes()[8184], after.bytes()[8184], after.lsn()),
@@ -410,14 +391,7 @@ fn the_last_position_fills_the_log(rt: HostRuntime) -> Result<(), Fail> {
     )?;
     let earlier = put_once(&manager, &rt, &mut first, 0, block(5), &page, &mut None);
     let later = put_once(&manager, &rt, &mut first, 0, block(5), &page, &mut None);
-    let (_lanes, _log) = Bench {
-        manager,
-        first,
-        second,
-        third,
-        passes,
-    }
-    .close();
+    let (_lanes, _log) = close(manager, first, second, third, passes);
     assert_eq!(rt; earlier, Some(Ok(end)));
     assert_eq!(rt; later, Some(Err(PutError::LogFull { end })));
     Ok(())
@@ -442,14 +416,7 @@ fn a_position_behind_the_log_is_refused(rt: HostRuntime) -> Result<(), Fail> {
     )?;
     let put = put_once(&manager, &rt, &mut first, 0, block(5), &page, &mut None);
     let flushed = flush_once(&manager, &rt, &mut first, 0, block(5));
-    let (_lanes, _log) = Bench {
-        manager,
-        first,
-        second,
-        third,
-        passes,
-    }
-    .close();
+    let (_lanes, _log) = close(manager, first, second, third, passes);
     assert_eq!(rt; put, Some(Err(PutError::LogFull { end })));
     assert_eq!(rt;
         flushed,
@@ -473,14 +440,7 @@ fn an_append_that_failed_leaves_the_first_put_unflushed(rt: HostRuntime) -> Resu
     let earlier = put_once(&manager, &rt, &mut first, 0, block(5), &page, &mut None);
     let later = put_once(&manager, &rt, &mut first, 0, block(5), &page, &mut None);
     let flushed = flush_once(&manager, &rt, &mut first, 0, block(5));
-    let (_lanes, log) = Bench {
-        manager,
-        first,
-        second,
-        third,
-        passes,
-    }
-    .close();
+    let (_lanes, log) = close(manager, first, second, third, passes);
     assert_eq!(rt;
         (begun, earlier, later),
         (Ok(()), Some(Ok(8224)), Some(Err(PutError::LogFault)))
@@ -504,24 +464,11 @@ fn ringed<R: Wait>(
         second,
         third,
         passes,
-    } = start(
-        alloc,
-        64,
-        TestLane::numbered(None),
-        TestLog::new(alloc, 0),
-        0,
-    )?;
+    } = start_numbered(alloc)?;
     let _put = put_once(&manager, rt, &mut first, 0, block(0), &page, &mut ring);
     let earlier = read_once(&manager, rt, &mut first, 0, block(1), &mut ring);
     let later = read_once(&manager, rt, &mut first, 0, block(2), &mut ring);
-    let (lanes, log) = Bench {
-        manager,
-        first,
-        second,
-        third,
-        passes,
-    }
-    .close();
+    let (lanes, log) = close(manager, first, second, third, passes);
     Ok((
         earlier?,
         later?,
@@ -552,13 +499,7 @@ fn a_waiter_is_named_and_woken(rt: HostRuntime) -> Result<(), Fail> {
         mut second,
         mut third,
         passes,
-    } = start(
-        rt.alloc(),
-        64,
-        TestLane::numbered(None),
-        TestLog::new(rt.alloc(), 0),
-        0,
-    )?;
+    } = start_numbered(rt.alloc())?;
     let (waited, asked) = wait_and_ask(
         &manager,
         &rt,
@@ -567,14 +508,7 @@ fn a_waiter_is_named_and_woken(rt: HostRuntime) -> Result<(), Fail> {
         &mut third,
         rt.alloc(),
     );
-    let (_lanes, _log) = Bench {
-        manager,
-        first,
-        second,
-        third,
-        passes,
-    }
-    .close();
+    let (_lanes, _log) = close(manager, first, second, third, passes);
     assert_eq!(rt; waited, Some(None));
     assert_eq!(rt;
         asked,
@@ -594,22 +528,9 @@ fn a_try_that_is_not_alone_is_refused(rt: HostRuntime) -> Result<(), Fail> {
         mut second,
         third,
         passes,
-    } = start(
-        rt.alloc(),
-        64,
-        TestLane::numbered(None),
-        TestLog::new(rt.alloc(), 0),
-        0,
-    )?;
+    } = start_numbered(rt.alloc())?;
     let refusals = try_not_alone(&manager, &rt, &mut first, &mut second);
-    let (_lanes, _log) = Bench {
-        manager,
-        first,
-        second,
-        third,
-        passes,
-    }
-    .close();
+    let (_lanes, _log) = close(manager, first, second, third, passes);
     assert_eq!(rt;
         refusals,
         Some(NotAlone {
@@ -628,22 +549,9 @@ fn two_waiters_at_two_frames_are_woken(rt: HostRuntime) -> Result<(), Fail> {
         mut second,
         mut third,
         passes,
-    } = start(
-        rt.alloc(),
-        64,
-        TestLane::numbered(None),
-        TestLog::new(rt.alloc(), 0),
-        0,
-    )?;
+    } = start_numbered(rt.alloc())?;
     let (asked, waited) = wait_at_both(&manager, &rt, &mut first, &mut second, &mut third);
-    let (_lanes, _log) = Bench {
-        manager,
-        first,
-        second,
-        third,
-        passes,
-    }
-    .close();
+    let (_lanes, _log) = close(manager, first, second, third, passes);
     assert_eq!(rt;
         asked,
         (
@@ -663,23 +571,10 @@ fn a_try_with_two_tokens_is_refused(rt: HostRuntime) -> Result<(), Fail> {
         mut second,
         third,
         passes,
-    } = start(
-        rt.alloc(),
-        64,
-        TestLane::numbered(None),
-        TestLog::new(rt.alloc(), 0),
-        0,
-    )?;
+    } = start_numbered(rt.alloc())?;
     let beside = try_twice_beside(&manager, &rt, &mut first, &mut second, block(0));
     let alone = try_twice(&manager, &rt, &mut first, block(0));
-    let (_lanes, _log) = Bench {
-        manager,
-        first,
-        second,
-        third,
-        passes,
-    }
-    .close();
+    let (_lanes, _log) = close(manager, first, second, third, passes);
     let twice = Some(TryCleanup::LocalPins { count: 2 });
     let once = Some(TryCleanup::OtherPins { word: 0x8308_0002 });
     assert_eq!(rt; beside, Some(OwnPins { twice, once }));

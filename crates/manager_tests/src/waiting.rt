@@ -112,12 +112,15 @@ pub fn wait_at_both<R: Threads + Wait + Sync>(
     join_mut(
         rt,
         &mut || -> Answers
-            requires { IsSync R.row × IsFreeIn manager.now 2 third.now × IsUnlockedIn manager.now third.now }
+            requires { IsSync R.row × IsFreeIn manager.now 2 third.now
+                × IsUnlockedIn manager.now third.now }
             ensures { IsFreeIn manager.entry.now 2 third.exit.now }
         { ask_by_third(manager, rt, third) },
         &mut || -> Answers
-            requires { IsSync R.row × IsFreeIn manager.now 0 first.now × IsFreeIn manager.now 1 second.now }
-            ensures { IsFreeIn manager.entry.now 0 first.exit.now × IsFreeIn manager.entry.now 1 second.exit.now }
+            requires { IsSync R.row × IsFreeIn manager.now 0 first.now
+                × IsFreeIn manager.now 1 second.now }
+            ensures { IsFreeIn manager.entry.now 0 first.exit.now
+                × IsFreeIn manager.entry.now 1 second.exit.now }
         { wait_twice(manager, rt, first, second) },
     )
 }

@@ -3,7 +3,7 @@ ghost use Rattle.std.specs.Prelude.{true, false};
 ghost use Rattle.pin_core.specs.declared.view.MapChange.TheVariants.{Stable};
 ghost use Rattle.table_rule.specs.declared.turn.Turn.TheVariants.{Partition};
 ghost use Rattle.frame_table.specs.Seats.{CanTurn, Grows, SameSeat};
-ghost use Rattle.frame_table.specs.Latches.{DidTurn, IsTurned, MayLeave, SameWork};
+ghost use Rattle.frame_table.specs.Latches.{DidTurn, IsTurned, MayLeave, SameWork, view_counted};
 ghost use Rattle.map_partitions.specs.Partition.{HoldsLatch};
 
 use atomic_table::Seat;
@@ -23,7 +23,7 @@ pub fn take_turn<L: BlockLane, G: LogDevice, R: Wait>(
 )
     requires seat { CanTurn table.now seat.old (Partition partition) }
     ensures seat { SameSeat seat.old seat.new }
-    ensures work { SameWork seat.old.me.0 seat.new.me.0 }
+    ensures work { SameWork (view_counted true (Partition partition) seat.old.me.0) seat.new.me.0 }
     ensures grows { Grows seat.old.me.0 seat.new.me.0 }
     ensures turned { IsTurned true (Partition partition) seat.old.me.0 seat.new.me.0 }
     ensures holds { HoldsLatch Stable seat.new.me.0 partition }

@@ -5,9 +5,11 @@
 
 mod changes;
 mod entries;
+mod hints;
 mod latches;
 mod lookup;
 
 pub use changes::{enter, leave_out};
+pub use hints::{load_hint, store_hint};
 pub use latches::{give_turn, take_turn};
 pub use lookup::find;

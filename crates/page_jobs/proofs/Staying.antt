@@ -4,7 +4,7 @@ use Rattle.segment_store.specs.Contents.{Pages}
 use Rattle.std.specs.Prelude.{Option}
 use Rattle.backend_pass.specs.declared.manager.Manager.{Manager}
 use Rattle.backend_pass.specs.Managers.{Belongs}
-use Rattle.backend_pass.specs.Passes.{PassState, SamePass}
+use Rattle.backend_pass.specs.Passes.{KeepsCalls, KeepsLocks, KeepsMark, PassState, SamePass}
 use Rattle.backend_pass.proofs.Seated.{same_on}
 use Rattle.backend_pass.proofs.Keeping.{pass_none}
 use Rattle.page_jobs.specs.Reads.{Stays}
@@ -24,3 +24,7 @@ module _ {L G : Type 0} (contents : L → Option Pages) (m : Manager L G) where
     locks = λ f. b.locks f ∙ a.locks f;
     front = let x = a.front in let y = b.front in omega arith;
   }
+
+  -- a further read that keeps the pass's calls
+  pub stays_read : (p q r : PassState) → Stays contents m p q → Belongs contents m r → SamePass q r → KeepsMark q r → KeepsLocks q r → KeepsCalls q r → Stays contents m p r
+  stays_read p q r s b same mark locks calls = stays_on p q r s record { belongs = b; same = same; mark = mark; locks = locks; front = let front = calls.front in omega arith }

@@ -88,9 +88,14 @@ hold_after (map_out entries) h = record h { out = Some entries; seen = Some entr
 hold_after change_map h = record h { changed = true; seen = None }
 hold_after (map_back entries) h = record h { out = None; change = owed_by h.changed h.change; seen = Some entries }
 
+-- how many latches of partitions a view took, after the kind
+abbrev pub turns_after : TurnKind → ℕ → ℕ
+turns_after take_turn n = n + 1
+turns_after _ n = n
+
 -- What a kind at the partition p makes of the view
 abbrev pub view_turned : TurnKind → ℕ → PartitionHold → View → View
-view_turned k p h v = record v { partitions = slice_set v.partitions p (hold_after k h); steps = v.steps + 1 }
+view_turned k p h v = record v { partitions = slice_set v.partitions p (hold_after k h); steps = v.steps + 1; turns = turns_after k v.turns }
 
 -- what is summed over the views of a latch: those that hold it
 pub data TurnTally : Type 0 where

@@ -233,6 +233,10 @@ pub enum LoadedWord {
     Hand {
         hand: u64,
     },
+    Hint {
+        number: u64,
+        value: u64,
+    },
 }
 
 /// One load, with what the backend had done and pinned by then.
@@ -249,6 +253,27 @@ pub struct WordChange {
     pub frame: u64,
     pub found: StateWord,
     pub left: StateWord,
+}
+
+/// One store of a hint word: which word it is, what the backend found there, and what it left.
+pub struct HintStore {
+    pub number: u64,
+    pub found: u64,
+    pub left: u64,
+}
+
+/// One addition to a counter of the table: to which, and how much.
+pub struct Published {
+    pub count: u64,
+    pub more: u64,
+}
+
+/// A frame and a tag with which a pin of it has seen `BM_VALID`.
+pub struct Resident {
+    pub frame: u64,
+    pub tag: u64,
+    /// A later load by this backend showed the frame without `BM_VALID`, or with another tag word.
+    pub gone: bool,
 }
 
 /// One call of a device, and whether it was done.
@@ -330,12 +355,22 @@ pub struct View {
     pub place_loads: u64,
     /// How many steps other than loads the backend made.
     pub steps: u64,
+    /// How many times it took the latch of a partition.
+    pub turns: u64,
     /// How many times it moved the clock's hand on.
     pub ticks: u64,
+    /// How many tags it took from frames.
+    pub cleared: u64,
     /// The loads, in order.
     pub loads: [Load; 0],
     /// The changes of state words, in order.
     pub changes: [WordChange; 0],
+    /// The stores of hint words, in order.
+    pub hints: [HintStore; 0],
+    /// What it added to the counters of the table, in order.
+    pub published: [Published; 0],
+    /// The blocks that it has seen in frames.
+    pub residents: [Resident; 0],
     /// The log end at which the backend's checkpoint began, or 0.
     pub upto: u64,
     /// The checkpoints of the backends that were joined into this one.

@@ -9,7 +9,7 @@ use backend_pass::{FlushError, Manager, Met, Pass, PutError, ReadError};
 use bg_writer::Round;
 use checkpointer::{Checkpoint, CheckpointError};
 use log_device::LogDevice;
-use manager_tests::bench::{Bench, block};
+use manager_tests::bench::{Bench, block, close};
 use manager_tests::putting::{flush_once, put_once};
 use manager_tests::reading::{Access, copy_once, pin, read_once, unpin};
 use page_layout::{Lsn, Page};
@@ -203,14 +203,7 @@ pub fn play<R: Wait>(
         alloc,
     );
     let met = second.met();
-    let (lanes, log) = Bench {
-        manager,
-        first,
-        second,
-        third,
-        passes,
-    }
-    .close();
+    let (lanes, log) = close(manager, first, second, third, passes);
     Ok(Played {
         answers: answers?,
         calls: calls_of(&lanes, &log, alloc)?,

@@ -7,7 +7,7 @@ use crate::bench::start;
 use crate::devices::{ByteLog, PageLane};
 use crate::syncing::{checkpoint_once, round_once};
 use backend_pass::{Manager, Pass};
-use manager_tests::bench::{Bench, block};
+use manager_tests::bench::{Bench, block, close};
 use manager_tests::putting::put_once;
 use manager_tests::reading::copy_once;
 use page_layout::{Lsn, Page};
@@ -195,8 +195,10 @@ fn sync_beside<R: Threads + Wait + Sync>(
             ensures { IsFreeAndUnlockedIn manager.entry.now 2 third.exit.now }
         { sync_often(manager, rt, third, 2, job, 40) },
         &mut || -> (Option<u32>, Option<u32>)
-            requires { IsSync R.row × IsFreeIn manager.now 0 first.now × IsFreeIn manager.now 1 second.now }
-            ensures { IsFreeIn manager.entry.now 0 first.exit.now × IsFreeIn manager.entry.now 1 second.exit.now }
+            requires { IsSync R.row × IsFreeIn manager.now 0 first.now
+                × IsFreeIn manager.now 1 second.now }
+            ensures { IsFreeIn manager.entry.now 0 first.exit.now
+                × IsFreeIn manager.entry.now 1 second.exit.now }
         { use_often_twice(manager, rt, first, second, how, 200, alloc) },
     );
     Beside { used, upto }
@@ -236,13 +238,6 @@ pub fn run_beside<R: Threads + Wait + Sync>(
         job,
         alloc,
     );
-    let (lanes, log) = Bench {
-        manager,
-        first,
-        second,
-        third,
-        passes,
-    }
-    .close();
+    let (lanes, log) = close(manager, first, second, third, passes);
     Ok(Ran { beside, lanes, log })
 }

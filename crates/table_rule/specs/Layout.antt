@@ -1,8 +1,8 @@
 -- Where the words and the slots of a table of n frames lie, and what words say of blocks.
-use Rattle.std.specs.Prelude.{ℕ, ◌+◌, ◌*◌, List, [], ◌∷◌, Option, Some, None}
+use Rattle.std.specs.Prelude.{ℕ, ◌+◌, ◌*◌, ◌<◌, List, ◌∷◌, replicate, Option, Some, None}
 use Rattle.block_tag.specs.declared.tag.Tag.{Tag}
 use Rattle.block_tag.specs.Names.{unpacked_tag, partition_number, lane_number}
-use Rattle.history_core.specs.Words.{Word, end_word, flushed_word, hand_word}
+use Rattle.history_core.specs.Words.{Word, end_word, flushed_word, hand_word, hint_word, hint_count}
 use Rattle.table_rule.specs.declared.turn.Place.{Place}
 use Rattle.table_rule.specs.declared.turn.Place.TheVariants.{Page, Of}
 use Rattle.table_rule.specs.declared.turn.Turn.{Turn}
@@ -35,17 +35,19 @@ abbrev pub word_place : ℕ → Word → ℕ
 word_place n end_word = 3 * n + 145
 word_place n flushed_word = 3 * n + 146
 word_place n hand_word = 3 * n + 147
+word_place n (hint_word number) = 3 * n + 148 + number
 
 abbrev pub word_count : ℕ → ℕ
-word_count n = 3 * n + 148
+word_count n = 3 * n + 148 + hint_count n
 
 -- which of them a table of n frames has
 abbrev pub HasWord : ℕ → Word → Type 0
-HasWord n w = Unit {0}
+HasWord n (hint_word number) = number < hint_count n
+HasWord n _ = Unit {0}
 
 -- and their numbers at the start of a log at `base`, in the order of their places
 abbrev pub opening_numbers : ℕ → ℕ → List ℕ
-opening_numbers n base = base ∷ base ∷ 0 ∷ []
+opening_numbers n base = base ∷ base ∷ 0 ∷ replicate (hint_count n) 0
 
 -- the words of the log: its end, and how far it is flushed
 abbrev pub end_place : ℕ → ℕ
@@ -57,6 +59,10 @@ flushed_place n = word_place n flushed_word
 -- the hand of the clock
 abbrev pub hand_place : ℕ → ℕ
 hand_place n = word_place n hand_word
+
+-- the hint word of this number
+abbrev pub hint_place : ℕ → ℕ → ℕ
+hint_place n number = word_place n (hint_word number)
 
 -- the slot of a value
 abbrev pub slot_of : ℕ → Place → ℕ

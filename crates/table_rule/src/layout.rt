@@ -13,6 +13,9 @@ pub const FIRST_LANE: usize = PARTITIONS as usize;
 /// Where the log's latch and slot lie after those of the frames: after the lanes'.
 pub const LOG_PLACE: usize = FIRST_LANE + MOST_LANES;
 
+/// How many hint words there are for each frame.
+pub const HINTS_PER_FRAME: u32 = 4;
+
 /// How many slots follow those of the frames: what the latches guard, and the list in which the lanes came.
 pub const OTHER_SLOTS: usize = LOG_PLACE + 2;
 
@@ -56,4 +59,11 @@ pub fn hand_place(frames: u32) -> usize
     ensures { result ≡ layout.hand_place frames }
 {
     3 * frames as usize + LOG_PLACE + 3
+}
+
+/// The place of a hint word.
+pub fn hint_place(frames: u32, number: u32) -> usize
+    ensures { result ≡ layout.hint_place frames number }
+{
+    3 * frames as usize + LOG_PLACE + 4 + number as usize
 }

@@ -1,5 +1,5 @@
 -- Seats that hold nothing.
-use Rattle.std.proofs.Common.{◌≡◌, ◌≢◌, ℕ, Bool, true, false, List, Some, None, [], length, slice_index_or, sym, refl, ap, ◌∙◌, subst, arith}
+use Rattle.std.proofs.Common.{◌≡◌, ◌≢◌, ℕ, Bool, true, false, List, Option, Some, None, Err, [], length, slice_index_or, sym, refl, ap, ◌∙◌, subst, arith}
 use mathlib.Core.Logic.{dite}
 use native.Mathlib.Decide.{ℕ_discrete}
 use Rattle.state_word.specs.Fields.{fields}
@@ -12,17 +12,28 @@ use Rattle.pin_core.specs.declared.view.LaneHold.{LaneHold}
 use Rattle.pin_core.specs.declared.view.LogHold.{LogHold}
 use Rattle.pin_core.specs.declared.view.PartitionHold.{PartitionHold}
 use Rattle.pin_core.specs.declared.view.View.{View}
-use Rattle.pin_core.specs.State.{link, hold, no_lane, joined_view}
+use Rattle.pin_core.specs.State.{link, hold, no_lane, no_partition, joined_view}
 use Rattle.pin_core.specs.Steps.{HoldsNothing, HoldsNothingAt}
 use Rattle.table_rule.specs.declared.value.Value.{Value}
 use Rattle.frame_table.specs.declared.table.FrameTable.{FrameTable}
 use Rattle.frame_table.specs.Closes.{CanClose}
-use Rattle.frame_table.specs.Latches.{SameWork}
+use Rattle.table_rule.specs.declared.turn.Turn.TheVariants.{Partition}
+use Rattle.frame_table.specs.Latches.{SameWork, view_counted}
 use Rattle.frame_table.specs.Seats.{Fits, HoldsHeader, Looked, SameSeat, Touches, locked_link, pinned_link, unlocked_link, unpinned_link}
 use Rattle.frame_table.proofs.Resting.{rests_on, free_unpinned, new_rests}
 use Rattle.frame_table.proofs.Told.{looks_link, touches_on}
 use Rattle.frame_table.proofs.SameSeats.{same_seat_on}
-use Rattle.table_tests.specs.Work.{KeepsSeat, SeatHoldsNothing}
+use Rattle.segment_store.specs.Contents.{Pages}
+use Rattle.block_tag.specs.declared.tag.Tag.{Tag}
+use Rattle.held_pins.specs.Rests.{HasNoLatch, LinkRests, LinksRest, OnlyTokens, Stands}
+use Rattle.held_pins.specs.Tokens.{Tokens, held_at, no_tokens}
+use Rattle.buffer_frames.specs.declared.reading.BlockError.{BlockError}
+use Rattle.buffer_frames.specs.declared.reading.BlockError.TheVariants.{NoFrame, ReadFault, Unsound}
+use Rattle.buffer_frames.specs.Reads.{ReadAnswer}
+use Rattle.buffer_frames.specs.Stages.{Pins}
+use Rattle.buffer_frames.proofs.Calm.{pins_unpinned}
+use Rattle.held_pins.proofs.Resting.{new_has_no_tokens, rests_hold_nothing}
+use Rattle.table_tests.specs.Work.{IsFresh, KeepsSeat, SeatHoldsNothing}
 
 module _ {L G : Type 0} (t : FrameTable L G) where
   pub rests_first : (s : Seat (Value L G) View) → CanClose t s → SeatHoldsNothing t s
@@ -63,6 +74,38 @@ module _ {L G : Type 0} (t : FrameTable L G) (s s' : Seat (Value L G) View) (f w
     no_wait = locked.waits h.no_wait;
   })
 
+-- a backend without pins that reads a block, and gives its pin up
+module _ {L G : Type 0} (t : FrameTable L G) where
+  pub rests_stood : (held : Tokens) (s : Seat (Value L G) View) → held ≡ no_tokens → Stands t s → LinksRest held s.me.0 → HasNoLatch s.me.0 → SeatHoldsNothing t s
+  rests_stood held s none stands links latches = record { fits = stands.fits; live = stands.quiet.live; hand = stands.hand; free = rests_hold_nothing s.me.0 record { quiet = stands.quiet; links = subst (λ (x : Tokens). LinksRest x s.me.0) none links; latches = latches } }
+
+  pub rests_refused : (contents : L → Option Pages) (tag : Tag) (held : Tokens) (words : List ℕ) (v w : View) (why : BlockError) → ReadAnswer contents t tag held words v w (Err why) → LinksRest held w
+  rests_refused contents tag held words v w (NoFrame why) a = a.0
+  rests_refused contents tag held words v w (ReadFault failed) a = a.0
+  rests_refused contents tag held words v w (Unsound failed) a = a.0
+
+  pub rests_given_up : (tag f : ℕ) (held : Tokens) (s s' : Seat (Value L G) View) → held ≡ no_tokens → Stands t s → HasNoLatch s.me.0 → Pins tag f held s.me.0 → SameSeat s s' → Touches f s.me.0 s'.me.0 → Looked (unpinned_link (link s.me.0 f)) (link s'.me.0 f) → SeatHoldsNothing t s'
+  rests_given_up tag f held s s' none stands latches pinned same touches unpinned = record {
+    fits = same.table ∙ stands.fits;
+    live = ap (λ (x : View). x.emptied) touches.self ∙ stands.quiet.live;
+    hand = same.hand ∙ stands.hand;
+    free = record {
+      frames = λ g. let l = subst (λ (x : Tokens). LinkRests (held_at x g) (link s'.me.0 g)) none (pins_unpinned held tag f s.me.0 s'.me.0 pinned touches.others unpinned g) in record { no_pin = l.role; no_header = l.calm.no_header; no_content = l.unlocked refl; no_io = l.calm.no_io; page_home = l.calm.page_home; no_wait = l.calm.no_wait };
+      partitions = λ p. ap (λ (l : List PartitionHold). (slice_index_or l p no_partition).held) touches.partitions ∙ ap (λ (h : PartitionHold). h.held) (latches p);
+      lanes = λ n. ap (λ (l : List LaneHold). (slice_index_or l n no_lane).held) (ap (λ (x : View). x.lanes) touches.self) ∙ stands.quiet.free n;
+      log = ap (λ (x : View). x.log.held) touches.self ∙ ap (λ (h : LogHold). h.held) stands.quiet.log;
+    };
+  }
+
+  -- a backend that comes is fresh
+  pub fresh_split : (s : Seat (Value L G) View) (base : ℕ) (v : View) → Fits t s → s.me ≡ (split_view base v, []) → IsFresh t s
+  fresh_split s base v fits me = let same : s.me.0 ≡ split_view base v = ap (λ (m : Me (Value L G) View). m.0) me in record {
+    fits = fits;
+    hand = ap (λ (m : Me (Value L G) View). m.1) me;
+    rests = subst (OnlyTokens no_tokens) (sym same) (new_has_no_tokens v.next base (length v.links) (length v.partitions) (length v.lanes));
+    turns = ap (λ (x : View). x.turns) same;
+  }
+
 -- seats come and go
 module _ {L G : Type 0} (t : FrameTable L G) where
   pub rests_kept : (s s' : Seat (Value L G) View) → SeatHoldsNothing t s → SameSeat s s' → s'.me.0 ≡ kept_view s.me.0 → SeatHoldsNothing t s'
@@ -89,7 +132,7 @@ module _ {L G : Type 0} (t : FrameTable L G) where
 
 -- a seat that took a partition's latch and left it may close the table still
 module _ {L G : Type 0} (t : FrameTable L G) (s s' : Seat (Value L G) View) (p : ℕ) where
-  pub closes_turned : CanClose t s → s'.table_id ≡ s.table_id → s'.id ≡ s.id → s'.me.1 ≡ [] → SameWork s.me.0 s'.me.0 → (hold s'.me.0 p).held ≡ false → ((q : ℕ) → q ≢ p → hold s'.me.0 q ≡ hold s.me.0 q) → s'.me.0.lanes ≡ s.me.0.lanes → s'.me.0.log ≡ s.me.0.log → CanClose t s'
+  pub closes_turned : CanClose t s → s'.table_id ≡ s.table_id → s'.id ≡ s.id → s'.me.1 ≡ [] → SameWork (view_counted true (Partition p) s.me.0) s'.me.0 → (hold s'.me.0 p).held ≡ false → ((q : ℕ) → q ≢ p → hold s'.me.0 q ≡ hold s.me.0 q) → s'.me.0.lanes ≡ s.me.0.lanes → s'.me.0.log ≡ s.me.0.log → CanClose t s'
   closes_turned c table id hand work left others lanes log = record {
     fits = table ∙ c.fits;
     first = id ∙ c.first;

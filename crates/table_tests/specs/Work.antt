@@ -6,6 +6,8 @@ use Rattle.pin_core.specs.Steps.{HoldsNothing}
 use Rattle.table_rule.specs.declared.value.Value.{Value}
 use Rattle.frame_table.specs.declared.table.FrameTable.{FrameTable}
 use Rattle.frame_table.specs.Seats.{Fits}
+use Rattle.held_pins.specs.Rests.{OnlyTokens}
+use Rattle.held_pins.specs.Tokens.{no_tokens}
 
 module _ {L G : Type 0} where
   abbrev pub backends_of : FrameTable L G → ℕ
@@ -17,6 +19,13 @@ module _ {L G : Type 0} where
     pub live : s.me.0.emptied ≡ false
     pub hand : s.me.1 ≡ []
     pub free : HoldsNothing s.me.0
+
+  -- The seat is one of the table, and its backend has no pin and no latch, and took no partition's
+  pub record IsFresh (t : FrameTable L G) (s : Seat (Value L G) View) : Type 0 where
+    pub fits : Fits t s
+    pub hand : s.me.1 ≡ []
+    pub rests : OnlyTokens no_tokens s.me.0
+    pub turns : s.me.0.turns ≡ 0
 
   -- after a call the seat is the one before it, and its backend took no seat in or out
   pub record KeepsSeat (s s' : Seat (Value L G) View) : Type 0 where

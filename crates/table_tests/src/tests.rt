@@ -1,8 +1,10 @@
 //! Tables that are built and closed.
 use crate::fixture::table;
+use crate::hinting::{Sighted, sight_by_two};
 use crate::pinning::{refusal, refusal_of_two};
 use crate::positions::positions;
 use crate::values::count_entries;
+use buffer_frames::HintSeen;
 use frame_table::TryPin;
 use std::test::Fail;
 
@@ -22,6 +24,37 @@ fn a_header_that_another_has_is_locked(rt: HostRuntime) -> Result<(), Fail> {
     let refused = refusal_of_two(&table, &rt, &mut first, 3);
     let (_lanes, _log) = table.close(first);
     assert_eq!(rt; refused, Some(TryPin::Locked { word: 4194304 }));
+    Ok(())
+}
+
+/// A read whose hint can't be used comes into the first free frame.
+#[test]
+fn a_hint_at_a_frame_without_a_tag_is_passed_over(rt: HostRuntime) -> Result<(), Fail> {
+    let (table, mut seat) = table(rt.alloc())?;
+    let sighted = sight_by_two(&table, &rt, &mut seat, rt.alloc(), 4, 3);
+    let (_lanes, _log) = table.close(seat);
+    assert_eq!(rt;
+        sighted?,
+        Sighted {
+            hint: HintSeen::Untagged { word: 0 },
+            frame: Some(0)
+        }
+    );
+    Ok(())
+}
+
+#[test]
+fn a_hint_at_a_locked_frame_is_passed_over(rt: HostRuntime) -> Result<(), Fail> {
+    let (table, mut seat) = table(rt.alloc())?;
+    let sighted = sight_by_two(&table, &rt, &mut seat, rt.alloc(), 3, 3);
+    let (_lanes, _log) = table.close(seat);
+    assert_eq!(rt;
+        sighted?,
+        Sighted {
+            hint: HintSeen::Locked { word: 4194304 },
+            frame: Some(0)
+        }
+    );
     Ok(())
 }
 

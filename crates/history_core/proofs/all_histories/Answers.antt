@@ -136,3 +136,6 @@ returns-clause-written_have c = written_have
 
 pub returns-clause-crashes : goal.returns-clause-crashes
 returns-clause-crashes c = crashes_redo
+
+pub returns-clause-hints : goal.returns-clause-hints
+returns-clause-hints c = λ s r. r.hints.named

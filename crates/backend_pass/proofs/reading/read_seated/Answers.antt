@@ -1,9 +1,12 @@
-use Rattle.std.proofs.Common.{◌≡◌, ◌∙◌, subst}
+use Rattle.std.proofs.Common.{◌≡◌, ◌∙◌, ap, sym, subst}
 use Rattle.std.specs.Prelude.{is_some}
 use Rattle.block_tag.specs.Names.{lane_number}
-use Rattle.frame_table.specs.Seats.{OnlyRises, lanes_in}
-use Rattle.held_pins.specs.Rests.{HasNoDevice, HasNoLatch, LinksRest, kept_by_calls, SameLocks}
-use Rattle.buffer_frames.specs.Reads.{ReadAnswer, ReadCalls, met_read_block}
+use Rattle.pin_core.specs.declared.view.View.{View}
+use Rattle.frame_table.specs.Seats.{OnlyRises, frames_of, lanes_in}
+use Rattle.held_pins.specs.Rests.{HasNoDevice, HasNoLatch, LinksRest, SameLocks}
+use Rattle.buffer_frames.specs.Outside.{kept_by_block_reads, shown_count}
+use Rattle.buffer_frames.specs.Hinting.{TakesTurns}
+use Rattle.buffer_frames.specs.Reads.{ReadAnswer, ReadCalls, ReadNotes, met_read_block}
 use Rattle.backend_pass.specs.Passes.{view_in}
 use Rattle.backend_pass.proofs.Seated.{moved, moved_one, same_badge}
 use Rattle.backend_pass.proofs.reading.read_seated.Goals as goal
@@ -26,6 +29,9 @@ read_block-answer-requires-clause-latches g c =
     let before = c.take_seat-seat.ensures.view in
     subst HasNoLatch before c.requires.seated.rests.latches
 
+pub read_block-answer-requires-clause-counted : goal.read_block-answer-requires-clause-counted
+read_block-answer-requires-clause-counted g c = c.requires.counted ∙ ap (λ (v : View). shown_count v.turns) c.take_seat-seat.ensures.view
+
 pub returns-clause-badge : goal.returns-clause-badge
 returns-clause-badge g c = same_badge {L = g.row.L.Denot} {G = g.row.G.Denot} _ _ _ _ c.take_seat-seat.ensures c.read_block-answer.ensures.seat c.return_seat.ensures
 
@@ -38,7 +44,7 @@ returns-clause-latches g c = moved_one HasNoLatch (view_in c.return_seat.new.bad
 pub returns-clause-kept : goal.returns-clause-kept
 returns-clause-kept g c =
     let before = c.take_seat-seat.ensures.view in
-    moved (λ v w. kept_by_calls w ≡ kept_by_calls v) (view_in c.args.badge.now.views) (view_in c.return_seat.new.badge.views) c.take_seat-seat.result.me.0 c.read_block-answer.new.seat.me.0 before c.return_seat.ensures.view c.read_block-answer.ensures.kept
+    moved (λ v w. kept_by_block_reads w ≡ kept_by_block_reads v) (view_in c.args.badge.now.views) (view_in c.return_seat.new.badge.views) c.take_seat-seat.result.me.0 c.read_block-answer.new.seat.me.0 before c.return_seat.ensures.view c.read_block-answer.ensures.kept
 
 pub returns-clause-advances : goal.returns-clause-advances
 returns-clause-advances g c =
@@ -59,10 +65,23 @@ returns-clause-met g c =
 pub returns-clause-calls : goal.returns-clause-calls
 returns-clause-calls g c =
     let before = c.take_seat-seat.ensures.view in
-    moved (λ v w. ReadCalls (lane_number c.args.tag.now (lanes_in c.args.manager.now.table)) c.args.tag.now (is_some c.args.ring.now) v w c.read_block-answer.result)
+    moved (λ v w. ReadCalls (frames_of c.args.manager.now.table) c.args.tag.now c.args.held.now (is_some c.args.ring.now) c.read_block-answer.new.sought.hint (lane_number c.args.tag.now (lanes_in c.args.manager.now.table)) v w c.read_block-answer.result)
     (view_in c.args.badge.now.views) (view_in c.return_seat.new.badge.views) c.take_seat-seat.result.me.0 c.read_block-answer.new.seat.me.0 before c.return_seat.ensures.view c.read_block-answer.ensures.calls
 
 pub returns-clause-locks : goal.returns-clause-locks
 returns-clause-locks g c =
     let before = c.take_seat-seat.ensures.view in
     moved SameLocks (view_in c.args.badge.now.views) (view_in c.return_seat.new.badge.views) c.take_seat-seat.result.me.0 c.read_block-answer.new.seat.me.0 before c.return_seat.ensures.view c.read_block-answer.ensures.locks
+
+pub returns-clause-counted : goal.returns-clause-counted
+returns-clause-counted g c = c.read_block-answer.ensures.counted ∙ ap (λ (v : View). shown_count v.turns) (sym c.return_seat.ensures.view)
+
+pub returns-clause-turns : goal.returns-clause-turns
+returns-clause-turns g c =
+    let before = c.take_seat-seat.ensures.view in
+    moved (λ v w. TakesTurns c.read_block-answer.new.sought.hint v.turns w.turns) (view_in c.args.badge.now.views) (view_in c.return_seat.new.badge.views) c.take_seat-seat.result.me.0 c.read_block-answer.new.seat.me.0 before c.return_seat.ensures.view c.read_block-answer.ensures.turns
+
+pub returns-clause-hints : goal.returns-clause-hints
+returns-clause-hints g c =
+    let before = c.take_seat-seat.ensures.view in
+    moved (λ v w. ReadNotes (frames_of c.args.manager.now.table) c.args.tag.now c.read_block-answer.new.sought.hint v.hints w.hints c.read_block-answer.result) (view_in c.args.badge.now.views) (view_in c.return_seat.new.badge.views) c.take_seat-seat.result.me.0 c.read_block-answer.new.seat.me.0 before c.return_seat.ensures.view c.read_block-answer.ensures.hints

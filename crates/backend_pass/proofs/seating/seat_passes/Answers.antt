@@ -33,6 +33,7 @@ loop-number-init g c =
       view = ap (λ (p : PassState). p.view) e ∙ ap (λ (m : Me (Value g.row.L.Denot g.row.G.Denot) View). m.0) c.requires.seat.2 ∙ ap (λ (b : ℕ). first_view b k.config.frames 128 k.config.lanes) (sym c.requires.base);
       tokens = ap (λ (p : PassState). p.tokens) e;
       census = ap (λ (p : PassState). p.census) e ∙ fresh_last (frames_of c.args.manager.now.table) c.take_last.new.self.items c.take_last.result fresh;
+      hint = ap (λ (p : PassState). p.hint) e;
       counted = omega (arith, ok.0);
       each = subst (OthersAreNew {L = g.row.L.Denot} {G = g.row.G.Denot} g.L.BlockLane.contents c.args.manager.now c.args.count) (sym c.requires.room.0) (others_none {L = g.row.L.Denot} {G = g.row.G.Denot} g.L.BlockLane.contents c.args.manager.now c.args.count);
       wide = c.requires.room.1;
@@ -52,7 +53,7 @@ loop-number-preserved g c =
     let number : c.loop-number.number ≡ length c.loop-number.passes.items + 1 = omega (arith, ok.0) in
     let fresh : AreForFrames (frames_of c.args.manager.now.table) (c.take_last-in-loop-number.new.self.items ++ c.take_last-in-loop-number.result ∷ []) = subst (AreForFrames (frames_of c.args.manager.now.table)) c.take_last-in-loop-number.ensures.items i.fresh in
     let new : IsNewPass {L = g.row.L.Denot} {G = g.row.G.Denot} g.L.BlockLane.contents c.args.manager.now c.args.count (length c.loop-number.passes.items + 1) c.split-pass.result = split_of_first {L = g.row.L.Denot} {G = g.row.G.Denot} g.L.BlockLane.contents c.args.manager.now c.args.count c.split-pass.result c.loop-number.first.view c.args.base c.loop-number.number (length c.loop-number.passes.items) s.view i.view number c.requires.base
-    (s.table ∙ i.table) s.fresh.0 (s.fresh.1 ∙ fresh_last (frames_of c.args.manager.now.table) c.take_last-in-loop-number.new.self.items c.take_last-in-loop-number.result fresh) in record {
+    (s.table ∙ i.table) s.fresh.0 (s.fresh.1 ∙ fresh_last (frames_of c.args.manager.now.table) c.take_last-in-loop-number.new.self.items c.take_last-in-loop-number.result fresh) s.fresh.2 in record {
       memories = omega arith;
       fresh = fresh_front (frames_of c.args.manager.now.table) c.take_last-in-loop-number.new.self.items c.take_last-in-loop-number.result fresh;
       table = ap (λ (p : PassState). p.table) s.first ∙ i.table;
@@ -60,6 +61,7 @@ loop-number-preserved g c =
       view = ap (λ (p : PassState). p.view) s.first ∙ ap kept_view i.view;
       tokens = ap (λ (p : PassState). p.tokens) s.first ∙ i.tokens;
       census = ap (λ (p : PassState). p.census) s.first ∙ i.census;
+      hint = ap (λ (p : PassState). p.hint) s.first ∙ i.hint;
       counted = omega arith;
       each = subst (OthersAreNew {L = g.row.L.Denot} {G = g.row.G.Denot} g.L.BlockLane.contents c.args.manager.now c.args.count) (sym c.push_reserved.ensures.items) (others_with {L = g.row.L.Denot} {G = g.row.G.Denot} g.L.BlockLane.contents c.args.manager.now c.args.count c.loop-number.passes.items c.split-pass.result i.each new);
       wide = omega arith;
@@ -74,7 +76,7 @@ returns g c =
     let within = c.loop-number.auto.number-end in
     let some = c.requires.count.0 in
     let number : c.loop-number.number ≡ c.args.count = omega arith in
-    let first = first_counted {L = g.row.L.Denot} {G = g.row.G.Denot} g.L.BlockLane.contents c.args.manager.now c.args.count c.loop-number.first c.args.base c.loop-number.number i.view number c.requires.base i.table i.tokens i.census in
+    let first = first_counted {L = g.row.L.Denot} {G = g.row.G.Denot} g.L.BlockLane.contents c.args.manager.now c.args.count c.loop-number.first c.args.base c.loop-number.number i.view number c.requires.base i.table i.tokens i.census i.hint in
     let long = c.push_reserved-2.ensures.len in
     let wide : vec_len c.push_reserved-2.new.self ≡ length c.loop-number.passes.items + 1 = omega (arith, ok.0) in
     let back = c.rotate_right.ensures.items ∙ ap (λ (l : List PassState). drop (vec_len c.push_reserved-2.new.self - 1) l ++ take (vec_len c.push_reserved-2.new.self - 1) l) c.push_reserved-2.ensures.items

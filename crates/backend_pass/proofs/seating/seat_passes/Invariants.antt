@@ -3,6 +3,7 @@ use Rattle.std.specs.Prelude.{vec_capacity}
 use Rattle.clock_sweep.specs.CensusList.{new_census}
 use Rattle.frame_table.specs.Seats.{frames_of}
 use Rattle.held_pins.specs.Tokens.{no_tokens}
+use Rattle.buffer_frames.specs.declared.hinting.HintSeen.TheVariants.{Unused}
 use Rattle.backend_pass.specs.PassMemories.{AreForFrames}
 use Rattle.backend_pass.proofs.Starting.{OthersAreNew, first_at}
 use Rattle.backend_pass.proofs.seating.seat_passes.Given as goal
@@ -16,6 +17,7 @@ invariant-loop-number g l = record {
   view : l.first.view ≡ first_at l.fn.base l.fn.manager.table.table.shared.key.config.frames 128 l.fn.manager.table.table.shared.key.config.lanes l.number;
   tokens : l.first.tokens ≡ no_tokens;
   census : l.first.census ≡ new_census (frames_of l.fn.manager.table);
+  hint : l.first.hint ≡ Unused;
   counted : vec_len l.passes + 1 ≡ l.number;
   each : OthersAreNew {L = g.row.L.Denot} {G = g.row.G.Denot} g.L.BlockLane.contents l.fn.manager l.fn.count l.passes.items;
   wide : l.fn.count ≤ vec_capacity l.passes;

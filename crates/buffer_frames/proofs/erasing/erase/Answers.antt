@@ -1,18 +1,40 @@
 use Rattle.frame_table.proofs.Told.{grows_on}
 use Rattle.buffer_frames.proofs.Calm.{victim_worked}
 use Rattle.buffer_frames.proofs.Latching.{latch_left_as}
-use Rattle.buffer_frames.proofs.Outside.{links_worked}
+use Rattle.buffer_frames.proofs.Outside.{Searched, links_worked, searched_under, stands_searched}
 use Rattle.buffer_frames.proofs.SameLocks.{same_locks_latched}
+use Rattle.std.proofs.Common.{◌∙◌}
+use Rattle.frame_table.proofs.SameSeats.{same_seat_on}
+use Rattle.buffer_frames.proofs.erasing.erase.Given.{Over}
 use Rattle.buffer_frames.proofs.erasing.erase.Goals as goal
 
 pub returns-clause-latches : goal.returns-clause-latches
 returns-clause-latches g c = latch_left_as _ _ c.erase_latched-erased.new.seat.me.0 c.give_turn.new.seat.me.0 c.partition-partition.ensures.value c.erase_latched-erased.ensures.latch c.give_turn.ensures.turned
 
 pub returns-clause-grows : goal.returns-clause-grows
-returns-clause-grows g c = grows_on _ c.erase_latched-erased.new.seat.me.0 _ (grows_on _ c.take_turn.new.seat.me.0 _ c.take_turn.ensures.grows c.erase_latched-erased.ensures.grows) c.give_turn.ensures.grows
+returns-clause-grows g c = grows_on _ c.erase_latched-erased.new.seat.me.0 _ (grows_on _ c.take_counted.new.seat.me.0 _ c.take_counted.ensures.grows c.erase_latched-erased.ensures.grows) c.give_turn.ensures.grows
 
 pub returns-clause-victim : goal.returns-clause-victim
 returns-clause-victim g c = victim_worked c.args.held.now c.args.frame c.erase_latched-erased.new.seat.me.0 c.give_turn.new.seat.me.0 (links_worked c.erase_latched-erased.new.seat.me.0 c.give_turn.new.seat.me.0 c.give_turn.ensures.work) c.erase_latched-erased.ensures.victim
 
 pub returns-clause-locks : goal.returns-clause-locks
-returns-clause-locks g c = same_locks_latched c.args.seat.now.me.0 c.take_turn.new.seat.me.0 c.erase_latched-erased.new.seat.me.0 c.give_turn.new.seat.me.0 c.take_turn.ensures.work c.erase_latched-erased.ensures.locks c.give_turn.ensures.work
+returns-clause-locks g c = same_locks_latched c.partition-partition.result c.args.seat.now.me.0 c.take_counted.new.seat.me.0 c.erase_latched-erased.new.seat.me.0 c.give_turn.new.seat.me.0 c.take_counted.ensures.work c.erase_latched-erased.ensures.locks c.give_turn.ensures.work
+
+module _ (g : Over) (c : goal.After-give_turn g) where
+  searches : Searched c.args.seat.now.me.0 c.take_counted.new.seat.me.0 c.give_turn.new.seat.me.0
+  searches = let k = c.take_counted.ensures in let u = c.give_turn.ensures in searched_under c.partition-partition.result c.args.seat.now.me.0 c.take_counted.new.seat.me.0 c.erase_latched-erased.new.seat.me.0 c.give_turn.new.seat.me.0 k.work k.turned.2 k.turned.3 c.erase_latched-erased.ensures.same u.work u.turned.2 u.turned.3
+
+pub returns-clause-same : goal.returns-clause-same
+returns-clause-same g c = (searches g c).same
+
+pub returns-clause-stands : goal.returns-clause-stands
+returns-clause-stands g c = stands_searched _ c.args.seat.now c.give_turn.new.seat (same_seat_on _ _ _ (same_seat_on _ _ _ c.take_counted.ensures.seat c.erase_latched-erased.ensures.seat) c.give_turn.ensures.seat) (searches g c).same c.requires.stands
+
+pub returns-clause-counted : goal.returns-clause-counted
+returns-clause-counted g c = c.take_counted.ensures.counted ∙ (searches g c).shown
+
+pub returns-clause-turns : goal.returns-clause-turns
+returns-clause-turns g c = (searches g c).turns
+
+pub returns-clause-hints : goal.returns-clause-hints
+returns-clause-hints g c = (searches g c).hints

@@ -1,27 +1,68 @@
+use Rattle.std.proofs.Common.{◌≡◌, ℕ, ◌+◌, Some, arith, ap, sym, subst, ◌∙◌}
 use Rattle.block_tag.specs.Names.{packed_tag}
-use Rattle.frame_table.specs.declared.pin.Pin.{Pin}
+use Rattle.pin_core.specs.declared.view.View.{View}
+use Rattle.frame_table.specs.Seats.{frames_of}
+use Rattle.frame_table.proofs.SameSeats.{same_seat_on}
 use Rattle.frame_table.proofs.Told.{grows_on}
-use Rattle.held_pins.proofs.Keeping.{links_same}
-use Rattle.clock_sweep.proofs.Keeping.{none_to}
-use Rattle.buffer_frames.specs.Lookups.{SeesAndPins, SeesNone}
-use Rattle.buffer_frames.proofs.Calm.{match_to, pins_worked, some_to}
-use Rattle.buffer_frames.proofs.Latching.{under_partition}
-use Rattle.buffer_frames.proofs.Outside.{links_worked}
-use Rattle.buffer_frames.proofs.SameLocks.{same_locks_latched}
+use Rattle.map_partitions.specs.Hints.{StoresHint}
+use Rattle.held_pins.proofs.Keeping.{latches_same, same_locks_linked, same_locks_on}
+use Rattle.buffer_frames.specs.declared.hinting.HintSeen.TheVariants.{Had}
+use Rattle.buffer_frames.specs.Lookups.{LooksUp, by_hint, by_map, by_none}
+use Rattle.buffer_frames.proofs.Calm.{pins_worked}
+use Rattle.buffer_frames.proofs.Hints.{notes_missed, store_grows, store_links, store_notes, store_partitions, store_searched, store_turns, takes_missed}
+use Rattle.buffer_frames.proofs.Outside.{outside_searched, stands_searched}
+use Rattle.buffer_frames.proofs.lookup.look_up.Given.{Over}
 use Rattle.buffer_frames.proofs.lookup.look_up.Goals as goal
 
+pub returns-in-Ok-clause-did : goal.returns-in-Ok-clause-did
+returns-in-Ok-clause-did g c = subst (λ (f : ℕ). LooksUp (frames_of c.args.table.now) c.args.tag.now c.args.held.now c.args.ring c.args.seat.now.me.0 c.try_hint.new.seat.me.0 (Had f) (Some c.in-Ok.pin.frame)) (sym c.frame-frame.ensures) (by_hint c.in-Ok.ensures.did)
+
+pub returns-in-Ok-clause-hints : goal.returns-in-Ok-clause-hints
+returns-in-Ok-clause-hints g c = (c.frame-frame.ensures, ap (λ (v : View). v.hints) c.try_hint.ensures.same)
+
+pub returns-in_default-clause-grows : goal.returns-in_default-clause-grows
+returns-in_default-clause-grows g c = grows_on _ c.try_hint.new.seat.me.0 _ c.try_hint.ensures.grows c.search.ensures.grows
+
+pub returns-in_default-clause-locks : goal.returns-in_default-clause-locks
+returns-in_default-clause-locks g c = same_locks_on c.args.seat.now.me.0 c.try_hint.new.seat.me.0 c.search.new.seat.me.0 c.try_hint.ensures.locks c.search.ensures.locks
+
+pub returns-in_default-clause-turns : goal.returns-in_default-clause-turns
+returns-in_default-clause-turns g c =
+    let turned : c.search.new.seat.me.0.turns ≡ c.args.seat.now.me.0.turns + 1 = c.search.ensures.turns ∙ ap (λ (v : View). v.turns + 1) c.try_hint.ensures.same in
+    takes_missed (frames_of c.args.table.now) c.args.tag.now c.args.held.now c.args.ring c.args.seat.now.me.0 c.try_hint.new.seat.me.0 c.in-Err.seen c.in-Err.ensures.did c.args.seat.now.me.0.turns c.search.new.seat.me.0.turns (omega arith)
+
+pub returns-in_default-clause-did : goal.returns-in_default-clause-did
+returns-in_default-clause-did g c = by_none c.try_hint.new.seat.me.0 c.in-Err.ensures.did c.in_default.ensures.did
+
+-- the map did, and the hint was stored
+module _ (g : Over) (c : goal.After-store_hint g) where
+  stored : StoresHint (frames_of c.args.table.now) c.args.tag.now c.in-Some.pin.frame c.search.new.seat.me.0 c.store_hint.new.seat.me.0
+  stored = subst (λ (f : ℕ). StoresHint (frames_of c.args.table.now) c.args.tag.now f c.search.new.seat.me.0 c.store_hint.new.seat.me.0) c.frame.ensures c.store_hint.ensures.did
+
+pub returns-clause-stands : goal.returns-clause-stands
+returns-clause-stands g c = stands_searched _ c.args.seat.now c.store_hint.new.seat (same_seat_on _ _ _ (same_seat_on _ _ _ c.try_hint.ensures.seat c.search.ensures.seat) c.store_hint.ensures.seat)
+    (store_searched _ _ _ _ _ (stored g c) ∙ c.search.ensures.same ∙ outside_searched c.args.seat.now.me.0 c.try_hint.new.seat.me.0 c.try_hint.ensures.same) c.requires.stands
+
 pub returns-clause-grows : goal.returns-clause-grows
-returns-clause-grows g c = grows_on _ c.pin_mapped-pinned.new.seat.me.0 _ (grows_on _ c.take_turn.new.seat.me.0 _ c.take_turn.ensures.grows c.pin_mapped-pinned.ensures.grows) c.give_turn.ensures.grows
-
-pub returns-clause-pinned : goal.returns-clause-pinned
-returns-clause-pinned g c = some_to c.pin_mapped-pinned.result (λ (p : Pin). pins_worked c.args.held.now (packed_tag c.args.tag.now) p.frame c.pin_mapped-pinned.new.seat.me.0 c.give_turn.new.seat.me.0 (links_worked c.pin_mapped-pinned.new.seat.me.0 c.give_turn.new.seat.me.0 c.give_turn.ensures.work)) c.pin_mapped-pinned.ensures.pinned
-
-pub returns-clause-rests : goal.returns-clause-rests
-returns-clause-rests g c = none_to c.pin_mapped-pinned.result (links_same c.args.held.now c.pin_mapped-pinned.new.seat.me.0 c.give_turn.new.seat.me.0 (links_worked c.pin_mapped-pinned.new.seat.me.0 c.give_turn.new.seat.me.0 c.give_turn.ensures.work)) c.pin_mapped-pinned.ensures.rests
-
-pub returns-clause-did : goal.returns-clause-did
-returns-clause-did g c = let k = c.take_turn.ensures.did in let u = c.give_turn.ensures.did in let e = c.partition-partition.ensures.value in
-    match_to c.pin_mapped-pinned.result (λ m. under_partition c.args.tag.now _ (SeesNone c.args.tag.now) _ _ _ _ e k m u) (λ (p : Pin) m. under_partition c.args.tag.now _ (SeesAndPins c.args.tag.now p.frame c.args.ring) _ _ _ _ e k m u) c.pin_mapped-pinned.ensures.did
+returns-clause-grows g c = grows_on _ c.search.new.seat.me.0 _ (grows_on _ c.try_hint.new.seat.me.0 _ c.try_hint.ensures.grows c.search.ensures.grows) (store_grows _ _ _ _ _ (stored g c))
 
 pub returns-clause-locks : goal.returns-clause-locks
-returns-clause-locks g c = same_locks_latched c.args.seat.now.me.0 c.take_turn.new.seat.me.0 c.pin_mapped-pinned.new.seat.me.0 c.give_turn.new.seat.me.0 c.take_turn.ensures.work c.pin_mapped-pinned.ensures.locks c.give_turn.ensures.work
+returns-clause-locks g c = same_locks_on c.args.seat.now.me.0 c.search.new.seat.me.0 c.store_hint.new.seat.me.0 (same_locks_on c.args.seat.now.me.0 c.try_hint.new.seat.me.0 c.search.new.seat.me.0 c.try_hint.ensures.locks c.search.ensures.locks) (same_locks_linked c.search.new.seat.me.0 c.store_hint.new.seat.me.0 (store_links _ _ _ _ _ (stored g c)))
+
+pub returns-clause-latches : goal.returns-clause-latches
+returns-clause-latches g c = latches_same c.search.new.seat.me.0 c.store_hint.new.seat.me.0 (store_partitions _ _ _ _ _ (stored g c)) c.search.ensures.latches
+
+pub returns-clause-pinned : goal.returns-clause-pinned
+returns-clause-pinned g c = pins_worked c.args.held.now (packed_tag c.args.tag.now) c.in-Some.pin.frame c.search.new.seat.me.0 c.store_hint.new.seat.me.0 (store_links _ _ _ _ _ (stored g c)) c.in-Some.ensures.pinned
+
+pub returns-clause-turns : goal.returns-clause-turns
+returns-clause-turns g c =
+    let turned : c.store_hint.new.seat.me.0.turns ≡ c.args.seat.now.me.0.turns + 1 = store_turns _ _ _ _ _ (stored g c) ∙ c.search.ensures.turns ∙ ap (λ (v : View). v.turns + 1) c.try_hint.ensures.same in
+    takes_missed (frames_of c.args.table.now) c.args.tag.now c.args.held.now c.args.ring c.args.seat.now.me.0 c.try_hint.new.seat.me.0 c.in-Err.seen c.in-Err.ensures.did c.args.seat.now.me.0.turns c.store_hint.new.seat.me.0.turns (omega arith)
+
+pub returns-clause-hints : goal.returns-clause-hints
+returns-clause-hints g c = notes_missed (frames_of c.args.table.now) c.args.tag.now c.args.held.now c.args.ring c.args.seat.now.me.0 c.try_hint.new.seat.me.0 c.in-Err.seen c.in-Err.ensures.did c.in-Some.pin.frame c.args.seat.now.me.0.hints c.store_hint.new.seat.me.0.hints
+    (store_notes _ _ _ _ _ (stored g c) c.args.seat.now.me.0.hints (c.search.ensures.hints ∙ ap (λ (v : View). v.hints) c.try_hint.ensures.same))
+
+pub returns-clause-did : goal.returns-clause-did
+returns-clause-did g c = by_map c.try_hint.new.seat.me.0 c.search.new.seat.me.0 c.in-Err.ensures.did c.in-Some.ensures.did (stored g c)

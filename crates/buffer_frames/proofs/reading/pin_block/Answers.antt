@@ -1,39 +1,69 @@
-use Rattle.std.proofs.Common.{Bool, [], refl, inl, subst, ap, ◌∙◌}
+use Rattle.std.proofs.Common.{◌≡◌, Bool, [], Option, None, refl, inl, subst, ap, ◌∙◌}
+use Rattle.std.specs.Prelude.{IfNone, MatchOption, option_map}
 use Rattle.block_tag.specs.Names.{packed_tag}
 use Rattle.pin_core.specs.declared.view.FailedCalls.{FailedCalls}
+use Rattle.frame_table.specs.declared.pin.Pin.{Pin}
 use Rattle.frame_table.specs.Seats.{frames_of}
 use Rattle.frame_table.proofs.Rising.{rises_on}
-use Rattle.buffer_frames.specs.Reads.{Locates}
-use Rattle.buffer_frames.specs.Victims.{met_claimed}
-use Rattle.buffer_frames.proofs.Locating.{answers_missed, locates_now, misses_then}
-use Rattle.buffer_frames.proofs.Noting.{census_claimed, claim_from}
-use Rattle.buffer_frames.proofs.Outside.{grows_outside, met_outside}
+use Rattle.held_pins.specs.Rests.{LinksRest}
 use Rattle.held_pins.proofs.Keeping.{same_locks_on}
+use Rattle.buffer_frames.specs.Hinting.{NotesUnlessHad}
+use Rattle.buffer_frames.specs.Lookups.{LooksUp}
+use Rattle.buffer_frames.specs.Reads.{Locates, PinAnswer}
+use Rattle.buffer_frames.specs.Victims.{met_claimed}
+use Rattle.buffer_frames.proofs.Locating.{answers_missed, locates_now, misses_then, notes_then, turns_then}
+use Rattle.buffer_frames.proofs.Noting.{census_claimed, claim_from}
+use Rattle.buffer_frames.proofs.Outside.{grows_searched, met_searched}
+use Rattle.buffer_frames.proofs.reading.pin_block.Given.{Over}
 use Rattle.buffer_frames.proofs.reading.pin_block.Goals as goal
 
+-- the look-up gave a frame
 pub returns-in-Some-clause-advances : goal.returns-in-Some-clause-advances
-returns-in-Some-clause-advances g c = grows_outside c.args.seat.now.me.0 c.look_up.new.seat.me.0 c.look_up.ensures.grows c.look_up.ensures.same
+returns-in-Some-clause-advances g c = grows_searched c.args.seat.now.me.0 c.look_up-found.new.seat.me.0 c.look_up-found.ensures.grows c.look_up-found.ensures.same
 
 pub returns-in-Some-clause-calls : goal.returns-in-Some-clause-calls
-returns-in-Some-clause-calls g c = subst (λ (b : Bool). Locates c.args.tag.now c.in-Some.pin.frame b [] c.args.seat.now.me.0 c.look_up.new.seat.me.0) c.is_some-ringed.ensures (locates_now c.args.tag.now c.in-Some.pin.frame c.is_some-ringed.result c.args.seat.now.me.0 c.look_up.new.seat.me.0 c.in-Some.ensures.did c.look_up.ensures.same)
+returns-in-Some-clause-calls g c = let u = c.look_up-found in
+    let looks = subst (λ (o : Option Pin). LooksUp (frames_of c.args.table.now) c.args.tag.now c.args.held.now c.is_some-ringed.result c.args.seat.now.me.0 u.new.seat.me.0 u.result.1 (option_map Pin.frame o)) c.in-Some.is u.ensures.did in
+    subst (λ (b : Bool). Locates (frames_of c.args.table.now) c.args.tag.now c.args.held.now b u.result.1 c.in-Some.pin.frame [] c.args.seat.now.me.0 u.new.seat.me.0) c.is_some-ringed.ensures
+    (locates_now _ _ _ _ _ c.in-Some.pin.frame c.args.seat.now.me.0 u.new.seat.me.0 looks u.ensures.same)
 
-pub returns-clause-advances : goal.returns-clause-advances
-returns-clause-advances g c = rises_on _ c.look_up.new.seat.me.0 _ (grows_outside c.args.seat.now.me.0 c.look_up.new.seat.me.0 c.look_up.ensures.grows c.look_up.ensures.same) c.claim.ensures.advances
-
-pub returns-clause-answer : goal.returns-clause-answer
-returns-clause-answer g c = claim_from _ _ (packed_tag c.args.tag.now) c.args.held.now _ c.args.seat.now.me.0 c.look_up.new.seat.me.0 c.claim.new.seat.me.0 c.claim.result c.requires.rests c.in_default.ensures.rests (grows_outside c.args.seat.now.me.0 c.look_up.new.seat.me.0 c.look_up.ensures.grows c.look_up.ensures.same) c.claim.ensures.answer
-
-pub returns-clause-met : goal.returns-clause-met
-returns-clause-met g c = c.claim.ensures.met ∙ ap (λ (m : FailedCalls). met_claimed c.claim.result m) (met_outside c.args.seat.now.me.0 c.look_up.new.seat.me.0 c.look_up.ensures.same)
-
-pub returns-clause-calls : goal.returns-clause-calls
-returns-clause-calls g c = answers_missed c.args.tag.now _ c.args.seat.now.me.0 c.claim.new.seat.me.0 c.claim.result (misses_then c.args.tag.now c.args.seat.now.me.0 c.look_up.new.seat.me.0 c.claim.new.seat.me.0 c.in_default.ensures.did c.look_up.ensures.same c.claim.ensures.advances c.claim.ensures.calls)
-
-pub returns-clause-locks : goal.returns-clause-locks
-returns-clause-locks g c = same_locks_on c.args.seat.now.me.0 c.look_up.new.seat.me.0 c.claim.new.seat.me.0 c.look_up.ensures.locks c.claim.ensures.locks
+pub returns-in-Some-clause-hints : goal.returns-in-Some-clause-hints
+returns-in-Some-clause-hints g c = let u = c.look_up-found in
+    subst (λ (o : Option Pin). MatchOption o (u.new.seat.me.0.hints ≡ c.args.seat.now.me.0.hints) (λ p. NotesUnlessHad (frames_of c.args.table.now) c.args.tag.now p.frame u.result.1 c.args.seat.now.me.0.hints u.new.seat.me.0.hints)) c.in-Some.is u.ensures.hints
 
 pub returns-in-Some-clause-census : goal.returns-in-Some-clause-census
 returns-in-Some-clause-census g c = inl refl
+
+-- it gave none
+module _ (g : Over) (c : goal.After-claim g) where
+  looks : LooksUp (frames_of c.args.table.now) c.args.tag.now c.args.held.now c.is_some-ringed.result c.args.seat.now.me.0 c.look_up-found.new.seat.me.0 c.look_up-found.result.1 None
+  looks = subst (λ (o : Option Pin). LooksUp (frames_of c.args.table.now) c.args.tag.now c.args.held.now c.is_some-ringed.result c.args.seat.now.me.0 c.look_up-found.new.seat.me.0 c.look_up-found.result.1 (option_map Pin.frame o)) c.in_default.is c.look_up-found.ensures.did
+
+  same_hints : c.look_up-found.new.seat.me.0.hints ≡ c.args.seat.now.me.0.hints
+  same_hints = subst (λ (o : Option Pin). MatchOption o (c.look_up-found.new.seat.me.0.hints ≡ c.args.seat.now.me.0.hints) (λ p. NotesUnlessHad (frames_of c.args.table.now) c.args.tag.now p.frame c.look_up-found.result.1 c.args.seat.now.me.0.hints c.look_up-found.new.seat.me.0.hints)) c.in_default.is c.look_up-found.ensures.hints
+
+pub returns-clause-advances : goal.returns-clause-advances
+returns-clause-advances g c = rises_on _ c.look_up-found.new.seat.me.0 _ (grows_searched c.args.seat.now.me.0 c.look_up-found.new.seat.me.0 c.look_up-found.ensures.grows c.look_up-found.ensures.same) c.claim.ensures.advances
+
+pub returns-clause-answer : goal.returns-clause-answer
+returns-clause-answer g c = claim_from _ _ (packed_tag c.args.tag.now) c.args.held.now _ c.args.seat.now.me.0 c.look_up-found.new.seat.me.0 c.claim.new.seat.me.0 c.claim.result c.requires.rests (subst (λ (o : Option Pin). IfNone o (LinksRest c.args.held.now c.look_up-found.new.seat.me.0)) c.in_default.is c.look_up-found.ensures.rests) (grows_searched c.args.seat.now.me.0 c.look_up-found.new.seat.me.0 c.look_up-found.ensures.grows c.look_up-found.ensures.same) c.claim.ensures.answer
+
+pub returns-clause-met : goal.returns-clause-met
+returns-clause-met g c = c.claim.ensures.met ∙ ap (λ (m : FailedCalls). met_claimed c.claim.result m) (met_searched c.args.seat.now.me.0 c.look_up-found.new.seat.me.0 c.look_up-found.ensures.same)
+
+pub returns-clause-calls : goal.returns-clause-calls
+returns-clause-calls g c = let u = c.look_up-found in
+    subst (λ (b : Bool). PinAnswer (frames_of c.args.table.now) c.args.tag.now c.args.held.now b u.result.1 c.args.seat.now.me.0 c.claim.new.seat.me.0 c.claim.result) c.is_some-ringed.ensures
+    (answers_missed _ _ _ _ _ c.args.seat.now.me.0 u.new.seat.me.0 c.claim.new.seat.me.0 c.claim.result (misses_then _ _ _ _ c.args.seat.now.me.0 u.new.seat.me.0 c.claim.new.seat.me.0 _ (looks g c) u.ensures.same c.claim.ensures.advances c.claim.ensures.calls) (grows_searched c.args.seat.now.me.0 u.new.seat.me.0 u.ensures.grows u.ensures.same) c.claim.ensures.stored)
+
+pub returns-clause-turns : goal.returns-clause-turns
+returns-clause-turns g c = turns_then _ _ _ _ c.args.seat.now.me.0 c.look_up-found.new.seat.me.0 c.claim.new.seat.me.0 _ (looks g c) c.look_up-found.ensures.turns c.claim.ensures.turns
+
+pub returns-clause-hints : goal.returns-clause-hints
+returns-clause-hints g c = notes_then _ _ _ _ c.args.seat.now.me.0 c.look_up-found.new.seat.me.0 c.claim.new.seat.me.0 _ c.claim.result (looks g c) (same_hints g c) c.claim.ensures.hints
+
+pub returns-clause-locks : goal.returns-clause-locks
+returns-clause-locks g c = same_locks_on c.args.seat.now.me.0 c.look_up-found.new.seat.me.0 c.claim.new.seat.me.0 c.look_up-found.ensures.locks c.claim.ensures.locks
 
 pub returns-clause-census : goal.returns-clause-census
 returns-clause-census g c = census_claimed (frames_of c.args.table.now) c.args.census.now c.claim.new.census c.claim.result c.claim.ensures.census

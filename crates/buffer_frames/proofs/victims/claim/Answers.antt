@@ -1,9 +1,10 @@
-use Rattle.std.proofs.Common.{◌∙◌}
+use Rattle.std.proofs.Common.{◌∙◌, arith}
 use Rattle.frame_table.proofs.Rising.{rises_on}
 use Rattle.frame_table.proofs.SameSeats.{same_seat_on}
 use Rattle.held_pins.proofs.Keeping.{same_locks_on}
+use Rattle.buffer_frames.proofs.Locating.{stores_since}
 use Rattle.buffer_frames.proofs.Noting.{calls_by, calls_on, refused_from}
-use Rattle.buffer_frames.proofs.Outside.{grows_outside, kept_outside, met_outside}
+use Rattle.buffer_frames.proofs.Outside.{grows_searched, kept_searched, met_searched}
 use Rattle.buffer_frames.proofs.victims.claim.Goals as goal
 
 pub returns-in-Some-enter_or_pin-clause-calls : goal.returns-in-Some-enter_or_pin-clause-calls
@@ -17,10 +18,13 @@ loop-preserved-in_default g c = let i = c.loop.invariant in let m = c.make_victi
   latches = e.latches;
   room = m.room ∙ i.room;
   ring = m.ring ∙ i.ring;
-  kept = kept_outside c.make_victim.new.seat.me.0 c.enter_or_pin.new.seat.me.0 e.same ∙ m.kept ∙ i.kept;
-  advances = rises_on _ c.make_victim.new.seat.me.0 _ (rises_on _ c.loop.seat.me.0 _ i.advances m.advances) (grows_outside c.make_victim.new.seat.me.0 c.enter_or_pin.new.seat.me.0 e.grows e.same);
+  kept = kept_searched c.make_victim.new.seat.me.0 c.enter_or_pin.new.seat.me.0 e.same ∙ m.kept ∙ i.kept;
+  advances = rises_on _ c.make_victim.new.seat.me.0 _ (rises_on _ c.loop.seat.me.0 _ i.advances m.advances) (grows_searched c.make_victim.new.seat.me.0 c.enter_or_pin.new.seat.me.0 e.grows e.same);
   locks = same_locks_on c.args.seat.now.me.0 c.make_victim.new.seat.me.0 c.enter_or_pin.new.seat.me.0 (same_locks_on c.args.seat.now.me.0 c.loop.seat.me.0 c.make_victim.new.seat.me.0 i.locks m.locks) e.locks;
-  met = met_outside c.make_victim.new.seat.me.0 c.enter_or_pin.new.seat.me.0 e.same ∙ c.in-Ready.ensures.met ∙ i.met;
+  counted = e.counted;
+  turns = (let a = i.turns in let b = m.turns in let d = e.turns in omega arith);
+  hints = c.in_default.ensures.hints ∙ m.hints ∙ i.hints;
+  met = met_searched c.make_victim.new.seat.me.0 c.enter_or_pin.new.seat.me.0 e.same ∙ c.in-Ready.ensures.met ∙ i.met;
   calls = calls_on _ _ c.make_victim.new.seat.me.0 _ (calls_on _ _ c.loop.seat.me.0 _ i.calls m.calls) (calls_by _ c.make_victim.new.seat.me.0 c.enter_or_pin.new.seat.me.0 e.same);
 }
 
@@ -33,3 +37,30 @@ returns-in-Some-enter_or_pin-clause-locks g c = same_locks_on c.args.seat.now.me
 
 pub returns-in-Refused-clause-locks : goal.returns-in-Refused-clause-locks
 returns-in-Refused-clause-locks g c = same_locks_on c.args.seat.now.me.0 c.loop.seat.me.0 c.make_victim.new.seat.me.0 c.loop.invariant.locks c.make_victim.ensures.locks
+
+pub returns-in-Some-enter_or_pin-clause-advances : goal.returns-in-Some-enter_or_pin-clause-advances
+returns-in-Some-enter_or_pin-clause-advances g c = rises_on _ c.make_victim.new.seat.me.0 _ (rises_on _ c.loop.seat.me.0 _ c.loop.invariant.advances c.make_victim.ensures.advances) (grows_searched c.make_victim.new.seat.me.0 c.enter_or_pin.new.seat.me.0 c.enter_or_pin.ensures.grows c.enter_or_pin.ensures.same)
+
+pub returns-in-Refused-clause-calls : goal.returns-in-Refused-clause-calls
+returns-in-Refused-clause-calls g c = calls_on _ _ c.loop.seat.me.0 _ c.loop.invariant.calls c.make_victim.ensures.calls
+
+pub loop-preserved : goal.loop-preserved
+loop-preserved g c = let i = c.loop.invariant in let m = c.make_victim.ensures in record {
+  seat = same_seat_on _ _ _ i.seat m.seat;
+  stands = m.stands;
+  rests = c.in-Again.ensures.answer;
+  latches = m.latches;
+  counted = m.counted;
+  turns = (let a = i.turns in let b = m.turns in omega arith);
+  hints = m.hints ∙ i.hints;
+  room = m.room ∙ i.room;
+  ring = m.ring ∙ i.ring;
+  kept = m.kept ∙ i.kept;
+  advances = rises_on _ c.loop.seat.me.0 _ i.advances m.advances;
+  locks = same_locks_on c.args.seat.now.me.0 c.loop.seat.me.0 c.make_victim.new.seat.me.0 i.locks m.locks;
+  met = c.in-Again.ensures.met ∙ i.met;
+  calls = calls_on _ _ c.loop.seat.me.0 _ i.calls m.calls;
+}
+
+pub returns-in-Some-enter_or_pin-clause-stored : goal.returns-in-Some-enter_or_pin-clause-stored
+returns-in-Some-enter_or_pin-clause-stored g c = stores_since _ _ _ _ _ c.make_victim.new.seat.me.0 _ (rises_on _ c.loop.seat.me.0 _ c.loop.invariant.advances c.make_victim.ensures.advances) c.in-Some-enter_or_pin.ensures.stored

@@ -1,7 +1,7 @@
-use Rattle.std.proofs.Common.{◌≡◌}
+use Rattle.std.proofs.Common.{◌≡◌, ◌≤◌}
 use Rattle.frame_table.specs.Seats.{OnlyRises, SameSeat, frames_of}
-use Rattle.held_pins.specs.Rests.{HasNoLatch, LinksRest, Stands, kept_by_calls, SameLocks}
-use Rattle.buffer_frames.specs.Outside.{ring_shape}
+use Rattle.held_pins.specs.Rests.{HasNoLatch, LinksRest, Stands, SameLocks}
+use Rattle.buffer_frames.specs.Outside.{kept_by_block_reads, ring_shape, shown_count}
 use Rattle.buffer_frames.specs.Working.{Calls, IsFlushCall}
 use Rattle.buffer_frames.proofs.victims.claim.Given as goal
 
@@ -13,9 +13,12 @@ invariant-loop g l = record {
   latches : HasNoLatch l.seat.me.0;
   room : l.census.frames ≡ frames_of l.fn.table;
   ring : ring_shape l.ring ≡ ring_shape l.fn.ring;
-  kept : kept_by_calls l.seat.me.0 ≡ kept_by_calls l.fn.seat.me.0;
+  kept : kept_by_block_reads l.seat.me.0 ≡ kept_by_block_reads l.fn.seat.me.0;
   advances : OnlyRises l.fn.seat.me.0 l.seat.me.0;
   locks : SameLocks l.fn.seat.me.0 l.seat.me.0;
   met : l.seat.me.0.met ≡ l.fn.seat.me.0.met;
   calls : Calls IsFlushCall l.fn.seat.me.0 l.seat.me.0;
+  counted : l.turns ≡ shown_count l.seat.me.0.turns;
+  turns : l.fn.seat.me.0.turns ≤ l.seat.me.0.turns;
+  hints : l.seat.me.0.hints ≡ l.fn.seat.me.0.hints;
 }

@@ -3,7 +3,7 @@ use Rattle.frame_table.proofs.Told.{grows_on}
 use Rattle.frame_table.proofs.Rising.{rises_on}
 use Rattle.buffer_frames.specs.Working.{IsFlushCall}
 use Rattle.buffer_frames.proofs.Noting.{all_pinned_now, calls_through}
-use Rattle.buffer_frames.proofs.Outside.{grows_outside}
+use Rattle.buffer_frames.proofs.Outside.{grows_outside, grows_searched, outside_searched}
 use Rattle.held_pins.proofs.Keeping.{latches_same, same_locks_on}
 use Rattle.buffer_frames.proofs.SameLocks.{same_locks_victim}
 use Rattle.buffer_frames.proofs.victims.make_victim.Goals as goal
@@ -45,14 +45,14 @@ pub returns-then-erase-clause-advances : goal.returns-then-erase-clause-advances
 returns-then-erase-clause-advances g c =
     let a = grows_outside c.args.seat.now.me.0 c.tag_of_victim.new.seat.me.0 (grows_on _ c.choose.new.seat.me.0 _ c.choose.ensures.grows c.tag_of_victim.ensures.grows) (c.tag_of_victim.ensures.same ∙ c.choose.ensures.same) in
     let b = rises_on c.args.seat.now.me.0 c.tag_of_victim.new.seat.me.0 c.flush_victim.new.seat.me.0 a c.flush_victim.ensures.works.advances in
-    rises_on c.args.seat.now.me.0 c.flush_victim.new.seat.me.0 c.erase.new.seat.me.0 b (grows_outside c.flush_victim.new.seat.me.0 c.erase.new.seat.me.0 c.erase.ensures.grows c.erase.ensures.same)
+    rises_on c.args.seat.now.me.0 c.flush_victim.new.seat.me.0 c.erase.new.seat.me.0 b (grows_searched c.flush_victim.new.seat.me.0 c.erase.new.seat.me.0 c.erase.ensures.grows c.erase.ensures.same)
 
 pub returns-clause-advances : goal.returns-clause-advances
 returns-clause-advances g c =
     let a = grows_outside c.args.seat.now.me.0 c.tag_of_victim.new.seat.me.0 (grows_on _ c.choose.new.seat.me.0 _ c.choose.ensures.grows c.tag_of_victim.ensures.grows) (c.tag_of_victim.ensures.same ∙ c.choose.ensures.same) in
     let b = rises_on c.args.seat.now.me.0 c.tag_of_victim.new.seat.me.0 c.flush_victim.new.seat.me.0 a c.flush_victim.ensures.works.advances in
     let u = c.give_up-2 in
-    rises_on c.args.seat.now.me.0 c.flush_victim.new.seat.me.0 u.new.seat.me.0 b (grows_outside c.flush_victim.new.seat.me.0 u.new.seat.me.0 (grows_on _ c.erase.new.seat.me.0 _ c.erase.ensures.grows u.ensures.grows) (u.ensures.same ∙ c.erase.ensures.same))
+    rises_on c.args.seat.now.me.0 c.flush_victim.new.seat.me.0 u.new.seat.me.0 b (grows_searched c.flush_victim.new.seat.me.0 u.new.seat.me.0 (grows_on _ c.erase.new.seat.me.0 _ c.erase.ensures.grows u.ensures.grows) (outside_searched c.erase.new.seat.me.0 u.new.seat.me.0 u.ensures.same ∙ c.erase.ensures.same))
 
 pub returns-in_default-clause-locks : goal.returns-in_default-clause-locks
 returns-in_default-clause-locks g c = same_locks_on c.args.seat.now.me.0 c.choose.new.seat.me.0 c.tag_of_victim.new.seat.me.0 c.choose.ensures.locks c.tag_of_victim.ensures.locks

@@ -10,3 +10,6 @@ returns-clause-second g t c =
     let e = c.in-Ok.ensures in
     let r = c.release.ensures in
     pinned_returns {L = g.row.L.Denot} {G = g.row.G.Denot} g.L.BlockLane.contents c.args.manager.now c.in-Ok.pinned c.in-Ok.pinned c.args.second.now c.read_buffer.new.self c.hold_second-crowded.new.second c.release.new.self refl e.same e.locks e.back c.hold_second-crowded.ensures.second r.belongs r.same r.tokens r.locks
+
+pub returns-in_default-clause-first : goal.returns-in_default-clause-first
+returns-in_default-clause-first g t c = kept_returns {L = g.row.L.Denot} {G = g.row.G.Denot} g.L.BlockLane.contents c.args.manager.now c.args.first.now c.requires.first

@@ -3,7 +3,8 @@ use Rattle.pin_core.specs.declared.view.View.{View}
 use Rattle.backend_pass.specs.Managers.{AreSpent, IsFirstAt, others_in}
 use Rattle.backend_pass.specs.Closing.{joined_views}
 use Rattle.backend_pass.proofs.Ended.{closes_all, number_zero}
-use Rattle.backend_pass.proofs.Joining.{Joins, first_standing, joined_hold_nothing, joins, others_fewer, others_standing, rests_hold_nothing, spent_at, spent_others}
+use Rattle.held_pins.proofs.Resting.{rests_hold_nothing}
+use Rattle.backend_pass.proofs.Joining.{Joins, first_standing, joined_hold_nothing, joins, others_fewer, others_standing, spent_at, spent_others}
 use Rattle.backend_pass.proofs.manager.Manager.close.Goals as goal
 
 pub leave-seat-requires : goal.leave-seat-requires

@@ -11,6 +11,7 @@ use Rattle.buffer_frames.specs.declared.flushing.FlushedPage.{FlushedPage}
 use Rattle.buffer_frames.specs.declared.flushing.FlushedPage.TheVariants.{Written, Clean}
 use Rattle.buffer_frames.specs.Flushing.{EndedInError, EndedWritten, FlushAnswer, met_flushing}
 use Rattle.buffer_frames.proofs.SameLocks.{same_locks_worked}
+use Rattle.buffer_frames.specs.Outside.{shown_count}
 use Rattle.backend_pass.specs.Managers.{Belongs}
 use Rattle.backend_pass.specs.Passes.{IsNumbered, IsShown, PassState, SamePass, view_in}
 use Rattle.backend_pass.specs.FrameFlushes.{frame_refusal, shown_unflushed}
@@ -87,9 +88,10 @@ invariant_of-self-in-Err g c =
     let shown : padded_value c.new-self-inside.result ≡ shown_unflushed c.refused-why.result (padded_value c.self.inside.shown) = c.new-self-inside.ensures ∙ c.after_flush-shown.ensures ∙ ap (shown_unflushed c.refused-why.result) c.deref.ensures in (
       e.badge.one,
       e.rests,
-      subst (λ (id : ℕ). IsNumbered c.self.inside.number id w) (sym e.badge.id) (numbered_kept c.self.inside.number c.self.inside.seat.id v w e.works.kept i.2),
+      subst (λ (id : ℕ). IsNumbered c.self.inside.number id w) (sym e.badge.id) (numbered_kept c.self.inside.number c.self.inside.seat.id v w (ap (λ (x : View). x.number) e.works.kept) i.2),
       subst (IsShown w) (sym shown) (shown_not_flushed v w (padded_value c.self.inside.shown) c.refused-why.result (ap (λ (x : View). x.front) e.works.kept) met i.3),
       i.4,
+      i.5 ∙ ap (λ (x : View). shown_count x.turns) (sym e.works.kept),
     )
 
 same_from : (a p q : PassState) → a ≡ p → SamePass a q → SamePass p q
@@ -120,9 +122,10 @@ invariant_of-self g c =
     let w = view_in c.flush_seated.new.badge.views in (
       e.badge.one,
       e.rests,
-      subst (λ (id : ℕ). IsNumbered c.self.inside.number id w) (sym e.badge.id) (numbered_kept c.self.inside.number c.self.inside.seat.id v w e.works.kept i.2),
+      subst (λ (id : ℕ). IsNumbered c.self.inside.number id w) (sym e.badge.id) (numbered_kept c.self.inside.number c.self.inside.seat.id v w (ap (λ (x : View). x.number) e.works.kept) i.2),
       shown_met v w (padded_value c.self.inside.shown) (ap (λ (x : View). x.front) e.works.kept) e.met i.3,
       i.4,
+      i.5 ∙ ap (λ (x : View). shown_count x.turns) (sym e.works.kept),
     )
 
 pub invariant_of-self-in-Ok-Clean : goal.invariant_of-self-in-Ok-Clean
@@ -133,9 +136,10 @@ invariant_of-self-in-Ok-Clean g c =
     let w = view_in c.flush_seated.new.badge.views in (
       e.badge.one,
       e.rests,
-      subst (λ (id : ℕ). IsNumbered c.self.inside.number id w) (sym e.badge.id) (numbered_kept c.self.inside.number c.self.inside.seat.id v w e.works.kept i.2),
+      subst (λ (id : ℕ). IsNumbered c.self.inside.number id w) (sym e.badge.id) (numbered_kept c.self.inside.number c.self.inside.seat.id v w (ap (λ (x : View). x.number) e.works.kept) i.2),
       shown_met v w (padded_value c.self.inside.shown) (ap (λ (x : View). x.front) e.works.kept) e.met i.3,
       i.4,
+      i.5 ∙ ap (λ (x : View). shown_count x.turns) (sym e.works.kept),
     )
 
 pub returns-in-Ok-Written-clause-same : goal.returns-in-Ok-Written-clause-same

@@ -1,6 +1,7 @@
 use Rattle.std.proofs.Common.{◌≡◌, ◌∙◌, ℕ, false, refl, sym, ap, subst}
 use Rattle.pin_core.specs.declared.view.View.{View}
 use Rattle.held_pins.proofs.Keeping.{same_locks_linked}
+use Rattle.buffer_frames.specs.Outside.{shown_count}
 use Rattle.backend_pass.specs.Managers.{Belongs}
 use Rattle.backend_pass.specs.Passes.{IsNumbered, IsShown, PassState, view_in}
 use Rattle.backend_pass.proofs.BlockReads.{numbered_kept, same_kept}
@@ -32,9 +33,10 @@ invariant_of-self g c =
     let w = (view_in c.return_seat.new.badge.views) in (
       e.badge.one,
       e.rests,
-      subst (λ (id : ℕ). IsNumbered c.self.inside.number id w) (sym e.badge.id) (numbered_kept c.self.inside.number c.self.inside.seat.id v w (ap kept_by_calls e.did.work) i.2),
+      subst (λ (id : ℕ). IsNumbered c.self.inside.number id w) (sym e.badge.id) (numbered_kept c.self.inside.number c.self.inside.seat.id v w (ap (λ (x : View). x.number) e.did.work) i.2),
       subst (IsShown w) (sym (c.new-self-inside.ensures ∙ c.after_log_flush-shown.ensures ∙ ap (shown_log_flushed c.flush_to-answer.result) c.deref.ensures)) (shown_flush c.args.lsn v w _ c.flush_to-answer.result e.did i.3),
       i.4,
+      i.5 ∙ ap (λ (x : View). shown_count x.turns) (sym e.did.work),
     )
 
 pub returns-clause-belongs : goal.returns-clause-belongs
@@ -49,4 +51,4 @@ returns-clause-same g c =
 
 pub returns-clause-callers : goal.returns-clause-callers
 returns-clause-callers g c =
-    let e = log_flushed {L = g.row.L.Denot} {G = g.row.G.Denot} c.self.inside.held _ _ _ _ c.take_seat-seat.ensures c.flush_to-answer.ensures.seat c.return_seat.ensures c.self.invariant.1 c.args.lsn c.flush_to-answer.result record { work = c.flush_to-answer.ensures.work; rises = c.flush_to-answer.ensures.rises; flushed = c.flush_to-answer.ensures.flushed; view = c.flush_to-answer.ensures.view; left = c.flush_to-answer.ensures.left; did = c.flush_to-answer.ensures.did; seen = c.flush_to-answer.ensures.seen; cause = c.flush_to-answer.ensures.cause } in callers_from _ _ _ c.self.view_is (callers_kept _ _ e.badge.table e.badge.id refl refl (ap kept_by_calls e.did.work) e.did.rises (same_locks_linked (view_in c.self.inside.seat.views) (view_in c.return_seat.new.badge.views) (ap (λ (x : View). x.links) e.did.work)))
+    let e = log_flushed {L = g.row.L.Denot} {G = g.row.G.Denot} c.self.inside.held _ _ _ _ c.take_seat-seat.ensures c.flush_to-answer.ensures.seat c.return_seat.ensures c.self.invariant.1 c.args.lsn c.flush_to-answer.result record { work = c.flush_to-answer.ensures.work; rises = c.flush_to-answer.ensures.rises; flushed = c.flush_to-answer.ensures.flushed; view = c.flush_to-answer.ensures.view; left = c.flush_to-answer.ensures.left; did = c.flush_to-answer.ensures.did; seen = c.flush_to-answer.ensures.seen; cause = c.flush_to-answer.ensures.cause } in callers_from _ _ _ c.self.view_is (callers_kept _ _ e.badge.table e.badge.id refl refl refl (ap kept_by_calls e.did.work) e.did.rises (same_locks_linked (view_in c.self.inside.seat.views) (view_in c.return_seat.new.badge.views) (ap (λ (x : View). x.links) e.did.work)))

@@ -1,6 +1,7 @@
 use Rattle.std.proofs.Common.{◌∙◌, ℕ, refl, sym, ap, subst}
 use Rattle.pin_core.specs.declared.view.View.{View}
 use Rattle.held_pins.proofs.Keeping.{same_locks_linked}
+use Rattle.buffer_frames.specs.Outside.{shown_count}
 use Rattle.backend_pass.specs.Managers.{Belongs}
 use Rattle.backend_pass.specs.Passes.{IsNumbered, PassState, view_in}
 use Rattle.backend_pass.proofs.BlockReads.{numbered_kept}
@@ -33,9 +34,10 @@ invariant_of-self g c =
     let w = (view_in c.return_seat.new.badge.views) in (
       e.badge.one,
       e.rests,
-      subst (λ (id : ℕ). IsNumbered c.self.inside.number id w) (sym e.badge.id) (numbered_kept c.self.inside.number c.self.inside.seat.id v w (ap kept_by_calls e.did.view) i.2),
+      subst (λ (id : ℕ). IsNumbered c.self.inside.number id w) (sym e.badge.id) (numbered_kept c.self.inside.number c.self.inside.seat.id v w (ap (λ (x : View). x.number) e.did.view) i.2),
       shown_met v w _ (ap (λ (x : View). x.front) e.did.view) (ap (λ (x : View). x.met) e.did.view) i.3,
       i.4,
+      i.5 ∙ ap (λ (x : View). shown_count x.turns) (sym e.did.view),
     )
 
 pub returns-clause-belongs : goal.returns-clause-belongs
@@ -46,7 +48,7 @@ returns-clause-belongs g c =
 
 pub returns-clause-callers : goal.returns-clause-callers
 returns-clause-callers g c =
-    let e = loaded g c in callers_from _ _ _ c.self.view_is (callers_kept _ _ e.badge.table e.badge.id refl refl (ap kept_by_calls e.did.view) (rises_hand c.hand-answer.result (view_in c.self.inside.seat.views) (view_in c.return_seat.new.badge.views) e.did.view) (same_locks_linked (view_in c.self.inside.seat.views) (view_in c.return_seat.new.badge.views) (ap (λ (x : View). x.links) e.did.view)))
+    let e = loaded g c in callers_from _ _ _ c.self.view_is (callers_kept _ _ e.badge.table e.badge.id refl refl refl (ap kept_by_calls e.did.view) (rises_hand c.hand-answer.result (view_in c.self.inside.seat.views) (view_in c.return_seat.new.badge.views) e.did.view) (same_locks_linked (view_in c.self.inside.seat.views) (view_in c.return_seat.new.badge.views) (ap (λ (x : View). x.links) e.did.view)))
 
 pub returns-clause-did : goal.returns-clause-did
 returns-clause-did g c =

@@ -7,6 +7,8 @@ use Rattle.frame_table.specs.Seats.{base_of, relations_of}
 use Rattle.held_pins.specs.Rests.{SameLocks}
 use Rattle.held_pins.specs.Tokens.{IsPinnedFor}
 use Rattle.backend_pass.specs.declared.met.Shown.{Shown}
+use Rattle.pin_core.specs.declared.view.View.{View}
+use Rattle.buffer_frames.specs.Outside.{shown_count}
 use Rattle.backend_pass.specs.Managers.{Belongs}
 use Rattle.backend_pass.specs.Passes.{IsNumbered, IsShown, PassState, view_in}
 use Rattle.buffer_frames.specs.Puts.{PutAnswer}
@@ -45,6 +47,7 @@ invariant_of-self g c =
       subst (λ (id : ℕ). IsNumbered c.self.inside.number id w) (sym e.badge.id) (numbered_put c.args.exclusive.now.pinned.frame c.self.inside.number c.self.inside.seat.id v w e.puts i.2),
       subst (IsShown w) (sym (c.new-self-inside.ensures ∙ ap (λ (s : Shown). record s { front = c.in-Ok.lsn }) c.deref.ensures)) (shown_put v w (padded_value c.self.inside.shown) c.in-Ok.lsn e.answer.front e.met i.3),
       i.4,
+      i.5 ∙ ap (λ (x : View). shown_count x.turns) (sym e.puts.kept),
     )
 
 pub invariant_of-self-in-Err : goal.invariant_of-self-in-Err
@@ -59,6 +62,7 @@ invariant_of-self-in-Err g c =
       subst (λ (id : ℕ). IsNumbered c.self.inside.number id w) (sym e.badge.id) (numbered_put c.args.exclusive.now.pinned.frame c.self.inside.number c.self.inside.seat.id v w e.puts i.2),
       subst (IsShown w) (sym shown) (shown_not_put v w (padded_value c.self.inside.shown) c.in-Err.why e.answer.front e.met i.3),
       i.4,
+      i.5 ∙ ap (λ (x : View). shown_count x.turns) (sym e.puts.kept),
     )
 
 pub returns-in-Ok-clause-belongs : goal.returns-in-Ok-clause-belongs

@@ -1,27 +1,46 @@
 use Rattle.std.proofs.Common.{◌≡◌, ◌∙◌, ℕ, inl, Ok, true, ap, refl, sym, subst, ◌<◌, arith}
+use Rattle.std.specs.Prelude.{IfOk, is_some}
 use Rattle.held_pins.specs.Tokens.{IsNew, IsPinnedFor, Tokens, count_of, tokens_more}
 use Rattle.held_pins.specs.Rests.{OnlyTokens, SameLocks}
+use Rattle.buffer_frames.specs.declared.hinting.HintSeen.TheVariants.{Unused}
+use Rattle.buffer_frames.specs.Hinting.{NotesUnlessHad, TakesTurns}
 use Rattle.backend_pass.specs.Managers.{Belongs}
-use Rattle.backend_pass.specs.Passes.{PassState, view_in}
-use Rattle.backend_pass.proofs.BlockReads.{frame_again, not_both, pinned_more, pinned_read, rests_again, unlocked_read}
+use Rattle.backend_pass.specs.Passes.{KeepsCalls, PassState, view_in}
+use Rattle.backend_pass.specs.Reading.{ReadsBlock, met_reading}
+use Rattle.backend_pass.proofs.BlockReads.{calls_hinted, frame_again, not_both, pinned_more, pinned_read, reads_hinted, rests_again, same_hinted, unlocked_read}
 use Rattle.held_pins.proofs.HeldLists.{above_one}
-use Rattle.frame_table.specs.Seats.{relations_of}
+use Rattle.frame_table.specs.Seats.{frames_of, relations_of}
 use Rattle.frame_table.proofs.Rising.{rises_none}
 use Rattle.held_pins.proofs.Keeping.{same_locks_none}
 use Rattle.backend_pass.proofs.Complete.{at_once_none, not_at_once, read_complete, unsound_was}
+use Rattle.backend_pass.specs.HintsSeen.{StoresHints}
+use Rattle.backend_pass.proofs.HintsSeen.{shows_hint, turns_counted, turns_risen, turns_told}
 use Rattle.backend_pass.proofs.Releasing.{AreHeld, belongs_held, held_again}
+use Rattle.backend_pass.proofs.Seated.{same_from}
+use Rattle.backend_pass.proofs.pass.Pass.read_buffer.Given.{Over}
 use Rattle.backend_pass.proofs.pass.Pass.read_buffer.Goals as goal
+
+-- what the look-up tells of the pass as the call found it
+reads : (g : Over) (c : goal.After-read_new g) → ReadsBlock {L = g.row.L.Denot} {G = g.row.G.Denot} g.L.BlockLane.contents c.args.manager.now.table c.args.tag (is_some c.args.ring.now) c.args.self.now c.read_new.new.self c.read_new.result
+reads g c = subst (λ (p : PassState). ReadsBlock {L = g.row.L.Denot} {G = g.row.G.Denot} g.L.BlockLane.contents c.args.manager.now.table c.args.tag (is_some c.args.ring.now) p c.read_new.new.self c.read_new.result) c.self.view_is
+    (reads_hinted {L = g.row.L.Denot} {G = g.row.G.Denot} g.L.BlockLane.contents c.args.manager.now.table c.args.tag (is_some c.args.ring.now) _ c.read_new.new.self Unused c.read_new.result c.read_new.ensures.answer)
+
+met : (g : Over) (c : goal.After-read_new g) → c.read_new.new.self.view.met ≡ met_reading c.read_new.result c.args.self.now.view.met
+met g c = c.read_new.ensures.met ∙ ap (λ (p : PassState). met_reading c.read_new.result p.view.met) c.self.view_is
+
+turns : (g : Over) (c : goal.After-read_new g) → TakesTurns c.read_new.new.self.hint c.args.self.now.view.turns c.read_new.new.self.view.turns
+turns g c = subst (λ (p : PassState). TakesTurns c.read_new.new.self.hint p.view.turns c.read_new.new.self.view.turns) c.self.view_is c.read_new.ensures.turns
 
 pub returns-in_default-clause-again : goal.returns-in_default-clause-again
 returns-in_default-clause-again g c none f pinned = absurd (not_both c.args.tag f c.self.inside.held (subst (λ (p : PassState). IsPinnedFor c.args.tag f p.tokens) (sym c.self.view_is) pinned) c.in_default.ensures.new)
 
 pub returns-in_default-clause-pinned : goal.returns-in_default-clause-pinned
-returns-in_default-clause-pinned g c = pinned_read {L = g.row.L.Denot} {G = g.row.G.Denot} g.L.BlockLane.contents c.args.manager.now.table c.args.tag _ _ c.read_new.new.self c.read_new.result c.read_new.ensures.answer
+returns-in_default-clause-pinned g c = pinned_read {L = g.row.L.Denot} {G = g.row.G.Denot} g.L.BlockLane.contents c.args.manager.now.table c.args.tag _ _ c.read_new.new.self c.read_new.result (reads g c)
 
-pub invariant_of-self : goal.invariant_of-self
-invariant_of-self g c =
+pub invariant_of-self-2 : goal.invariant_of-self-2
+invariant_of-self-2 g c =
     let i = c.self.invariant in
-    (i.0, subst (λ (t : Tokens). OnlyTokens t (view_in c.self.inside.seat.views)) (sym c.add_token.ensures.tokens) (rests_again c.in-Some.frame c.self.inside.held (view_in c.self.inside.seat.views) i.1), i.2, i.3, i.4)
+    (i.0, subst (λ (t : Tokens). OnlyTokens t (view_in c.self.inside.seat.views)) (sym c.add_token.ensures.tokens) (rests_again c.in-Some.frame c.self.inside.held (view_in c.self.inside.seat.views) i.1), i.2, i.3, i.4, i.5)
 
 pub returns-clause-belongs : goal.returns-clause-belongs
 returns-clause-belongs g c =
@@ -38,8 +57,8 @@ returns-clause-again g c none f pinned =
       refl,
     )
   where
-    again : (p : PassState) (f : ℕ) {q : PassState} {t : Tokens} → p ≡ q → t ≡ tokens_more f p.tokens → record p { tokens = t } ≡ record q { tokens = tokens_more f q.tokens }
-    again p f e tokens = ap (λ (t : Tokens). record p { tokens = t }) tokens ∙ ap (λ (x : PassState). record x { tokens = tokens_more f x.tokens }) e
+    again : (p : PassState) (f : ℕ) {q : PassState} {t : Tokens} → p ≡ q → t ≡ tokens_more f p.tokens → record p { tokens = t; hint = Unused } ≡ record q { tokens = tokens_more f q.tokens; hint = Unused }
+    again p f e tokens = ap (λ (t : Tokens). record p { tokens = t; hint = Unused }) tokens ∙ ap (λ (x : PassState). record x { tokens = tokens_more f x.tokens; hint = Unused }) e
 
 pub returns-clause-new : goal.returns-clause-new
 returns-clause-new g c none new = absurd (not_both c.args.tag c.in-Some.frame c.self.inside.held c.in-Some.ensures.pinned (subst (λ (p : PassState). IsNew c.args.tag p.tokens) (sym c.self.view_is) new))
@@ -52,22 +71,51 @@ returns-clause-locks g c = subst (λ (p : PassState). SameLocks p.view (view_in 
 
 pub returns-in_default-clause-complete : goal.returns-in_default-clause-complete
 returns-in_default-clause-complete g c none nothing =
-    read_complete {L = g.row.L.Denot} {G = g.row.G.Denot} g.L.BlockLane.contents c.args.manager.now.table c.args.tag _ _ c.read_new.new.self c.read_new.result c.read_new.ensures.met c.read_new.ensures.answer nothing
+    read_complete {L = g.row.L.Denot} {G = g.row.G.Denot} g.L.BlockLane.contents c.args.manager.now.table c.args.tag _ _ c.read_new.new.self c.read_new.result (met g c) (reads g c) nothing
 
 pub returns-in_default-clause-exact : goal.returns-in_default-clause-exact
-returns-in_default-clause-exact g c = at_once_none {L = g.row.L.Denot} {G = g.row.G.Denot} g.L.BlockLane.contents c.args.manager.now.table c.args.tag _ _ c.read_new.new.self c.read_new.result c.read_new.ensures.answer ∙ sym (not_at_once (relations_of c.args.manager.now.table) c.args.self.now.tokens c.args.tag c.blocks-blocks.result c.blocks-blocks.ensures.count (omega arith) (subst (λ (p : PassState). count_of p.tokens < 8) c.self.view_is (c.is_full.ensures.room c.if-is_full.false)))
+returns-in_default-clause-exact g c = at_once_none {L = g.row.L.Denot} {G = g.row.G.Denot} g.L.BlockLane.contents c.args.manager.now.table c.args.tag _ _ c.read_new.new.self c.read_new.result (reads g c) ∙ sym (not_at_once (relations_of c.args.manager.now.table) c.args.self.now.tokens c.args.tag c.blocks-blocks.result c.blocks-blocks.ensures.count (omega arith) (subst (λ (p : PassState). count_of p.tokens < 8) c.self.view_is (c.is_full.ensures.room c.if-is_full.false)))
 
 pub returns-clause-back : goal.returns-clause-back
 returns-clause-back g c = c.add_token.ensures.back ∙ ap (λ (p : PassState). p.tokens) c.self.view_is
 
 pub returns-in_default-clause-last : goal.returns-in_default-clause-last
-returns-in_default-clause-last g c = unlocked_read {L = g.row.L.Denot} {G = g.row.G.Denot} g.L.BlockLane.contents c.args.manager.now.table c.args.tag _ _ c.read_new.new.self c.read_new.result c.read_new.ensures.answer
+returns-in_default-clause-last g c = unlocked_read {L = g.row.L.Denot} {G = g.row.G.Denot} g.L.BlockLane.contents c.args.manager.now.table c.args.tag _ _ c.read_new.new.self c.read_new.result (reads g c)
 
 pub returns-clause-last : goal.returns-clause-last
 returns-clause-last g c one = absurd (above_one _ c.add_token.ensures.several one)
 
 pub returns-in_default-clause-unsound : goal.returns-in_default-clause-unsound
-returns-in_default-clause-unsound g c failed e = unsound_was {L = g.row.L.Denot} {G = g.row.G.Denot} g.L.BlockLane.contents c.args.manager.now.table c.args.tag failed _ _ c.read_new.new.self c.read_new.result c.read_new.ensures.answer e
+returns-in_default-clause-unsound g c failed e = unsound_was {L = g.row.L.Denot} {G = g.row.G.Denot} g.L.BlockLane.contents c.args.manager.now.table c.args.tag failed _ _ c.read_new.new.self c.read_new.result (reads g c) e
 
 pub returns-clause-census : goal.returns-clause-census
 returns-clause-census g c = inl (ap (λ (p : PassState). p.census) c.self.view_is)
+
+pub returns-in_default-clause-same : goal.returns-in_default-clause-same
+returns-in_default-clause-same g c = same_from _ _ _ c.self.view_is (same_hinted _ _ Unused c.read_new.ensures.same)
+
+pub returns-in_default-clause-calls : goal.returns-in_default-clause-calls
+returns-in_default-clause-calls g c = subst (λ (p : PassState). KeepsCalls p c.read_new.new.self) c.self.view_is (calls_hinted _ _ Unused c.read_new.ensures.calls)
+
+pub returns-in_default-clause-new : goal.returns-in_default-clause-new
+returns-in_default-clause-new g c none new = reads g c
+
+pub returns-in_default-clause-hint : goal.returns-in_default-clause-hint
+returns-in_default-clause-hint g c = shows_hint {L = g.row.L.Denot} {G = g.row.G.Denot} g.L.BlockLane.contents c.args.manager.now.table c.args.tag (is_some c.args.ring.now) c.args.self.now c.read_new.new.self c.read_new.result (reads g c)
+
+pub returns-in_default-clause-turns : goal.returns-in_default-clause-turns
+returns-in_default-clause-turns g c = turns_counted c.read_new.new.self.hint c.args.self.now.view.turns c.read_new.new.self.view.turns (turns g c)
+
+pub returns-in_default-clause-shown : goal.returns-in_default-clause-shown
+returns-in_default-clause-shown g c = turns_told c.read_new.new.self.hint c.args.self.now.view.turns c.read_new.new.self.view.turns (turns g c)
+
+pub returns-in_default-clause-rises : goal.returns-in_default-clause-rises
+returns-in_default-clause-rises g c = turns_risen c.read_new.new.self.hint c.args.self.now.view.turns c.read_new.new.self.view.turns (turns g c)
+
+pub returns-in_default-clause-stored : goal.returns-in_default-clause-stored
+returns-in_default-clause-stored g c = subst (λ (p : PassState). StoresHints (frames_of c.args.manager.now.table) c.args.tag c.read_new.new.self.hint p.view.hints c.read_new.new.self.view.hints c.read_new.result) c.self.view_is c.read_new.ensures.hints
+
+pub read_new-requires-clause-belongs : goal.read_new-requires-clause-belongs
+read_new-requires-clause-belongs g c =
+    belongs_held {L = g.row.L.Denot} {G = g.row.G.Denot} g.L.BlockLane.contents c.args.manager.now _ _ refl refl refl refl (rises_none (view_in c.self.inside.seat.views)).end_seen (λ f h at. (h, at, refl))
+    (subst (Belongs {L = g.row.L.Denot} {G = g.row.G.Denot} g.L.BlockLane.contents c.args.manager.now) (sym c.self.view_is) c.requires.belongs)

@@ -8,6 +8,7 @@ use Rattle.pin_core.specs.State.{link}
 use Rattle.content_locks.specs.Locks.{CanCopy}
 use Rattle.held_pins.specs.Tokens.{IsPinnedFor, held_at}
 use Rattle.held_pins.proofs.Keeping.{same_locks_at}
+use Rattle.buffer_frames.specs.Outside.{shown_count}
 use Rattle.backend_pass.specs.Managers.{Belongs}
 use Rattle.buffer_frames.specs.PageReads.{OnlyReads, ReadsPage, ReadsUnder}
 use Rattle.backend_pass.specs.Passes.{IsNumbered, PassState, view_in}
@@ -48,6 +49,7 @@ invariant_of-self g c =
       subst (λ (id : ℕ). IsNumbered c.self.inside.number id (view_in c.return_seat.new.badge.views)) (sym same) (numbered_read c.self.inside.number c.self.inside.seat.id _ _ only i.2),
       shown_read _ _ (padded_value c.self.inside.shown) c.deref.result.now _ c.read_copy-place.result only front c.deref.ensures c.new-self-inside.ensures i.3,
       i.4,
+      i.5 ∙ ap (λ (x : View). shown_count x.turns) (sym only.kept),
     )
 
 pub returns-clause-belongs : goal.returns-clause-belongs

@@ -4,14 +4,17 @@ use Rattle.crossbeam_utils.specs.Padded.{padded_value}
 use Rattle.block_tag.specs.Names.{packed_tag}
 use Rattle.pin_core.specs.declared.view.View.{View}
 use Rattle.frame_table.specs.Seats.{frames_of}
+use Rattle.buffer_frames.specs.Hinting.{NotesUnlessHad, TakesTurns}
 use Rattle.buffer_frames.specs.Reads.{KeptOrEmptied}
 use Rattle.held_pins.specs.Tokens.{IsNew, Tokens, tokens_less}
 use Rattle.held_pins.specs.Rests.{OnlyTokens, SameLocks}
 use Rattle.backend_pass.specs.declared.errors.ReadError.{ReadError}
+use Rattle.backend_pass.specs.HintsSeen.{LeavesHint, StoresHints}
 use Rattle.backend_pass.specs.Managers.{Belongs}
 use Rattle.backend_pass.specs.Passes.{IsNumbered, IsShown, PassState, view_in}
 use Rattle.backend_pass.specs.Reading.{ReadingCensus, met_read_refused, shown_after}
 use Rattle.backend_pass.proofs.BlockReads.{belongs_with, census_of_refusal, links_refused, met_of_refusal, numbered_kept, refused_reads, rests_pinned, shown_met, shown_refused}
+use Rattle.backend_pass.proofs.HintsSeen.{leaves, stores_refused}
 use Rattle.backend_pass.proofs.Releasing.{belongs_held}
 use Rattle.backend_pass.proofs.pass.Pass.read_new.Goals as goal
 
@@ -23,9 +26,10 @@ invariant_of-self g c =
     let w = view_in c.read_seated.new.badge.views in (
       e.badge.one,
       subst (λ (t : Tokens). OnlyTokens t w) (sym c.add_pin.ensures.tokens) (rests_pinned (packed_tag c.args.tag.now) c.in-Ok.field-0.pin.frame c.self.inside.held w e.quiet e.latches e.answer.1 e.answer.2),
-      subst (λ (id : ℕ). IsNumbered c.self.inside.number id w) (sym e.badge.id) (numbered_kept c.self.inside.number c.self.inside.seat.id v w e.kept i.2),
+      subst (λ (id : ℕ). IsNumbered c.self.inside.number id w) (sym e.badge.id) (numbered_kept c.self.inside.number c.self.inside.seat.id v w (ap (λ (x : View). x.number) e.kept) i.2),
       shown_met v w (padded_value c.self.inside.shown) (ap (λ (x : View). x.front) e.kept) e.met i.3,
       subst (λ (frames : ℕ). frames ≤ vec_capacity c.self.inside.marked) (sym e.room) i.4,
+      e.counted,
     )
 
 pub invariant_of-self-in-Err : goal.invariant_of-self-in-Err
@@ -38,9 +42,10 @@ invariant_of-self-in-Err g c =
     let shown : padded_value c.new-self-inside.result ≡ shown_after c.refused-why.result (padded_value c.self.inside.shown) = c.new-self-inside.ensures ∙ c.after-shown.ensures ∙ ap (shown_after c.refused-why.result) c.deref.ensures in (
       e.badge.one,
       record { quiet = e.quiet; links = links_refused {L = g.row.L.Denot} {G = g.row.G.Denot} g.L.BlockLane.contents c.args.manager.now.table c.args.tag.now c.self.inside.held c.read_seated.new.census.words v w c.in-Err.cause e.answer; latches = e.latches },
-      subst (λ (id : ℕ). IsNumbered c.self.inside.number id w) (sym e.badge.id) (numbered_kept c.self.inside.number c.self.inside.seat.id v w e.kept i.2),
+      subst (λ (id : ℕ). IsNumbered c.self.inside.number id w) (sym e.badge.id) (numbered_kept c.self.inside.number c.self.inside.seat.id v w (ap (λ (x : View). x.number) e.kept) i.2),
       subst (IsShown w) (sym shown) (shown_refused v w (padded_value c.self.inside.shown) c.refused-why.result (ap (λ (x : View). x.front) e.kept) met i.3),
       subst (λ (frames : ℕ). frames ≤ vec_capacity c.self.inside.marked) (sym e.room) i.4,
+      e.counted,
     )
 
 pub returns-in-Ok-clause-belongs : goal.returns-in-Ok-clause-belongs
@@ -83,3 +88,27 @@ returns-in-Err-clause-census g c =
     let n = frames_of c.args.manager.now.table in
     subst (λ (p : PassState). ReadingCensus n p.census c.read_seated.new.census (Err c.refused-why.result)) c.self.view_is
     (subst (λ (y : ReadError). ReadingCensus n c.self.inside.census c.read_seated.new.census (Err y)) (sym c.refused-why.ensures) (census_of_refusal n c.self.inside.census c.read_seated.new.census c.in-Err.cause c.in-Err.ensures.census))
+
+pub returns-in-Ok-clause-turns : goal.returns-in-Ok-clause-turns
+returns-in-Ok-clause-turns g c = subst (λ (p : PassState). TakesTurns c.read_seated.new.sought.hint p.view.turns (view_in c.read_seated.new.badge.views).turns) c.self.view_is c.in-Ok.ensures.turns
+
+pub returns-in-Err-clause-turns : goal.returns-in-Err-clause-turns
+returns-in-Err-clause-turns g c = subst (λ (p : PassState). TakesTurns c.read_seated.new.sought.hint p.view.turns (view_in c.read_seated.new.badge.views).turns) c.self.view_is c.in-Err.ensures.turns
+
+pub returns-in-Ok-clause-hints : goal.returns-in-Ok-clause-hints
+returns-in-Ok-clause-hints g c =
+    let n = frames_of c.args.manager.now.table in
+    let old = (view_in c.self.inside.seat.views) in
+    let new = (view_in c.read_seated.new.badge.views) in
+    subst (λ (p : PassState). LeavesHint n c.args.tag.now c.frame-frame.result c.read_seated.new.sought.hint p.view.hints new.hints) c.self.view_is
+    (leaves n c.args.tag.now c.frame-frame.result c.read_seated.new.sought.hint old.turns new.turns old.hints new.hints c.in-Ok.ensures.turns
+    (subst (λ (f : ℕ). NotesUnlessHad n c.args.tag.now f c.read_seated.new.sought.hint old.hints new.hints) (sym c.frame-frame.ensures) c.in-Ok.ensures.hints))
+
+pub returns-in-Err-clause-hints : goal.returns-in-Err-clause-hints
+returns-in-Err-clause-hints g c =
+    let n = frames_of c.args.manager.now.table in
+    let old = (view_in c.self.inside.seat.views) in
+    let new = (view_in c.read_seated.new.badge.views) in
+    subst (λ (p : PassState). StoresHints n c.args.tag.now c.read_seated.new.sought.hint p.view.hints new.hints (Err c.refused-why.result)) c.self.view_is
+    (subst (λ (y : ReadError). StoresHints n c.args.tag.now c.read_seated.new.sought.hint old.hints new.hints (Err y)) (sym c.refused-why.ensures)
+    (stores_refused n c.args.tag.now c.read_seated.new.sought.hint old.turns new.turns old.hints new.hints c.in-Err.cause c.in-Err.ensures.turns c.in-Err.ensures.hints))

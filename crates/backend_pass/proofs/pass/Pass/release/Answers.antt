@@ -1,4 +1,4 @@
-use Rattle.std.proofs.Common.{◌≡◌, ◌∙◌, ℕ, false, Some, None, refl, sym, subst}
+use Rattle.std.proofs.Common.{◌≡◌, ◌∙◌, ℕ, false, Some, None, refl, sym, subst, ap}
 use Rattle.pin_core.specs.declared.view.Content.TheVariants.{Unlocked}
 use Rattle.pin_core.specs.declared.view.View.{View}
 use Rattle.pin_core.specs.State.{link}
@@ -9,6 +9,7 @@ use Rattle.held_pins.specs.Tokens.{Tokens, held_at, tokens_of}
 use Rattle.held_pins.specs.Rests.{OnlyTokens, SameLocks}
 use Rattle.held_pins.proofs.HeldLists.{above_one}
 use Rattle.held_pins.proofs.Keeping.{same_locks_at, same_locks_none}
+use Rattle.buffer_frames.specs.Outside.{shown_count}
 use Rattle.backend_pass.specs.Managers.{Belongs}
 use Rattle.backend_pass.specs.Passes.{IsNumbered, PassState, view_in}
 use Rattle.backend_pass.proofs.Releasing.{AreHeld, Unpins, belongs_held, belongs_touched, held_last, held_several, may_unpin, numbered_self, rests_fewer, rests_unpinned, same_touched, shown_self, unpins_at}
@@ -17,7 +18,7 @@ use Rattle.backend_pass.proofs.pass.Pass.release.Goals as goal
 
 pub invariant_of-self : goal.invariant_of-self
 invariant_of-self g c = let i = c.self.invariant in
-    (i.0, subst (λ (t : Tokens). OnlyTokens t (view_in c.self.inside.seat.views)) (sym c.take_token.ensures.tokens) (rests_fewer c.args.pinned.frame c.self.inside.held _ (above_one _ c.in_default.ensures.others.0) i.1), i.2, i.3, i.4)
+    (i.0, subst (λ (t : Tokens). OnlyTokens t (view_in c.self.inside.seat.views)) (sym c.take_token.ensures.tokens) (rests_fewer c.args.pinned.frame c.self.inside.held _ (above_one _ c.in_default.ensures.others.0) i.1), i.2, i.3, i.4, i.5)
 
 pub returns-in_default-clause-belongs : goal.returns-in_default-clause-belongs
 returns-in_default-clause-belongs g c =
@@ -52,6 +53,7 @@ invariant_of-self-2 g c =
       subst (λ (id : ℕ). IsNumbered c.self.inside.number id (view_in c.return_seat.new.badge.views)) (sym same) (numbered_self c.self.inside.number c.self.inside.seat.id _ _ u.touches.self i.2),
       shown_self _ _ _ u.touches.self i.3,
       i.4,
+      i.5 ∙ ap (λ (x : View). shown_count x.turns) (sym u.touches.self),
     )
 
 pub returns-clause-belongs : goal.returns-clause-belongs

@@ -3,6 +3,7 @@ use Rattle.crossbeam_utils.specs.Padded.{padded_value}
 use Rattle.pin_core.specs.declared.view.View.{View}
 use Rattle.pin_core.specs.State.{link}
 use Rattle.held_pins.proofs.Keeping.{same_locks_at}
+use Rattle.buffer_frames.specs.Outside.{shown_count}
 use Rattle.backend_pass.specs.Managers.{Belongs}
 use Rattle.backend_pass.specs.Passes.{IsNumbered, IsShown, PassState, view_in}
 use Rattle.backend_pass.proofs.BlockReads.{numbered_kept, same_kept}
@@ -52,9 +53,10 @@ invariant_of-self g c =
     let w = (view_in c.return_seat.new.badge.views) in (
       e.badge.one,
       e.rests,
-      subst (λ (id : ℕ). IsNumbered c.self.inside.number id w) (sym e.badge.id) (numbered_kept c.self.inside.number c.self.inside.seat.id v w e.did.works.kept i.2),
+      subst (λ (id : ℕ). IsNumbered c.self.inside.number id w) (sym e.badge.id) (numbered_kept c.self.inside.number c.self.inside.seat.id v w (ap (λ (x : View). x.number) e.did.works.kept) i.2),
       subst (IsShown w) (sym (c.new-self-inside.ensures ∙ c.after_sync-shown.ensures ∙ ap (shown_synced c.told-answer.result) c.deref.ensures)) (shown_sync v w (padded_value c.self.inside.shown) c.told-answer.result (ap (λ (x : View). x.front) e.did.works.kept) (subst (λ (r : Result Synced frames.FrameFlushError). w.met ≡ met_flushing r v.met) (sym c.told-answer.ensures) (e.did.met)) i.3),
       i.4,
+      i.5 ∙ ap (λ (x : View). shown_count x.turns) (sym e.did.works.kept),
     )
 
 pub returns-clause-belongs : goal.returns-clause-belongs
@@ -69,7 +71,7 @@ returns-clause-same g c =
 
 pub returns-clause-callers : goal.returns-clause-callers
 returns-clause-callers g c =
-    let e = frame_worked {L = g.row.L.Denot} {G = g.row.G.Denot} c.self.inside.held _ _ _ _ c.take_seat-seat.ensures c.sync_one-frames_answer.ensures.seat c.return_seat.ensures c.self.invariant.1 (λ v w. SyncsOne {L = g.row.L.Denot} {G = g.row.G.Denot} g.L.BlockLane.contents c.args.manager.now.table c.args.only c.args.frame v w c.sync_one-frames_answer.result) c.sync_one-frames_answer.ensures.stands.quiet c.sync_one-frames_answer.ensures.rests c.sync_one-frames_answer.ensures.one.works.partitions c.sync_one-frames_answer.ensures.one in callers_from _ _ _ c.self.view_is (callers_kept _ _ e.badge.table e.badge.id refl refl e.did.works.kept e.did.works.advances (same_locks_at c.args.frame (view_in c.self.inside.seat.views) (view_in c.return_seat.new.badge.views) e.did.works.others e.did.lock))
+    let e = frame_worked {L = g.row.L.Denot} {G = g.row.G.Denot} c.self.inside.held _ _ _ _ c.take_seat-seat.ensures c.sync_one-frames_answer.ensures.seat c.return_seat.ensures c.self.invariant.1 (λ v w. SyncsOne {L = g.row.L.Denot} {G = g.row.G.Denot} g.L.BlockLane.contents c.args.manager.now.table c.args.only c.args.frame v w c.sync_one-frames_answer.result) c.sync_one-frames_answer.ensures.stands.quiet c.sync_one-frames_answer.ensures.rests c.sync_one-frames_answer.ensures.one.works.partitions c.sync_one-frames_answer.ensures.one in callers_from _ _ _ c.self.view_is (callers_kept _ _ e.badge.table e.badge.id refl refl refl e.did.works.kept e.did.works.advances (same_locks_at c.args.frame (view_in c.self.inside.seat.views) (view_in c.return_seat.new.badge.views) e.did.works.others e.did.lock))
 
 pub returns-clause-others : goal.returns-clause-others
 returns-clause-others g c =

@@ -7,6 +7,8 @@ use Rattle.frame_table.specs.Content.{exclusive_link}
 use Rattle.held_pins.specs.Rests.{SameLocks}
 use Rattle.held_pins.specs.Tokens.{held_at}
 use Rattle.held_pins.proofs.Keeping.{same_locks_at}
+use Rattle.pin_core.specs.declared.view.View.{View}
+use Rattle.buffer_frames.specs.Outside.{shown_count}
 use Rattle.backend_pass.specs.Managers.{Belongs}
 use Rattle.backend_pass.specs.Passes.{IsNumbered, PassState, view_in}
 use Rattle.backend_pass.proofs.Releasing.{belongs_touched, numbered_self, same_touched, shown_self}
@@ -28,6 +30,7 @@ invariant_of-self g c =
       subst (λ (id : ℕ). IsNumbered c.self.inside.number id (view_in c.return_seat.new.badge.views)) (sym same) (numbered_self c.self.inside.number c.self.inside.seat.id _ _ k.touches.self i.2),
       shown_self _ _ _ k.touches.self i.3,
       i.4,
+      i.5 ∙ ap (λ (x : View). shown_count x.turns) (sym k.touches.self),
     )
 
 pub returns-clause-belongs : goal.returns-clause-belongs

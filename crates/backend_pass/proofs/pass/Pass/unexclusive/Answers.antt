@@ -1,18 +1,24 @@
 use Rattle.std.proofs.Common.{◌≡◌, ◌∙◌, ℕ, Some, refl, sym, ap, subst}
 use Rattle.held_pins.specs.Tokens.{held_at}
+use Rattle.pin_core.specs.declared.view.View.{View}
+use Rattle.buffer_frames.specs.Outside.{shown_count}
 use Rattle.backend_pass.specs.Managers.{Belongs}
 use Rattle.backend_pass.specs.Passes.{IsNumbered, PassState, view_in}
 use Rattle.backend_pass.proofs.Releasing.{belongs_touched, numbered_self, same_touched, shown_self}
 use Rattle.backend_pass.proofs.Relocking.{Relocks, beside_lock, held_same, rests_relocked}
 use Rattle.backend_pass.proofs.Seated.{moved, same_from}
+use Rattle.backend_pass.proofs.pass.Pass.unexclusive.Given.{Over}
 use Rattle.backend_pass.proofs.pass.Pass.unexclusive.Goals as goal
+
+-- what the call did
+relocked : (g : Over) (c : goal.After-return_seat g) → Relocks c.args.exclusive.pinned.frame (view_in c.self.inside.seat.views) (view_in c.return_seat.new.badge.views)
+relocked g c = moved (Relocks c.args.exclusive.pinned.frame) _ _ _ _ c.take_seat-seat.ensures.view c.return_seat.ensures.view record { touches = c.unexclusive.ensures.touches; marks = c.unexclusive.ensures.marks; beside = ap beside_lock c.unexclusive.ensures.unexclusive }
 
 pub invariant_of-self : goal.invariant_of-self
 invariant_of-self g c =
     let f = c.args.exclusive.pinned.frame in
     let there = subst (λ (p : PassState). held_at p.tokens f ≡ Some c.requires.pinned.held) (sym c.self.view_is) c.requires.pinned.there in
-    let before = c.take_seat-seat.ensures.view in
-    let k : Relocks f (view_in c.self.inside.seat.views) (view_in c.return_seat.new.badge.views) = moved (Relocks f) _ _ _ _ before c.return_seat.ensures.view record { touches = c.unexclusive.ensures.touches; marks = c.unexclusive.ensures.marks; beside = ap beside_lock c.unexclusive.ensures.unexclusive } in
+    let k = relocked g c in
     let i = c.self.invariant in
     let same = sym c.return_seat.ensures.id ∙ c.unexclusive.ensures.seat.id ∙ c.take_seat-seat.ensures.id in (
       c.return_seat.ensures.one,
@@ -20,13 +26,13 @@ invariant_of-self g c =
       subst (λ (id : ℕ). IsNumbered c.self.inside.number id (view_in c.return_seat.new.badge.views)) (sym same) (numbered_self c.self.inside.number c.self.inside.seat.id _ _ k.touches.self i.2),
       shown_self _ _ _ k.touches.self i.3,
       i.4,
+      i.5 ∙ ap (λ (x : View). shown_count x.turns) (sym k.touches.self),
     )
 
 pub returns-clause-belongs : goal.returns-clause-belongs
 returns-clause-belongs g c =
     let f = c.args.exclusive.pinned.frame in
-    let before = c.take_seat-seat.ensures.view in
-    let k : Relocks f (view_in c.self.inside.seat.views) (view_in c.return_seat.new.badge.views) = moved (Relocks f) _ _ _ _ before c.return_seat.ensures.view record { touches = c.unexclusive.ensures.touches; marks = c.unexclusive.ensures.marks; beside = ap beside_lock c.unexclusive.ensures.unexclusive } in
+    let k = relocked g c in
     let table = sym c.return_seat.ensures.table ∙ c.unexclusive.ensures.seat.table ∙ c.take_seat-seat.ensures.table in
     belongs_touched {L = g.row.L.Denot} {G = g.row.G.Denot} g.L.BlockLane.contents c.args.manager.now _ _ f table refl k.touches (held_same c.self.inside.held)
     (subst (Belongs {L = g.row.L.Denot} {G = g.row.G.Denot} g.L.BlockLane.contents c.args.manager.now) (sym c.self.view_is) c.requires.belongs)
@@ -34,8 +40,7 @@ returns-clause-belongs g c =
 pub returns-clause-same : goal.returns-clause-same
 returns-clause-same g c =
     let f = c.args.exclusive.pinned.frame in
-    let before = c.take_seat-seat.ensures.view in
-    let k : Relocks f (view_in c.self.inside.seat.views) (view_in c.return_seat.new.badge.views) = moved (Relocks f) _ _ _ _ before c.return_seat.ensures.view record { touches = c.unexclusive.ensures.touches; marks = c.unexclusive.ensures.marks; beside = ap beside_lock c.unexclusive.ensures.unexclusive } in
+    let k = relocked g c in
     let table = sym c.return_seat.ensures.table ∙ c.unexclusive.ensures.seat.table ∙ c.take_seat-seat.ensures.table in
     let id = sym c.return_seat.ensures.id ∙ c.unexclusive.ensures.seat.id ∙ c.take_seat-seat.ensures.id in
     same_from _ _ _ c.self.view_is (same_touched _ _ f table id refl k.touches)

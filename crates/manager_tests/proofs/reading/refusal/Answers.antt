@@ -1,5 +1,5 @@
 use Rattle.manager_tests.proofs.Freeing.{released_returns}
-use Rattle.manager_tests.proofs.crowding.refusal.Goals as goal
+use Rattle.manager_tests.proofs.reading.refusal.Goals as goal
 
 pub returns-in-Ok : goal.returns-in-Ok
 returns-in-Ok g c =

@@ -1,0 +1,52 @@
+use Rattle.std.proofs.Common.{◌∙◌, ap, sym}
+use Rattle.pin_core.specs.declared.view.FailedCalls.{FailedCalls}
+use Rattle.frame_table.specs.Seats.{relations_of}
+use Rattle.backend_pass.specs.Reading.{met_read_refused}
+use Rattle.backend_pass.proofs.Keeping.{calls_on}
+use Rattle.page_jobs.proofs.Blocks.{met_crowded, new_none, not_at_once, once}
+use Rattle.page_jobs.proofs.Staying.{stays_read}
+use Rattle.page_jobs.proofs.reading.pin_block.Goals as goal
+
+pub returns-in-Ok-clause-pinned : goal.returns-in-Ok-clause-pinned
+returns-in-Ok-clause-pinned g c =
+    let i = c.loop.invariant in
+    let e = c.in-Ok.ensures in
+    let tried = not_at_once (relations_of c.args.manager.now.table) c.loop.pass.tokens c.args.tag c.requires.block i.spent in
+    let looked_up = e.new tried (new_none c.args.tag c.loop.pass.tokens i.spent) in
+    record {
+      stays = stays_read {L = g.row.L.Denot} {G = g.row.G.Denot} g.L.BlockLane.contents c.args.manager.now c.args.pass.now c.loop.pass c.read_buffer.new.self i.stays e.belongs e.same e.mark e.locks e.calls;
+      calls = calls_on c.args.pass.now c.loop.pass c.read_buffer.new.self i.calls e.calls;
+      met = e.met ∙ i.met;
+      tag_is = e.tag;
+      token = e.pinned;
+      last = e.back ∙ i.spent;
+      unlocked = looked_up.answer.unlocked;
+    }
+
+pub returns-then-not-is_crowding-clause-refused : goal.returns-then-not-is_crowding-clause-refused
+returns-then-not-is_crowding-clause-refused g c =
+    let i = c.loop.invariant in
+    let e = c.in-Err.ensures in
+    let tried = not_at_once (relations_of c.args.manager.now.table) c.loop.pass.tokens c.args.tag c.requires.block i.spent in
+    let looked_up = e.new tried (new_none c.args.tag c.loop.pass.tokens i.spent) in
+    record {
+      stays = stays_read {L = g.row.L.Denot} {G = g.row.G.Denot} g.L.BlockLane.contents c.args.manager.now c.args.pass.now c.loop.pass c.read_buffer.new.self i.stays e.belongs e.same e.mark e.locks e.calls;
+      spent = e.refused ∙ i.spent;
+      calls = e.calls.calls ∙ i.calls.calls;
+      once = once c.in-Err.why (e.exact ∙ tried) (sym c.is_crowding.ensures ∙ c.if-not-is_crowding.true);
+      before = c.loop.pass;
+      since = i.stays.same.keeps.advances;
+      refused = looked_up.answer.1;
+      met = e.met ∙ ap (λ (m : FailedCalls). met_read_refused c.in-Err.why m) i.met;
+    }
+
+pub loop-preserved : goal.loop-preserved
+loop-preserved g c =
+    let i = c.loop.invariant in
+    let e = c.in-Err.ensures in
+    record {
+      stays = stays_read {L = g.row.L.Denot} {G = g.row.G.Denot} g.L.BlockLane.contents c.args.manager.now c.args.pass.now c.loop.pass c.read_buffer.new.self i.stays e.belongs e.same e.mark e.locks e.calls;
+      spent = e.refused ∙ i.spent;
+      calls = calls_on c.args.pass.now c.loop.pass c.read_buffer.new.self i.calls e.calls;
+      met = e.met ∙ met_crowded c.in-Err.why c.loop.pass.view.met (sym c.is_crowding.ensures ∙ c.if-not-is_crowding.false) ∙ i.met;
+    }
