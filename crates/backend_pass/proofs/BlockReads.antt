@@ -26,10 +26,13 @@ use Rattle.held_pins.proofs.Keeping.{rests_more, rests_more_pinned}
 use Rattle.buffer_frames.specs.declared.flushing.FrameFlushError.TheVariants as flush
 use Rattle.buffer_frames.specs.declared.hinting.HintSeen.{HintSeen}
 use Rattle.buffer_frames.specs.declared.victims.VictimError.TheVariants as victim
+use Rattle.buffer_frames.specs.declared.reading.PinnedBlock.{PinnedBlock}
 use Rattle.buffer_frames.specs.declared.reading.BlockError.{BlockError}
 use Rattle.buffer_frames.specs.declared.reading.BlockError.TheVariants as block
 use Rattle.buffer_frames.specs.Reads.{CensusRead, ReadAnswer, ReadCalls, met_read_block}
 use Rattle.buffer_frames.specs.Stages.{Pins}
+use Rattle.clock_sweep.specs.FreeFrames.{QueueState}
+use Rattle.clock_sweep.proofs.FreeLists.{list_same}
 use Rattle.backend_pass.specs.declared.errors.ReadError.{ReadError}
 use Rattle.backend_pass.specs.declared.errors.ReadError.TheVariants.{PastEnd, PinsFull, NoUnpinned, ReadFault, WriteFault, LogFault, LogDown, LogShort, Unsound}
 use Rattle.backend_pass.specs.declared.manager.Manager.{Manager}
@@ -38,7 +41,7 @@ use Rattle.backend_pass.specs.declared.pinned.Pinned.{Pinned}
 use Rattle.backend_pass.specs.Managers.{Belongs}
 use Rattle.backend_pass.proofs.Fronts.{front_kept}
 use Rattle.buffer_frames.specs.Outside.{shown_count}
-use Rattle.backend_pass.specs.Passes.{IsNumbered, IsShown, KeepsCalls, PassState, SamePass}
+use Rattle.backend_pass.specs.Passes.{IsNumbered, IsShown, KeepsCalls, PassState, SamePass, PassOwn, own_of}
 use Rattle.backend_pass.specs.Reading.{ReadingCalls, ReadingCensus, ReadingRefused, ReadsBlock, met_read_refused, read_refusal, shown_after}
 
 -- the number, and what is shown
@@ -104,8 +107,8 @@ census_of_refusal n c d (block.ReadFault tag) e = e
 census_of_refusal n c d (block.Unsound tag) e = e
 
 -- and so are its calls
-module _ (n : ℕ) (tag : Tag) (held : Tokens) (ring : Bool) (seen : HintSeen) (q : ℕ) (v w : View) where
-  pub calls_of_refusal : (why : BlockError) → ReadCalls n tag held ring seen q v w (Err why) → ReadingCalls n tag held ring seen q v w (Err (read_refusal why))
+module _ (n : ℕ) (tag : Tag) (held : Tokens) (ring : Bool) (seen : HintSeen) (q r : QueueState) (lane : ℕ) (v w : View) where
+  pub calls_of_refusal : (why : BlockError) → ReadCalls n tag held ring seen q r lane v w (Err why) → ReadingCalls n tag held ring seen q r lane v w (Err (read_refusal why))
   calls_of_refusal (block.NoFrame (victim.NoUnpinned frames)) c = c
   calls_of_refusal (block.NoFrame (victim.Flush (flush.WriteFault failed))) c = c
   calls_of_refusal (block.NoFrame (victim.Flush (flush.Log log.LogFault))) c = c
@@ -132,12 +135,12 @@ pub rests_again : (f : ℕ) (t : Tokens) (v : View) → OnlyTokens t v → OnlyT
 rests_again f t v r = record { quiet = r.quiet; links = rests_more f t v r.links; latches = r.latches }
 
 -- it is the same pass
-pub same_kept : (p q : PassState) → q.table ≡ p.table → q.id ≡ p.id → q.census.frames ≡ p.census.frames → kept_by_calls q.view ≡ kept_by_calls p.view → OnlyRises p.view q.view → SamePass p q
+pub same_kept : (p q : PassState) → q.table ≡ p.table → q.id ≡ p.id → own_of q ≡ own_of p → kept_by_calls q.view ≡ kept_by_calls p.view → OnlyRises p.view q.view → SamePass p q
 same_kept p q table id census e advances = record {
   keeps = record {
     table = table;
     id = id;
-    frames = census;
+    own = census;
     number = ap (λ (x : View). x.number) e;
     next = ap (λ (x : View). x.next) e;
     joined = ap (λ (x : View). x.joined) e;
@@ -153,7 +156,7 @@ calls_kept p q e = record { calls = ap (λ (x : View). x.calls) e; front = ap (�
 -- what a call leaves of a pass is no matter of the hint that it had
 module _ (p q : PassState) (seen : HintSeen) where
   pub same_hinted : SamePass (record p { hint = seen }) q → SamePass p q
-  same_hinted s = let k = s.keeps in record { keeps = record { table = k.table; id = k.id; frames = k.frames; number = k.number; next = k.next; joined = k.joined; kept = k.kept; advances = k.advances }; upto = s.upto }
+  same_hinted s = let k = s.keeps in record { keeps = record { table = k.table; id = k.id; own = k.own; number = k.number; next = k.next; joined = k.joined; kept = k.kept; advances = k.advances }; upto = s.upto }
 
   pub calls_hinted : KeepsCalls (record p { hint = seen }) q → KeepsCalls p q
   calls_hinted k = record { calls = k.calls; front = k.front; place_loads = k.place_loads }
@@ -182,10 +185,18 @@ module _ {L G : Type 0} (contents : L → Option Pages) (t : FrameTable L G) whe
   refused_as tag held words p q (block.Unsound failed) e a = (a.0, (a.1, a.2))
 
   pub refused_reads : (tag : Tag) (ring : Bool) (a p q : PassState) (why : BlockError) (answer : ReadError) → a ≡ p → answer ≡ read_refusal why → q.tokens ≡ a.tokens → ReadAnswer contents t tag a.tokens q.census.words a.view q.view (Err why)
-      → ReadCalls (frames_of t) tag a.tokens ring q.hint (lane_number tag (lanes_in t)) a.view q.view (Err why) → ReadsBlock contents t tag ring p q (Err answer)
+      → ReadCalls (frames_of t) tag a.tokens ring q.hint a.queue q.queue (lane_number tag (lanes_in t)) a.view q.view (Err why) → ReadsBlock contents t tag ring p q (Err answer)
   refused_reads tag ring a p q why answer same is tokens r calls = subst (λ (x : PassState). ReadsBlock contents t tag ring x q (Err answer)) same (subst (λ (y : ReadError). ReadsBlock contents t tag ring a q (Err y)) (sym is) record {
     answer = (tokens, (refused_as tag a.tokens q.census.words a q why refl r).1);
-    calls = calls_of_refusal (frames_of t) tag a.tokens ring q.hint (lane_number tag (lanes_in t)) a.view q.view why calls;
+    calls = calls_of_refusal (frames_of t) tag a.tokens ring q.hint a.queue q.queue (lane_number tag (lanes_in t)) a.view q.view why calls;
+  })
+
+  -- and a block that was pinned
+  pub first_reads : (tag : Tag) (ring : Bool) (a p q : PassState) (block : PinnedBlock) (frame : ℕ) → a ≡ p → frame ≡ block.pin.frame → q.tokens ≡ tokens_with block.pin.frame (packed_tag tag) a.tokens → ReadAnswer contents t tag a.tokens q.census.words a.view q.view (Ok block)
+      → ReadCalls (frames_of t) tag a.tokens ring q.hint a.queue q.queue (lane_number tag (lanes_in t)) a.view q.view (Ok block) → ReadsBlock contents t tag ring p q (Ok (record { frame = frame; tag = tag; hit = block.hit }))
+  first_reads tag ring a p q block frame same is tokens r calls = subst (λ (x : PassState). ReadsBlock contents t tag ring x q (Ok (record { frame = frame; tag = tag; hit = block.hit }))) same (subst (λ (f : ℕ). ReadsBlock contents t tag ring a q (Ok (record { frame = f; tag = tag; hit = block.hit }))) (sym is) record {
+    answer = record { named = refl; tokens = tokens; new = r.1.new; inside = r.0; seen = r.2; unlocked = r.1.unlocked; sound = r.3 };
+    calls = calls;
   })
 
   -- what is told of a read is no matter of the hint that the pass had
@@ -214,11 +225,12 @@ module _ {L G : Type 0} (contents : L → Option Pages) (t : FrameTable L G) whe
 
 module _ {L G : Type 0} (contents : L → Option Pages) (m : Manager L G) where
   -- one token more, of a block that was sound
-  pub belongs_with : (p q : PassState) (tag : Tag) (f : ℕ) → q.table ≡ p.table → q.census.frames ≡ p.census.frames → q.view.calls ≡ p.view.calls → q.view.front ≡ p.view.front → p.view.end_seen ≤ q.view.end_seen → q.tokens ≡ tokens_with f (packed_tag tag) p.tokens
+  pub belongs_with : (p q : PassState) (tag : Tag) (f : ℕ) → q.table ≡ p.table → own_of q ≡ own_of p → q.view.calls ≡ p.view.calls → q.view.front ≡ p.view.front → p.view.end_seen ≤ q.view.end_seen → q.tokens ≡ tokens_with f (packed_tag tag) p.tokens
       → held_at p.tokens f ≡ None → f < frames_of m.table → names_block tag ≡ true → has_block (relations_of m.table) tag ≡ true → IsNew tag p.tokens → WasSoundAtOpening contents m.table tag → Belongs contents m p → Belongs contents m q
   belongs_with p q tag f table census calls front end tokens none below named listed is_new sound b = record {
     table = table ∙ b.table;
-    frames = census ∙ b.frames;
+    frames = ap (λ (x : PassOwn). x.frames) census ∙ b.frames;
+    queue = list_same m.table m.sweep p.queue q.queue b.queue (ap (λ (x : PassOwn). x.queue) census);
     inside = λ g h e. dite (ℕ_discrete g f)
         (λ d. subst (λ (x : ℕ). x < frames_of m.table) (sym d) below)
         (λ n. b.inside g h (past g h n e));

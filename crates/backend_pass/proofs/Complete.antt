@@ -16,11 +16,11 @@ use Rattle.buffer_frames.specs.Victims.{LeavesDirty}
 use Rattle.backend_pass.specs.declared.errors.ReadError.{ReadError}
 use Rattle.backend_pass.specs.declared.errors.ReadError.TheVariants.{PastEnd, PinsFull, NoUnpinned, ReadFault, WriteFault, LogFault, LogDown, LogShort, Unsound}
 use Rattle.backend_pass.specs.declared.pinned.Pinned.{Pinned}
-use Rattle.backend_pass.specs.Passes.{PassState}
-use Rattle.backend_pass.specs.Reading.{IsReadUnsoundOrAllPinned, NothingFails, ReadsBlock, ReadingRefused, at_once_of, met_read_refused, met_reading, refused_at_once}
+use Rattle.backend_pass.specs.Passes.{NoDeviceFails, PassState}
+use Rattle.backend_pass.specs.Reading.{IsReadUnsoundAllPinnedOrShort, IsReadUnsoundOrAllPinned, NothingFails, ReadsBlock, ReadingRefused, at_once_of, met_read_refused, met_reading, refused_at_once}
 
 -- a fault that was met shows
-one_more : (n m : ℕ) → m ≡ n + 1 → m ≡ n → ⊥
+pub one_more : (n m : ℕ) → m ≡ n + 1 → m ≡ n → ⊥
 one_more n m more same = omega arith
 
 -- and so does the log's mark
@@ -39,16 +39,32 @@ module _ {L G : Type 0} (contents : L → Option Pages) (t : FrameTable L G) whe
       let seen = shows.2 in
       omega arith
 
+  -- where no device fails, a read is refused only so
+  refused_short : (tag : Tag) (p q : PassState) (why : ReadError) → q.view.met ≡ met_read_refused why p.view.met → NoDeviceFails p q → ReadingRefused contents t tag p q why → IsReadUnsoundAllPinnedOrShort (Err why)
+  refused_short tag p q (PastEnd block blocks) met n r = r
+  refused_short tag p q PinsFull met n r = r
+  refused_short tag p q (NoUnpinned frames) met n r = tt
+  refused_short tag p q (ReadFault failed) met n r = one_more p.view.met.reads q.view.met.reads (ap (λ (m : FailedCalls). m.reads) met) (ap (λ (m : FailedCalls). m.reads) n.met)
+  refused_short tag p q (WriteFault failed) met n r = one_more p.view.met.writes q.view.met.writes (ap (λ (m : FailedCalls). m.writes) met) (ap (λ (m : FailedCalls). m.writes) n.met)
+  refused_short tag p q LogFault met n r = one_more p.view.met.logs q.view.met.logs (ap (λ (m : FailedCalls). m.logs) met) (ap (λ (m : FailedCalls). m.logs) n.met)
+  refused_short tag p q (LogDown at) met n r = not_up q.view r.after r.answer.work.shows.2 (ap (λ (x : View). x.saw_down) r.until) n.up
+  refused_short tag p q (LogShort lsn end) met n r = tt
+  refused_short tag p q (Unsound failed) met n r = tt
+
   refused_none : (tag : Tag) (p q : PassState) (why : ReadError) → q.view.met ≡ met_read_refused why p.view.met → NothingFails contents t p q → ReadingRefused contents t tag p q why → IsReadUnsoundOrAllPinned (Err why)
+  refused_none tag p q (LogShort lsn end) met n r = logged_none p q lsn end n r
   refused_none tag p q (PastEnd block blocks) met n r = r
   refused_none tag p q PinsFull met n r = r
   refused_none tag p q (NoUnpinned frames) met n r = tt
-  refused_none tag p q (ReadFault failed) met n r = one_more p.view.met.reads q.view.met.reads (ap (λ (m : FailedCalls). m.reads) met) (ap (λ (m : FailedCalls). m.reads) n.met)
-  refused_none tag p q (WriteFault failed) met n r = one_more p.view.met.writes q.view.met.writes (ap (λ (m : FailedCalls). m.writes) met) (ap (λ (m : FailedCalls). m.writes) n.met)
-  refused_none tag p q LogFault met n r = one_more p.view.met.logs q.view.met.logs (ap (λ (m : FailedCalls). m.logs) met) (ap (λ (m : FailedCalls). m.logs) n.met)
-  refused_none tag p q (LogDown at) met n r = not_up q.view r.after r.answer.work.shows.2 (ap (λ (x : View). x.saw_down) r.until) n.up
-  refused_none tag p q (LogShort lsn end) met n r = logged_none p q lsn end n r
+  refused_none tag p q (ReadFault failed) met n r = refused_short tag p q (ReadFault failed) met n.devices r
+  refused_none tag p q (WriteFault failed) met n r = refused_short tag p q (WriteFault failed) met n.devices r
+  refused_none tag p q LogFault met n r = refused_short tag p q LogFault met n.devices r
+  refused_none tag p q (LogDown at) met n r = refused_short tag p q (LogDown at) met n.devices r
   refused_none tag p q (Unsound failed) met n r = tt
+
+  pub read_short : (tag : Tag) (ring : Bool) (p q : PassState) (r : Result Pinned ReadError) → q.view.met ≡ met_reading r p.view.met → ReadsBlock contents t tag ring p q r → NoDeviceFails p q → IsReadUnsoundAllPinnedOrShort r
+  read_short tag ring p q (Ok pinned) met b n = tt
+  read_short tag ring p q (Err why) met b n = refused_short tag p q why met n b.answer.1
 
   pub read_complete : (tag : Tag) (ring : Bool) (p q : PassState) (r : Result Pinned ReadError) → q.view.met ≡ met_reading r p.view.met → ReadsBlock contents t tag ring p q r → NothingFails contents t p q → IsReadUnsoundOrAllPinned r
   read_complete tag ring p q (Ok pinned) met b n = tt

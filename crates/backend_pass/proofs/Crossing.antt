@@ -13,9 +13,10 @@ use Rattle.std.specs.contracts.alloc.Global as global
 use Rattle.atomic_table.specs.contracts.badge.Badge as badge
 use Rattle.atomic_table.specs.declared.shared.TableRule as rule
 use Rattle.atomic_table.specs.contracts.send_lease.SendLease as lease
+use Rattle.atomic_table.specs.contracts.shared.Seat as seat
 use Rattle.atomic_table.specs.contracts.shared.Shared as shared
 use Rattle.atomic_table.proofs.Rights.{right_send}
-use Rattle.atomic_table.proofs.Sent.{badge_keyless, shares_keyless}
+use Rattle.atomic_table.proofs.Sent.{badge_keyless, seat_keyless, shares_keyless}
 use Rattle.backend_pass.specs.contracts.pass.Pass as pass
 
 pub shared_sync : (S V K P : RattleType) (g : rule.Ghosts P.Denot S.Denot V.Denot K.Denot) → IsSend S → IsSync (shared.the_row S V K P g)
@@ -29,8 +30,12 @@ lease_sync T A g s f = record { shared = λ d b o ν q. part_keyless (lease.the_
 badge_send : (V : RattleType) → IsSend (badge.the_row V)
 badge_send V = record { owned = λ d vs. ((λ vss. (tt, ((λ uss. (tt, tt)), tt))), badge_keyless V.coded.code d.table_id d.id d.views); leaving = λ k f vs. tt }
 
+-- and so may a seat, where what its slots hold may
+seat_send : (S V : RattleType) → IsSend S → IsSend (seat.the_row S V)
+seat_send S V s = record { owned = λ d vs. ((λ vss. (tt, ((λ uss. (tt, tt)), tt))), seat_keyless S s V.coded.code d.table_id d.id d.me); leaving = λ k f vs. tt }
+
 pub passes_sent : IsSend pass.the_row
-passes_sent = search (sendable, crosses, over.crosses, badge_send, frees) depth 40 fits 20000
+passes_sent = search (sendable, crosses, over.crosses, badge_send, seat_send, frees) depth 40 fits 20000
 
 pub globals_shared : IsSync global.the_row
 globals_shared = search (sendable, crosses, over.crosses) depth 20

@@ -36,7 +36,7 @@ use Rattle.held_pins.specs.Rests.{OnlyTokens}
 use Rattle.held_pins.proofs.Resting.{rests_hold_nothing}
 use Rattle.backend_pass.specs.Passes.{PassState}
 use Rattle.backend_pass.specs.Managers.{AreFronted, IsFirstAt, first_in, others_in}
-use Rattle.backend_pass.specs.Closing.{ClosesAll, ClosesPass, EachPass, NothingPut, NothingWritten, PutNothing, calls_of_passes, joined_views, met_by_passes}
+use Rattle.backend_pass.specs.Closing.{ClosesAll, ClosesPass, EachPass, NothingPut, NothingWritten, PutNothing, TookEach, calls_of_passes, joined_views, met_by_passes}
 use Rattle.backend_pass.proofs.Fronts.{at_last}
 use Rattle.backend_pass.proofs.Joining.{Joins, at_later, first_here, first_past, joined_hold_nothing, joins, others_here, others_past}
 
@@ -263,8 +263,8 @@ module _ (s : State) (h : Laws s) (w : View) (there : get_elem? s.pool.core.view
 
 module _ {L G : Type 0} where
   -- all of that
-  pub closes_all : (d : Devices L G) (o : Opening L G) (ps : List PassState) (lanes : List L) (log : G) (v w : View) (k : ℕ) → IsFirstAt k ps → first_in ps ≡ v → w ≡ joined_views v (others_in ps) → OnlyTokens no_tokens v → AreFronted o.base ps → Closes d o w lanes log → ClosesAll d o ps lanes log
-  closes_all d o ps lanes log v w k at first is r fronts c = record {
+  pub closes_all : (d : Devices L G) (o : Opening L G) (ps : List PassState) (lanes : List L) (log : G) (v w : View) (k : ℕ) → IsFirstAt k ps → first_in ps ≡ v → w ≡ joined_views v (others_in ps) → OnlyTokens no_tokens v → AreFronted o.base ps → TookEach o.config.frames ps → Closes d o w lanes log → ClosesAll d o ps lanes log
+  closes_all d o ps lanes log v w k at first is r fronts took c = record {
     state = s;
     laws = h;
     opened = c.opened;
@@ -288,6 +288,7 @@ module _ {L G : Type 0} where
     failed_met = λ tag e. subst (λ (m : FailedCalls). 0 < m.writes) (sym met) (failed_met s h w c.first c.others free quiet tag e);
     unmarked = λ none. unmarked s h w c.first c.others ps met output (no_mark none);
     without_puts = λ none. without_puts s h w c.first c.others ps (no_write none) each;
+    frames = took;
   }
     where
       s : State

@@ -18,7 +18,7 @@ use Rattle.backend_pass.specs.declared.errors.FlushError.{FlushError}
 use Rattle.backend_pass.specs.declared.errors.FlushError.TheVariants.{WriteFault, LogFault, LogDown, LogShort}
 use Rattle.backend_pass.specs.declared.manager.Manager.{Manager}
 use Rattle.backend_pass.specs.declared.met.Shown.{Shown}
-use Rattle.backend_pass.specs.FrameFlushes.{WasWithin, frame_refusal, page_answer, shown_unflushed}
+use Rattle.backend_pass.specs.FrameFlushes.{IsOkOrShort, WasWithin, frame_refusal, page_answer, shown_unflushed}
 use Rattle.backend_pass.specs.Managers.{Belongs}
 use Rattle.buffer_frames.specs.Outside.{shown_count}
 use Rattle.backend_pass.specs.Passes.{IsShown, PassState, shown_log}
@@ -61,6 +61,13 @@ one_more : (m : FailedCalls) → m.writes + 1 ≢ m.writes
 one_more m e = omega arith
 
 module _ {L G : Type 0} (contents : L → Option Pages) (t : FrameTable L G) where
+  pub flush_short : (lane : ℕ) (tag : Tag) (f : ℕ) (v w : View) (r : Result Bool FlushError) → FlushAnswer contents t lane tag f v w (page_answer r) → w.met ≡ met_flushing (page_answer r) v.met → w.saw_down ≡ false → w.met ≡ v.met → IsOkOrShort r
+  flush_short lane tag f v w (Ok wrote) a met up none = tt
+  flush_short lane tag f v w (Err (WriteFault failed)) a met up none = one_more v.met (ap (λ (m : FailedCalls). m.writes) (sym met ∙ none))
+  flush_short lane tag f v w (Err LogFault) a met up none = let e = a.work.shows in absurd (cc)
+  flush_short lane tag f v w (Err (LogDown at)) a met up none = let e = a.work.shows.2 in absurd (cc)
+  flush_short lane tag f v w (Err (LogShort lsn end)) a met up none = tt
+
   pub flush_complete : (lane : ℕ) (tag : Tag) (f : ℕ) (v w : View) (r : Result Bool FlushError) → FlushAnswer contents t lane tag f v w (page_answer r) → w.met ≡ met_flushing (page_answer r) v.met
       → WasWithin contents t tag v.end_seen → w.saw_down ≡ false → w.met ≡ v.met → IsOk r
   flush_complete lane tag f v w (Ok wrote) a met within up none = refl

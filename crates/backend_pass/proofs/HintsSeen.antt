@@ -1,6 +1,6 @@
 -- What a read tells of its block's hint.
 use Rattle.std.proofs.Common.{◌≡◌, ◌≢◌, ◌<◌, ◌≤◌, ◌+◌, ℕ, Bool, true, false, List, Option, Some, Result, Ok, Err, refl, sym, ap, subst, arith}
-use Rattle.std.specs.Prelude.{◌↔◌, IfOk}
+use Rattle.std.specs.Prelude.{◌↔◌}
 use Rattle.segment_store.specs.Contents.{Pages}
 use Rattle.block_tag.specs.declared.tag.Tag.{Tag}
 use Rattle.block_tag.specs.Names.{packed_tag, partition_number}
@@ -25,10 +25,11 @@ use Rattle.frame_table.proofs.Rising.{rises_none, rises_on, rises_self, rises_ti
 use Rattle.frame_table.proofs.Told.{grows, looks_touch, self_after}
 use Rattle.map_partitions.specs.Hints.{StoresHint, hint_number}
 use Rattle.map_partitions.specs.Partition.{WentAndCame}
+use Rattle.clock_sweep.specs.FreeFrames.{QueueState}
 use Rattle.held_pins.specs.Tokens.{Tokens}
 use Rattle.buffer_frames.specs.declared.hinting.HintSeen.{HintSeen}
-use Rattle.buffer_frames.specs.declared.hinting.HintSeen.TheVariants.{Unused, Nothing, Own, Locked, Untagged, Changed, Other, Had}
-use Rattle.buffer_frames.specs.Hinting.{NotesUnlessHad, SeesHint, TakesTurns}
+use Rattle.buffer_frames.specs.declared.hinting.HintSeen.TheVariants.{Unused, Had}
+use Rattle.buffer_frames.specs.Hinting.{SeesHint, TakesTurns}
 use Rattle.buffer_frames.specs.Lookups.{LooksUp, SeesAndPins, SeesNone, UnderPartition, by_hint, by_map}
 use Rattle.buffer_frames.specs.Outside.{shown_count}
 use Rattle.wal_flush.specs.declared.flushes.FlushLog.TheVariants as log
@@ -38,9 +39,9 @@ use Rattle.buffer_frames.specs.declared.reading.BlockError.TheVariants as block
 use Rattle.buffer_frames.specs.declared.victims.VictimError.TheVariants as victim
 use Rattle.buffer_frames.specs.Reads.{Locates, Misses, ReadNotes, looked_up, missed}
 use Rattle.backend_pass.specs.declared.errors.ReadError.{ReadError}
-use Rattle.backend_pass.specs.declared.errors.ReadError.TheVariants.{PastEnd, PinsFull, NoUnpinned, ReadFault, WriteFault, LogFault, LogDown, LogShort, Unsound}
+use Rattle.backend_pass.specs.declared.errors.ReadError.TheVariants.{ReadFault, Unsound}
 use Rattle.backend_pass.specs.declared.pinned.Pinned.{Pinned}
-use Rattle.backend_pass.specs.HintsSeen.{IsUnusedOrHad, LeavesHint, ShowsHint, StoresHints}
+use Rattle.backend_pass.specs.HintsSeen.{IsUnusedOrHad, ShowsHint, StoresHints}
 use Rattle.backend_pass.specs.Passes.{PassState}
 use Rattle.backend_pass.specs.Reading.{ReadsBlock, read_refusal}
 
@@ -79,37 +80,26 @@ rises_stores n tag f v w s = subst (OnlyRises v) (sym s.did.after) (rises_ticked
 module _ (n : ℕ) (tag : Tag) (held : Tokens) (ring : Bool) where
   sees : (v u w : View) (seen : HintSeen) → SeesHint n tag held ring v u seen → OnlyRises u w → ShowsHint n tag held ring v w seen
   sees v u w Unused s rises = absurd s
-  sees v u w Nothing s rises = record { before = v; after = u; since = rises_none v; work = s; until = rises }
-  sees v u w (Own f) s rises = record { before = v; after = u; since = rises_none v; work = s; until = rises }
-  sees v u w (Locked word) s rises = record { before = v; after = u; since = rises_none v; work = s; until = rises }
-  sees v u w (Untagged word) s rises = record { before = v; after = u; since = rises_none v; work = s; until = rises }
-  sees v u w (Changed was now) s rises = record { before = v; after = u; since = rises_none v; work = s; until = rises }
-  sees v u w (Other other) s rises = record { before = v; after = u; since = rises_none v; work = s; until = rises }
   sees v u w (Had f) s rises = absurd s
+  sees v u w _ s rises = record { before = v; after = u; since = rises_none v; work = s; until = rises }
 
   misses : (seen : HintSeen) (last : List DeviceCall) (v w : View) → Misses n tag held ring seen last v w → ShowsHint n tag held ring v w seen
-  misses seen last v w m = sees v m.sought w seen m.hint (rises_on m.sought m.searched w (rises_under tag (SeesNone tag) m.sought m.searched (rises_none_seen tag) m.search) m.until)
+  misses seen last v w m = sees v m.hinted w seen m.hint (rises_on m.hinted m.searched w (rises_under tag (SeesNone tag) m.hinted m.searched (rises_none_seen tag) m.search) m.until)
 
   looks_up : (seen : HintSeen) (f : ℕ) (v u w : View) → LooksUp n tag held ring v u seen (Some f) → OnlyRises u w → ShowsHint n tag held ring v w seen
   looks_up seen f v u w (by_hint h) rises = record { before = v; after = u; since = rises_none v; work = h; until = rises }
-  looks_up seen f v u w (by_map sought mapped hint under stores) rises = sees v sought w seen hint
-      (rises_on sought mapped w (rises_under tag (SeesAndPins tag f ring) sought mapped (rises_pinned tag f ring) under) (rises_on mapped u w (rises_stores n tag f mapped u stores) rises))
+  looks_up seen f v u w (by_map hinted mapped hint under stores) rises = sees v hinted w seen hint
+      (rises_on hinted mapped w (rises_under tag (SeesAndPins tag f ring) hinted mapped (rises_pinned tag f ring) under) (rises_on mapped u w (rises_stores n tag f mapped u stores) rises))
 
-  locates : (seen : HintSeen) (f : ℕ) (last : List DeviceCall) (v w : View) → Locates n tag held ring seen f last v w → ShowsHint n tag held ring v w seen
-  locates seen f last v w (looked_up pinned looks works made) = looks_up seen f v pinned w looks works.advances
-  locates seen f last v w (missed m s) = misses seen last v w m
+  locates : (seen : HintSeen) (p q : QueueState) (f : ℕ) (last : List DeviceCall) (v w : View) → Locates n tag held ring seen p q f last v w → ShowsHint n tag held ring v w seen
+  locates seen p q f last v w (looked_up pinned looks works made same) = looks_up seen f v pinned w looks works.advances
+  locates seen p q f last v w (missed m s) = misses seen last v w m
 
 pub shows_hint : {L G : Type 0} (contents : L → Option Pages) (t : FrameTable L G) (tag : Tag) (ring : Bool) (p q : PassState) (r : Result Pinned ReadError) → ReadsBlock contents t tag ring p q r → ShowsHint (frames_of t) tag p.tokens ring p.view q.view q.hint
-shows_hint contents t tag ring p q (Ok pinned) b = locates (frames_of t) tag p.tokens ring q.hint pinned.frame _ p.view q.view b.calls
-shows_hint contents t tag ring p q (Err (PastEnd block blocks)) b = misses (frames_of t) tag p.tokens ring q.hint _ p.view q.view b.calls
-shows_hint contents t tag ring p q (Err PinsFull) b = misses (frames_of t) tag p.tokens ring q.hint _ p.view q.view b.calls
-shows_hint contents t tag ring p q (Err (NoUnpinned frames)) b = misses (frames_of t) tag p.tokens ring q.hint _ p.view q.view b.calls
-shows_hint contents t tag ring p q (Err (ReadFault failed)) b = locates (frames_of t) tag p.tokens ring q.hint b.calls.0 _ p.view q.view b.calls.1
-shows_hint contents t tag ring p q (Err (WriteFault failed)) b = misses (frames_of t) tag p.tokens ring q.hint _ p.view q.view b.calls
-shows_hint contents t tag ring p q (Err LogFault) b = misses (frames_of t) tag p.tokens ring q.hint _ p.view q.view b.calls
-shows_hint contents t tag ring p q (Err (LogDown at)) b = misses (frames_of t) tag p.tokens ring q.hint _ p.view q.view b.calls
-shows_hint contents t tag ring p q (Err (LogShort lsn end)) b = misses (frames_of t) tag p.tokens ring q.hint _ p.view q.view b.calls
-shows_hint contents t tag ring p q (Err (Unsound failed)) b = locates (frames_of t) tag p.tokens ring q.hint b.calls.0 _ p.view q.view b.calls.1
+shows_hint contents t tag ring p q (Ok pinned) b = locates (frames_of t) tag p.tokens ring q.hint p.queue q.queue pinned.frame _ p.view q.view b.calls
+shows_hint contents t tag ring p q (Err (ReadFault failed)) b = locates (frames_of t) tag p.tokens ring q.hint p.queue q.queue b.calls.0 _ p.view q.view b.calls.1
+shows_hint contents t tag ring p q (Err (Unsound failed)) b = locates (frames_of t) tag p.tokens ring q.hint p.queue q.queue b.calls.0 _ p.view q.view b.calls.1
+shows_hint contents t tag ring p q (Err _) b = misses (frames_of t) tag p.tokens ring q.hint _ p.view q.view b.calls.0
 
 -- How many latches of partitions were taken is as before exactly where the hint was not loaded, or gave the frame
 taken : (a b : ℕ) → a < b → b ≡ a → ⊥
@@ -120,53 +110,30 @@ taken_shown a b below more same = omega arith
 
 pub turns_counted : (seen : HintSeen) (a b : ℕ) → TakesTurns seen a b → IsUnusedOrHad seen ↔ (b ≡ a)
 turns_counted Unused a b t = absurd t
-turns_counted Nothing a b t = (λ none. absurd none, taken a b t)
-turns_counted (Own f) a b t = (λ none. absurd none, taken a b t)
-turns_counted (Locked word) a b t = (λ none. absurd none, taken a b t)
-turns_counted (Untagged word) a b t = (λ none. absurd none, taken a b t)
-turns_counted (Changed was now) a b t = (λ none. absurd none, taken a b t)
-turns_counted (Other other) a b t = (λ none. absurd none, taken a b t)
 turns_counted (Had f) a b t = (λ had. t, λ same. tt)
+turns_counted _ a b t = (λ none. absurd none, taken a b t)
+
+taken_more : (a b : ℕ) → a < b → a ≤ b
+taken_more a b more = omega arith
 
 pub turns_risen : (seen : HintSeen) (a b : ℕ) → TakesTurns seen a b → a ≤ b
 turns_risen Unused a b t = absurd t
-turns_risen Nothing a b t = omega arith
-turns_risen (Own f) a b t = omega arith
-turns_risen (Locked word) a b t = omega arith
-turns_risen (Untagged word) a b t = omega arith
-turns_risen (Changed was now) a b t = omega arith
-turns_risen (Other other) a b t = omega arith
 turns_risen (Had f) a b t = omega arith
+turns_risen _ a b t = taken_more a b t
 
 -- and so is what is shown of it, unless it stood at its last value
 pub turns_told : (seen : HintSeen) (a b : ℕ) → TakesTurns seen a b → shown_count a ≢ last_count → IsUnusedOrHad seen ↔ (shown_count b ≡ shown_count a)
 turns_told Unused a b t below = absurd t
-turns_told Nothing a b t below = (λ none. absurd none, taken_shown a b below t)
-turns_told (Own f) a b t below = (λ none. absurd none, taken_shown a b below t)
-turns_told (Locked word) a b t below = (λ none. absurd none, taken_shown a b below t)
-turns_told (Untagged word) a b t below = (λ none. absurd none, taken_shown a b below t)
-turns_told (Changed was now) a b t below = (λ none. absurd none, taken_shown a b below t)
-turns_told (Other other) a b t below = (λ none. absurd none, taken_shown a b below t)
 turns_told (Had f) a b t below = (λ had. ap shown_count t, λ same. tt)
+turns_told _ a b t below = (λ none. absurd none, taken_shown a b below t)
 
--- What a read has stored of hints
-module _ (n : ℕ) (tag : Tag) where
-  pub leaves : (f : ℕ) (seen : HintSeen) (a b : ℕ) (old new : List HintStore) → TakesTurns seen a b → NotesUnlessHad n tag f seen old new → LeavesHint n tag f seen old new
-  leaves f Unused a b old new t notes = absurd t
-  leaves f Nothing a b old new t notes = notes
-  leaves f (Own g) a b old new t notes = notes
-  leaves f (Locked word) a b old new t notes = notes
-  leaves f (Untagged word) a b old new t notes = notes
-  leaves f (Changed was now) a b old new t notes = notes
-  leaves f (Other other) a b old new t notes = notes
-  leaves f (Had g) a b old new t notes = notes
-
-  pub stores_refused : (seen : HintSeen) (a b : ℕ) (old new : List HintStore) (why : BlockError) → TakesTurns seen a b
-      → ReadNotes n tag seen old new (Err why) → StoresHints n tag seen old new (Err (read_refusal why))
-  stores_refused seen a b old new (block.NoFrame (victim.NoUnpinned frames)) t same = same
-  stores_refused seen a b old new (block.NoFrame (victim.Flush (flush.WriteFault written))) t same = same
-  stores_refused seen a b old new (block.NoFrame (victim.Flush (flush.Log log.LogFault))) t same = same
-  stores_refused seen a b old new (block.NoFrame (victim.Flush (flush.Log (log.LogDown at)))) t same = same
-  stores_refused seen a b old new (block.NoFrame (victim.Flush (flush.Log (log.LogShort lsn end)))) t same = same
-  stores_refused seen a b old new (block.ReadFault failed) t notes = (notes.0, leaves notes.0 seen a b old new t notes.1)
-  stores_refused seen a b old new (block.Unsound failed) t notes = (notes.0, leaves notes.0 seen a b old new t notes.1)
+-- What a read that was refused has stored of hints
+pub stores_refused : (n : ℕ) (tag : Tag) (seen : HintSeen) (old new : List HintStore) (why : BlockError)
+    → ReadNotes n tag seen old new (Err why) → StoresHints n tag seen old new (Err (read_refusal why))
+stores_refused n tag seen old new (block.NoFrame (victim.NoUnpinned frames)) same = same
+stores_refused n tag seen old new (block.NoFrame (victim.Flush (flush.WriteFault written))) same = same
+stores_refused n tag seen old new (block.NoFrame (victim.Flush (flush.Log log.LogFault))) same = same
+stores_refused n tag seen old new (block.NoFrame (victim.Flush (flush.Log (log.LogDown at)))) same = same
+stores_refused n tag seen old new (block.NoFrame (victim.Flush (flush.Log (log.LogShort lsn end)))) same = same
+stores_refused n tag seen old new (block.ReadFault failed) notes = notes
+stores_refused n tag seen old new (block.Unsound failed) notes = notes

@@ -16,3 +16,5 @@ pub mod CleanupLocks
 pub mod SeatWork
 pub mod PassSyncing
 pub mod Crossing
+pub mod Owning
+pub mod Listed

@@ -19,11 +19,12 @@ use Rattle.wal_flush.specs.declared.inserts.InsertError.TheVariants.{LogFull, Lo
 use Rattle.held_pins.specs.Rests.{SameLocks}
 use Rattle.held_pins.specs.Tokens.{HeldFrame, Tokens, held_at}
 use Rattle.held_pins.proofs.Keeping.{same_locks_at}
+use Rattle.clock_sweep.proofs.FreeLists.{list_same}
 use Rattle.backend_pass.specs.declared.manager.Manager.{Manager}
 use Rattle.backend_pass.specs.declared.met.Shown.{Shown}
 use Rattle.backend_pass.specs.Managers.{Belongs}
 use Rattle.buffer_frames.specs.Outside.{shown_count}
-use Rattle.backend_pass.specs.Passes.{IsNumbered, IsShown, PassState, SamePass, shown_unput}
+use Rattle.backend_pass.specs.Passes.{IsNumbered, IsShown, PassState, SamePass, shown_unput, PassOwn, own_of}
 use Rattle.buffer_frames.specs.Puts.{IsDoneOrFull, PutAnswer, PutsAt, met_put}
 use Rattle.backend_pass.proofs.BlockReads.{shown_met}
 use Rattle.backend_pass.proofs.Flushed.{shown_logged}
@@ -57,12 +58,12 @@ shown_not_put v w s (LogFull end) front met n = shown_met v w s front met n
 shown_not_put v w s (LogDown at) front met n = shown_met v w s front met n
 shown_not_put v w s LogFault front met n = shown_logged v w s front met n
 
-pub same_put : (f : ℕ) (p q : PassState) → q.table ≡ p.table → q.id ≡ p.id → q.census.frames ≡ p.census.frames → PutsAt f p.view q.view → SamePass p q
+pub same_put : (f : ℕ) (p q : PassState) → q.table ≡ p.table → q.id ≡ p.id → own_of q ≡ own_of p → PutsAt f p.view q.view → SamePass p q
 same_put f p q table id census k = let e = k.kept in record {
   keeps = record {
     table = table;
     id = id;
-    frames = census;
+    own = census;
     number = ap (λ (x : View). x.number) e;
     next = ap (λ (x : View). x.next) e;
     joined = ap (λ (x : View). x.joined) e;
@@ -76,10 +77,11 @@ pub front_put : (base : ℕ) (relations : List RelEntry) (f : ℕ) (tag : Tag) (
 front_put base relations f tag page v w (Ok lsn) a = front_added base v w (Write v.number (packed_tag tag) (with_lsn lsn page) lsn true) a.calls a.front (let later = a.later in omega arith)
 front_put base relations f tag page v w (Err why) a = front_kept base v w a.calls a.front
 
-pub belongs_put : {L G : Type 0} (contents : L → Option Pages) (m : Manager L G) (p q : PassState) → q.table ≡ p.table → q.census.frames ≡ p.census.frames → q.tokens ≡ p.tokens → (IsFront (base_of m.table) p.view.calls p.view.front → IsFront (base_of m.table) q.view.calls q.view.front) → p.view.end_seen ≤ q.view.end_seen → Belongs contents m p → Belongs contents m q
+pub belongs_put : {L G : Type 0} (contents : L → Option Pages) (m : Manager L G) (p q : PassState) → q.table ≡ p.table → own_of q ≡ own_of p → q.tokens ≡ p.tokens → (IsFront (base_of m.table) p.view.calls p.view.front → IsFront (base_of m.table) q.view.calls q.view.front) → p.view.end_seen ≤ q.view.end_seen → Belongs contents m p → Belongs contents m q
 belongs_put contents m p q table census tokens front end b = record {
   table = table ∙ b.table;
-  frames = census ∙ b.frames;
+  frames = ap (λ (x : PassOwn). x.frames) census ∙ b.frames;
+  queue = list_same m.table m.sweep p.queue q.queue b.queue (ap (λ (x : PassOwn). x.queue) census);
   inside = subst (λ (t : Tokens). (f : ℕ) (h : HeldFrame) → held_at t f ≡ Some h → f < frames_of m.table) (sym tokens) b.inside;
   blocks = subst (λ (t : Tokens). (f : ℕ) (h : HeldFrame) → held_at t f ≡ Some h → is_block (relations_of m.table) h.tag ≡ true) (sym tokens) b.blocks;
   alone = subst (λ (t : Tokens). (f g : ℕ) (h k : HeldFrame) → held_at t f ≡ Some h → held_at t g ≡ Some k → h.tag ≡ k.tag → f ≡ g) (sym tokens) b.alone;

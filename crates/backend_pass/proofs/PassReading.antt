@@ -11,6 +11,10 @@ use Rattle.frame_table.specs.Seats.{base_of}
 use Rattle.held_pins.specs.Tokens.{HeldFrame, IsPinnedFor, Tokens, held_at}
 use Rattle.held_pins.specs.Rests.{LinkRests, OnlyTokens}
 use Rattle.held_pins.proofs.Keeping.{beside, beside_kept, devices_same, latches_same, rests_with}
+use Rattle.clock_sweep.specs.CensusList.{CensusList}
+use Rattle.clock_sweep.specs.FreeFrames.{QueueState, lasting}
+use Rattle.clock_sweep.proofs.FreeLists.{list_same}
+use Rattle.backend_pass.proofs.Owning.{beside_of, own_in}
 use Rattle.backend_pass.specs.declared.manager.Manager.{Manager}
 use Rattle.backend_pass.specs.declared.met.Shown.{Shown}
 use Rattle.backend_pass.specs.Managers.{Belongs}
@@ -44,12 +48,12 @@ shown_read v w s d z place k front same e n = subst (IsShown w) (sym e) record {
   logs = ap (λ (x : Shown). x.met.logs) same ∙ n.logs ∙ ap (λ (x : View). shown_count x.met.logs) (sym k.kept);
 }
 
-pub same_read : (p q : PassState) → q.table ≡ p.table → q.id ≡ p.id → q.census ≡ p.census → OnlyReads p.view q.view → SamePass p q
+pub same_read : (p q : PassState) → q.table ≡ p.table → q.id ≡ p.id → beside_of q ≡ beside_of p → OnlyReads p.view q.view → SamePass p q
 same_read p q table id census k = let e = k.kept in record {
   keeps = record {
     table = table;
     id = id;
-    frames = ap (λ c. c.frames) census;
+    own = ap own_in census;
     number = ap (λ (x : View). x.number) e;
     next = ap (λ (x : View). x.next) e;
     joined = ap (λ (x : View). x.joined) e;
@@ -60,10 +64,11 @@ same_read p q table id census k = let e = k.kept in record {
 }
 
 module _ {L G : Type 0} (contents : L → Option Pages) (m : Manager L G) where
-  pub belongs_read : (tag : Tag) (page : Page) (place : ℕ) (p q : PassState) → q.table ≡ p.table → q.census ≡ p.census → q.tokens ≡ p.tokens → ReadsPage contents m.table tag page place p.view q.view → p.view.end_seen ≤ q.view.end_seen → Belongs contents m p → Belongs contents m q
+  pub belongs_read : (tag : Tag) (page : Page) (place : ℕ) (p q : PassState) → q.table ≡ p.table → beside_of q ≡ beside_of p → q.tokens ≡ p.tokens → ReadsPage contents m.table tag page place p.view q.view → p.view.end_seen ≤ q.view.end_seen → Belongs contents m p → Belongs contents m q
   belongs_read tag page place p q table census tokens reads end b = record {
     table = table ∙ b.table;
-    frames = ap (λ c. c.frames) census ∙ b.frames;
+    frames = ap (λ (x : CensusList × QueueState). x.0.frames) census ∙ b.frames;
+    queue = list_same m.table m.sweep p.queue q.queue b.queue (ap (λ (x : CensusList × QueueState). lasting x.1) census);
     inside = λ f h e. b.inside f h (back f h e);
     blocks = λ f h e. b.blocks f h (back f h e);
     alone = λ f g h k e d same. b.alone f g h k (back f h e) (back g k d) same;

@@ -22,27 +22,30 @@ use Rattle.buffer_frames.proofs.Written.{flushed_met}
 use Rattle.buffer_sync.specs.declared.syncing.Synced.{Synced}
 use Rattle.buffer_sync.specs.declared.syncing.SyncOnly.{SyncOnly}
 use Rattle.buffer_sync.specs.Syncs.{AreAlone, SyncsFrame, synced_work}
+use Rattle.clock_sweep.specs.CensusList.{CensusList}
+use Rattle.clock_sweep.specs.FreeFrames.{QueueState}
+use Rattle.backend_pass.proofs.Owning.{beside_of, own_in}
 use Rattle.backend_pass.specs.declared.errors.FlushError.{FlushError}
 use Rattle.backend_pass.specs.declared.manager.Manager.{Manager}
 use Rattle.backend_pass.specs.declared.met.Shown.{Shown}
-use Rattle.backend_pass.specs.FrameFlushes.{frame_answer}
+use Rattle.backend_pass.specs.FrameFlushes.{IsOkOrShort, frame_answer}
 use Rattle.backend_pass.specs.Managers.{Belongs}
 use Rattle.buffer_frames.specs.Outside.{shown_count}
-use Rattle.backend_pass.specs.Passes.{IsShown, KeepsCallers, PassState, SamePass}
+use Rattle.backend_pass.specs.Passes.{IsShown, KeepsCallers, NoDeviceFails, PassState, SamePass}
 use Rattle.backend_pass.specs.PassSyncs.{shown_lane_synced, shown_log_flushed, shown_synced}
 use Rattle.backend_pass.specs.Reading.{NothingFails}
 use Rattle.backend_pass.proofs.BlockReads.{calls_kept, count_on, same_kept, shown_met}
-use Rattle.backend_pass.proofs.Flushed.{flush_complete, shown_logged, shown_not_flushed}
+use Rattle.backend_pass.proofs.Flushed.{flush_complete, flush_short, shown_logged, shown_not_flushed}
 use Rattle.backend_pass.proofs.SeatWork.{FlushesLog}
 
-pub callers_kept : (p q : PassState) → q.table ≡ p.table → q.id ≡ p.id → q.tokens ≡ p.tokens → q.census ≡ p.census → q.hint ≡ p.hint → kept_by_calls q.view ≡ kept_by_calls p.view → OnlyRises p.view q.view → SameLocks p.view q.view → KeepsCallers p q
+pub callers_kept : (p q : PassState) → q.table ≡ p.table → q.id ≡ p.id → q.tokens ≡ p.tokens → beside_of q ≡ beside_of p → q.hint ≡ p.hint → kept_by_calls q.view ≡ kept_by_calls p.view → OnlyRises p.view q.view → SameLocks p.view q.view → KeepsCallers p q
 callers_kept p q table id tokens census hint e rises locks = record {
-  keeps = (same_kept p q table id (ap (λ c. c.frames) census) e rises).keeps;
+  keeps = (same_kept p q table id (ap own_in census) e rises).keeps;
   tokens = tokens;
   locks = locks;
-  census = census;
+  census = ap (λ (x : CensusList × QueueState). x.0) census;
   calls = calls_kept p q e;
-  sought = record { hint = hint; turns = ap (λ (x : View). x.turns) e; stores = ap (λ (x : View). x.hints) e };
+  sought = record { hint = hint; turns = ap (λ (x : View). x.turns) e; stores = ap (λ (x : View). x.hints) e; queue = ap (λ (x : CensusList × QueueState). x.1) census };
 }
 
 pub callers_from : (a p q : PassState) → p ≡ a → KeepsCallers p q → KeepsCallers a q
@@ -55,13 +58,13 @@ rises_hand hand v w e = subst (OnlyRises v) (sym e) (rises_by v (view_of load_ha
 pub rises_begun : (upto : ℕ) (v w : View) → w ≡ view_of begin_checkpoint upto v → OnlyRises v w
 rises_begun upto v w e = subst (OnlyRises v) (sym e) (rises_by v (view_of begin_checkpoint upto v) (grows_loads _ v (view_of begin_checkpoint upto v) refl refl (omega arith)) refl (omega arith) (omega arith) (λ d. d))
 
-pub callers_begun : (upto : ℕ) (p q : PassState) → q.table ≡ p.table → q.id ≡ p.id → q.tokens ≡ p.tokens → q.census ≡ p.census → q.hint ≡ p.hint → q.view ≡ view_of begin_checkpoint upto p.view → SameLocks p.view q.view → KeepsCallers p q
+pub callers_begun : (upto : ℕ) (p q : PassState) → q.table ≡ p.table → q.id ≡ p.id → q.tokens ≡ p.tokens → beside_of q ≡ beside_of p → q.hint ≡ p.hint → q.view ≡ view_of begin_checkpoint upto p.view → SameLocks p.view q.view → KeepsCallers p q
 callers_begun upto p q table id tokens census hint e locks = record {
-  sought = record { hint = hint; turns = ap (λ (x : View). x.turns) e; stores = ap (λ (x : View). x.hints) e };
+  sought = record { hint = hint; turns = ap (λ (x : View). x.turns) e; stores = ap (λ (x : View). x.hints) e; queue = ap (λ (x : CensusList × QueueState). x.1) census };
   keeps = record {
     table = table;
     id = id;
-    frames = ap (λ c. c.frames) census;
+    own = ap own_in census;
     number = ap (λ (x : View). x.number) e;
     next = ap (λ (x : View). x.next) e;
     joined = ap (λ (x : View). x.joined) e;
@@ -70,7 +73,7 @@ callers_begun upto p q table id tokens census hint e locks = record {
   };
   tokens = tokens;
   locks = locks;
-  census = census;
+  census = ap (λ (x : CensusList × QueueState). x.0) census;
   calls = record { calls = ap (λ (x : View). x.calls) e; front = ap (λ (x : View). x.front) e; place_loads = ap (λ (x : View). x.place_loads) e };
 }
 
@@ -108,13 +111,13 @@ shown_lane lane v w s (Err failed) e n = let met = ap (λ (x : View). x.met) e i
 pub kept_synced : (lane : ℕ) (done : Bool) (v w : View) → work_of w ≡ synced_work lane done v → kept_by_calls w ≡ record (kept_by_calls v) { dirtied_or_synced = true }
 kept_synced lane done v w e = ap kept_by_calls e
 
-pub callers_synced : (lane : ℕ) (done : Bool) (p q : PassState) → q.table ≡ p.table → q.id ≡ p.id → q.tokens ≡ p.tokens → q.census ≡ p.census → q.hint ≡ p.hint → work_of q.view ≡ synced_work lane done p.view → OnlyRises p.view q.view → SameLocks p.view q.view → KeepsCallers p q
+pub callers_synced : (lane : ℕ) (done : Bool) (p q : PassState) → q.table ≡ p.table → q.id ≡ p.id → q.tokens ≡ p.tokens → beside_of q ≡ beside_of p → q.hint ≡ p.hint → work_of q.view ≡ synced_work lane done p.view → OnlyRises p.view q.view → SameLocks p.view q.view → KeepsCallers p q
 callers_synced lane done p q table id tokens census hint e rises locks = record {
-  sought = record { hint = hint; turns = ap (λ (x : View). x.turns) e; stores = ap (λ (x : View). x.hints) e };
+  sought = record { hint = hint; turns = ap (λ (x : View). x.turns) e; stores = ap (λ (x : View). x.hints) e; queue = ap (λ (x : CensusList × QueueState). x.1) census };
   keeps = record {
     table = table;
     id = id;
-    frames = ap (λ c. c.frames) census;
+    own = ap own_in census;
     number = ap (λ (x : View). x.number) e;
     next = ap (λ (x : View). x.next) e;
     joined = ap (λ (x : View). x.joined) e;
@@ -123,17 +126,23 @@ callers_synced lane done p q table id tokens census hint e rises locks = record 
   };
   tokens = tokens;
   locks = locks;
-  census = census;
+  census = ap (λ (x : CensusList × QueueState). x.0) census;
   calls = record { calls = ap (λ (x : View). x.calls) e; front = ap (λ (x : View). x.front) e; place_loads = ap (λ (x : View). x.place_loads) e };
 }
 
-pub same_synced : (lane : ℕ) (done : Bool) (p q : PassState) → q.table ≡ p.table → q.id ≡ p.id → q.tokens ≡ p.tokens → q.census ≡ p.census → q.hint ≡ p.hint → work_of q.view ≡ synced_work lane done p.view → OnlyRises p.view q.view → SameLocks p.view q.view → SamePass p q
+pub same_synced : (lane : ℕ) (done : Bool) (p q : PassState) → q.table ≡ p.table → q.id ≡ p.id → q.tokens ≡ p.tokens → beside_of q ≡ beside_of p → q.hint ≡ p.hint → work_of q.view ≡ synced_work lane done p.view → OnlyRises p.view q.view → SameLocks p.view q.view → SamePass p q
 same_synced lane done p q table id tokens census hint e rises locks = record { keeps = (callers_synced lane done p q table id tokens census hint e rises locks).keeps; upto = ap (λ (x : View). x.upto) e }
 
 module _ {L G : Type 0} (contents : L → Option Pages) (t : FrameTable L G) where
   pub sync_complete : (only : SyncOnly) (f : ℕ) (p q : PassState) (r : Result Synced FlushError) → SyncsFrame contents t only f p.view q.view (frame_answer r) → q.view.met ≡ met_flushing (frame_answer r) p.view.met → NothingFails contents t p q → IsOk r
   sync_complete only f p q (Ok synced) s met n = refl
-  sync_complete only f p q (Err why) s met n = let b = s.came.2 in flush_complete contents t (lane_number b.tag (lanes_in t)) b.tag f p.view q.view (Err why) b.answer met (n.within b.tag b.named b.listed) n.up n.met
+  sync_complete only f p q (Err why) s met n = let b = s.came.2 in flush_complete contents t (lane_number b.tag (lanes_in t)) b.tag f p.view q.view (Err why) b.answer met (n.within b.tag b.named b.listed) n.devices.up n.devices.met
+
+-- nor is it refused otherwise than for a page past the log's end, where no device fails
+module _ {L G : Type 0} (contents : L → Option Pages) (t : FrameTable L G) where
+  pub sync_short : (only : SyncOnly) (f : ℕ) (p q : PassState) (r : Result Synced FlushError) → SyncsFrame contents t only f p.view q.view (frame_answer r) → q.view.met ≡ met_flushing (frame_answer r) p.view.met → NoDeviceFails p q → IsOkOrShort r
+  sync_short only f p q (Ok synced) s met n = tt
+  sync_short only f p q (Err why) s met n = let b = s.came.2 in flush_short contents t (lane_number b.tag (lanes_in t)) b.tag f p.view q.view (Err why) b.answer met n.up n.met
 
 -- a pass has no two tokens of one block
 pub pass_alone : {L G : Type 0} (contents : L → Option Pages) (m : Manager L G) (p : PassState) → Belongs contents m p → AreAlone p.tokens

@@ -16,12 +16,14 @@ use Rattle.held_pins.specs.Rests.{HasAtMostLock, LinkRests, OnlyTokens, role_of}
 use Rattle.held_pins.proofs.HeldLists.{less_others, less_tag, more_tags}
 use Rattle.held_pins.proofs.Keeping.{beside, beside_touched, devices_touched, latches_same, link_looked, rests_less, rests_without}
 use Rattle.frame_table.proofs.Rising.{rises_none, rises_touched}
+use Rattle.clock_sweep.proofs.FreeLists.{list_same}
+use Rattle.backend_pass.proofs.Owning.{beside_of, own_in}
 use Rattle.backend_pass.specs.declared.manager.Manager.{Manager}
 use Rattle.backend_pass.specs.declared.met.Shown.{Shown}
 use Rattle.backend_pass.specs.Managers.{Belongs}
 use Rattle.backend_pass.proofs.Fronts.{front_kept}
 use Rattle.buffer_frames.specs.Outside.{shown_count}
-use Rattle.backend_pass.specs.Passes.{IsNumbered, IsShown, PassState, SamePass}
+use Rattle.backend_pass.specs.Passes.{IsNumbered, IsShown, PassState, SamePass, PassOwn, own_of}
 use Rattle.table_rule.specs.Blocks.{is_block}
 
 -- The pin of the frame f was given up
@@ -78,12 +80,12 @@ shown_self v w s e n = record {
 }
 
 -- it is the same pass
-pub same_none : (p q : PassState) → q.table ≡ p.table → q.id ≡ p.id → q.census ≡ p.census → q.view ≡ p.view → SamePass p q
+pub same_none : (p q : PassState) → q.table ≡ p.table → q.id ≡ p.id → beside_of q ≡ beside_of p → q.view ≡ p.view → SamePass p q
 same_none p q table id census e = record {
   keeps = record {
     table = table;
     id = id;
-    frames = ap (λ c. c.frames) census;
+    own = ap own_in census;
     number = ap (λ (x : View). x.number) e;
     next = ap (λ (x : View). x.next) e;
     joined = ap (λ (x : View). x.joined) e;
@@ -93,12 +95,12 @@ same_none p q table id census e = record {
   upto = ap (λ (x : View). x.upto) e;
 }
 
-pub same_touched : (p q : PassState) (f : ℕ) → q.table ≡ p.table → q.id ≡ p.id → q.census ≡ p.census → Touches f p.view q.view → SamePass p q
+pub same_touched : (p q : PassState) (f : ℕ) → q.table ≡ p.table → q.id ≡ p.id → beside_of q ≡ beside_of p → Touches f p.view q.view → SamePass p q
 same_touched p q f table id census k = let e = k.self in record {
   keeps = record {
     table = table;
     id = id;
-    frames = ap (λ c. c.frames) census;
+    own = ap own_in census;
     number = ap (λ (x : View). x.number) e;
     next = ap (λ (x : View). x.next) e;
     joined = ap (λ (x : View). x.joined) e;
@@ -130,10 +132,11 @@ pub held_again : (f : ℕ) (t : Tokens) → AreHeld t (tokens_more f t)
 held_again f t g h e = tag_held (held_at t g) (held_at (tokens_more f t) g) h (more_tags t f g) e
 
 module _ {L G : Type 0} (contents : L → Option Pages) (m : Manager L G) where
-  pub belongs_held : (p q : PassState) → q.table ≡ p.table → q.census.frames ≡ p.census.frames → q.view.calls ≡ p.view.calls → q.view.front ≡ p.view.front → p.view.end_seen ≤ q.view.end_seen → AreHeld p.tokens q.tokens → Belongs contents m p → Belongs contents m q
+  pub belongs_held : (p q : PassState) → q.table ≡ p.table → own_of q ≡ own_of p → q.view.calls ≡ p.view.calls → q.view.front ≡ p.view.front → p.view.end_seen ≤ q.view.end_seen → AreHeld p.tokens q.tokens → Belongs contents m p → Belongs contents m q
   belongs_held p q table census calls front end held b = record {
     table = table ∙ b.table;
-    frames = census ∙ b.frames;
+    frames = ap (λ (x : PassOwn). x.frames) census ∙ b.frames;
+    queue = list_same m.table m.sweep p.queue q.queue b.queue (ap (λ (x : PassOwn). x.queue) census);
     inside = λ f h e. let k = held f h e in b.inside f k.0 k.1;
     blocks = λ f h e. let k = held f h e in subst (λ (x : ℕ). is_block (relations_of m.table) x ≡ true) k.2 (b.blocks f k.0 k.1);
     alone = λ f g h k e d same. let x = held f h e in let y = held g k d in b.alone f g x.0 y.0 x.1 y.1 (x.2 ∙ same ∙ sym y.2);
@@ -142,5 +145,5 @@ module _ {L G : Type 0} (contents : L → Option Pages) (m : Manager L G) where
     seen = let base = b.seen in omega arith;
   }
 
-  pub belongs_touched : (p q : PassState) (f : ℕ) → q.table ≡ p.table → q.census.frames ≡ p.census.frames → Touches f p.view q.view → AreHeld p.tokens q.tokens → Belongs contents m p → Belongs contents m q
+  pub belongs_touched : (p q : PassState) (f : ℕ) → q.table ≡ p.table → own_of q ≡ own_of p → Touches f p.view q.view → AreHeld p.tokens q.tokens → Belongs contents m p → Belongs contents m q
   belongs_touched p q f table census k = belongs_held p q table census (ap (λ (x : View). x.calls) k.self) (ap (λ (x : View). x.front) k.self) (rises_touched f p.view q.view k).end_seen

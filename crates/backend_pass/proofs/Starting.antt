@@ -1,5 +1,5 @@
 -- Passes at the start.
-use Rattle.std.proofs.Common.{◌≡◌, ◌+◌, ◌-◌, ℕ, zero, suc, List, [], ◌∷◌, ◌++◌, take, drop, ⊎_elim, Option, Some, None, replicate, length, refl, sym, ap, ◌∙◌, subst, add-one, arith}
+use Rattle.std.proofs.Common.{◌≡◌, ◌+◌, ◌-◌, ℕ, zero, suc, List, [], ◌∷◌, ◌++◌, take, drop, ⊎_elim, Option, Some, replicate, length, refl, sym, ap, ◌∙◌, subst, add-one, arith}
 use Rattle.std.proofs.lemmas.Option.{none-some}
 use mathlib.Core.Option.{some, some-injective, some-ne-none}
 use lib.ListN.{get_elem?, length-replicate}
@@ -8,6 +8,9 @@ use Rattle.segment_store.specs.Contents.{Pages}
 use Rattle.pin_core.specs.declared.view.View.{View}
 use Rattle.pin_core.specs.State.{first_view, idle, new_view, no_lane, no_partition}
 use Rattle.clock_sweep.specs.CensusList.{new_census}
+use Rattle.clock_sweep.specs.declared.free_list.QueueView.{QueueView}
+use Rattle.frame_table.specs.declared.table.FrameTable.{FrameTable}
+use Rattle.clock_sweep.specs.declared.sweep.Sweep.{Sweep}
 use Rattle.frame_table.specs.FrameSteps.{split_view}
 use Rattle.frame_table.specs.Seats.{base_of, frames_of, lanes_in}
 use Rattle.held_pins.specs.Tokens.{HeldFrame, held_at, no_tokens}
@@ -19,6 +22,8 @@ use Rattle.backend_pass.specs.declared.manager.Manager.{Manager}
 use Rattle.backend_pass.specs.PassMemories.{AreForFrames}
 use Rattle.backend_pass.specs.Managers.{AreNewPasses, Belongs, IsNewPass}
 use Rattle.backend_pass.specs.Passes.{IsFreshView, PassState}
+use Rattle.clock_sweep.specs.FreeFrames.{QueueState, kept_part, new_part, queue_view}
+use Rattle.clock_sweep.specs.FreeLists.{IsFreeList}
 use Rattle.backend_pass.proofs.Fronts.{front_new}
 
 -- the first view rests
@@ -62,14 +67,26 @@ split_at base frames partitions lanes next =
     ∙ ap (λ (n : ℕ). new_view next base frames n (length (replicate lanes no_lane))) (length-replicate partitions no_partition)
     ∙ ap (λ (n : ℕ). new_view next base frames partitions n) (length-replicate lanes no_lane)
 
+-- a pass of the free list that was cut in two
+module _ {L G : Type 0} (t : FrameTable L G) (s : Sweep) (q r : QueueState) (list : IsFreeList t s q) where
+  pub list_kept : r ≡ record q { known = kept_part q.known } → IsFreeList t s r
+  list_kept e = subst (IsFreeList t s) (sym e) record { pass = record { queue = list.pass.queue; room = list.pass.room }; frames = list.frames }
+
+  pub list_new : r ≡ record q { known = new_part q.known } → IsFreeList t s r
+  list_new e = subst (IsFreeList t s) (sym e) record { pass = record { queue = list.pass.queue; room = list.pass.room }; frames = list.frames }
+
+  pub known_new : r ≡ record q { known = new_part q.known } → r.known ≡ queue_view 1 (frames_of t) [] []
+  known_new e = ap (λ (x : QueueState). x.known) e ∙ ap (λ (n : ℕ). queue_view 1 n [] []) list.frames
+
 module _ {L G : Type 0} (contents : L → Option Pages) (m : Manager L G) (count : ℕ) where
   none_held : (t : List HeldFrame) (f : ℕ) (h : HeldFrame) → t ≡ no_tokens → held_at t f ≡ Some h → ⊥
   none_held t f h none e = none-some h (ap (λ (x : List HeldFrame). held_at x f) (sym none) ∙ e)
 
-  new_belongs : (p : PassState) (base : ℕ) → p.table ≡ m.table.table.shared.table_id → p.census ≡ new_census (frames_of m.table) → p.tokens ≡ no_tokens → p.view.calls ≡ [] → p.view.front ≡ base → p.view.end_seen ≡ base → base ≡ base_of m.table → Belongs contents m p
-  new_belongs p base table census tokens calls front end same = record {
+  new_belongs : (p : PassState) (base : ℕ) → p.table ≡ m.table.table.shared.table_id → p.census ≡ new_census (frames_of m.table) → p.tokens ≡ no_tokens → p.view.calls ≡ [] → p.view.front ≡ base → p.view.end_seen ≡ base → base ≡ base_of m.table → IsFreeList m.table m.sweep p.queue → Belongs contents m p
+  new_belongs p base table census tokens calls front end same list = record {
     table = table;
     frames = ap (λ c. c.frames) census;
+    queue = list;
     inside = λ f h e. absurd (none_held p.tokens f h tokens e);
     blocks = λ f h e. absurd (none_held p.tokens f h tokens e);
     alone = λ f g h k e d same. absurd (none_held p.tokens f h tokens e);
@@ -85,27 +102,35 @@ module _ {L G : Type 0} (contents : L → Option Pages) (m : Manager L G) (count
       e ∙ ap (λ (x : ℕ). record (new_view i x (frames_of m.table) 128 (lanes_in m.table)) { next = next }) same
       ∙ ap (λ (x : ℕ). record (new_view i (base_of m.table) (frames_of m.table) 128 (lanes_in m.table)) { next = x }) (sym (ap (λ (v : View). v.next) e))
 
-  pub split_of_first : (p : PassState) (v : View) (base n i : ℕ) → p.view ≡ split_view base v → v ≡ first_at base (frames_of m.table) 128 (lanes_in m.table) n → n ≡ i + 1 → base ≡ base_of m.table → p.table ≡ m.table.table.shared.table_id → p.tokens ≡ no_tokens → p.census ≡ new_census (frames_of m.table) → p.hint ≡ Unused → IsNewPass contents m count (i + 1) p
-  split_of_first p v base n i e first number same table tokens census hint = record {
-    belongs = new_belongs p base table census tokens (ap (λ (x : View). x.calls) is) (ap (λ (x : View). x.front) is) (ap (λ (x : View). x.end_seen) is) same;
+  pub split_of_first : (p : PassState) (v : View) (base n i : ℕ) → p.view ≡ split_view base v → v ≡ first_at base (frames_of m.table) 128 (lanes_in m.table) n → n ≡ i + 1 → base ≡ base_of m.table → p.table ≡ m.table.table.shared.table_id → p.tokens ≡ no_tokens → p.census ≡ new_census (frames_of m.table) → p.hint ≡ Unused → IsFreeList m.table m.sweep p.queue → p.queue.known ≡ queue_view 1 (frames_of m.table) [] [] → IsNewPass contents m count (i + 1) p
+  split_of_first p v base n i e first number same table tokens census hint list known = record {
+    belongs = new_belongs p base table census tokens (ap (λ (x : View). x.calls) is) (ap (λ (x : View). x.front) is) (ap (λ (x : View). x.end_seen) is) same list;
     tokens = tokens;
     census = census;
     hint = hint;
     view = viewed p base (i + 1) 0 is same;
     next = λ none. absurd (omega arith);
+    pushed = ap (λ (x : QueueView). x.pushed) known;
+    taken = ap (λ (x : QueueView). x.taken) known;
+    rest = λ none. absurd (omega arith);
+    part = λ _. ap (λ (x : QueueView). x.parts) known;
   }
     where
       is : p.view ≡ new_view (i + 1) base (frames_of m.table) 128 (lanes_in m.table)
       is = e ∙ ap (split_view base) first ∙ split_at base (frames_of m.table) 128 (lanes_in m.table) n ∙ ap (λ (x : ℕ). new_view x base (frames_of m.table) 128 (lanes_in m.table)) number
 
-  pub first_counted : (p : PassState) (base n : ℕ) → p.view ≡ first_at base (frames_of m.table) 128 (lanes_in m.table) n → n ≡ count → base ≡ base_of m.table → p.table ≡ m.table.table.shared.table_id → p.tokens ≡ no_tokens → p.census ≡ new_census (frames_of m.table) → p.hint ≡ Unused → IsNewPass contents m count 0 p
-  first_counted p base n e number same table tokens census hint = record {
-    belongs = new_belongs p base table census tokens (ap (λ (v : View). v.calls) e) (ap (λ (v : View). v.front) e) (ap (λ (v : View). v.end_seen) e) same;
+  pub first_counted : (p : PassState) (base n : ℕ) → p.view ≡ first_at base (frames_of m.table) 128 (lanes_in m.table) n → n ≡ count → base ≡ base_of m.table → p.table ≡ m.table.table.shared.table_id → p.tokens ≡ no_tokens → p.census ≡ new_census (frames_of m.table) → p.hint ≡ Unused → IsFreeList m.table m.sweep p.queue → p.queue.known.parts + n ≡ 65 → p.queue.known.pushed ≡ [] → p.queue.known.taken ≡ [] → IsNewPass contents m count 0 p
+  first_counted p base n e number same table tokens census hint list parts pushed taken = record {
+    belongs = new_belongs p base table census tokens (ap (λ (v : View). v.calls) e) (ap (λ (v : View). v.front) e) (ap (λ (v : View). v.end_seen) e) same list;
     tokens = tokens;
     census = census;
     hint = hint;
     view = viewed p base 0 n e same;
     next = λ none. ap (λ (v : View). v.next) e ∙ number;
+    pushed = pushed;
+    taken = taken;
+    rest = λ _. (let parts' = parts in omega arith);
+    part = λ other. absurd (other refl);
   }
 
   -- the others, from number 1 on

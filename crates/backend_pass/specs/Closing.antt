@@ -1,5 +1,6 @@
 -- What a manager gives as it is closed.
-use Rattle.std.specs.Prelude.{◌≡◌, ◌≢◌, ◌<◌, ◌≤◌, ℕ, true, false, List, [], ◌∷◌, ◌++◌, length, Option, None}
+use Rattle.std.specs.Prelude.{◌≡◌, ◌≢◌, ◌<◌, ◌≤◌, ℕ, ◌+◌, true, false, List, [], ◌∷◌, ◌++◌, length, Option, None}
+use Rattle.std.specs.List.{All}
 use mathlib.Core.Option.{some}
 use lib.ListN.{get_elem?}
 use Rattle.pin_core.specs.declared.view.Call.{Call}
@@ -16,7 +17,9 @@ use Rattle.history_core.specs.Promises.{AreStored, AreSynced}
 use Rattle.block_tag.specs.declared.tag.Tag.{Tag}
 use Rattle.table_rule.specs.declared.opening.Opening.{Opening}
 use Rattle.table_rule.specs.Shows.{Devices, IsPlaced, IsLane, IsLog, KeepsOpening}
+use Rattle.grid.specs.Shape.{total}
 use Rattle.backend_pass.specs.Passes.{PassState}
+use Rattle.clock_sweep.specs.FreeFrames.{QueueState, joined_parts, times}
 use Rattle.backend_pass.specs.Managers.{first_in, others_in}
 
 -- the calls of the first pass, then those of the others, one pass after the other in the order of the list
@@ -36,6 +39,24 @@ met_by_passes (p ∷ ps) = sum_of_met p.view.met (met_by_passes ps)
 abbrev pub joined_views : View → List PassState → View
 joined_views v [] = v
 joined_views v (p ∷ ps) = joined_views (joined_view v p.view) ps
+
+-- a pass of the free list that takes in those of passes, one after the other
+abbrev pub joined_queues : QueueState → List PassState → QueueState
+joined_queues q [] = q
+joined_queues q (p ∷ ps) = joined_queues (record q { known = joined_parts q.known p.queue.known }) ps
+
+-- how often the passes took a frame from the free list, and how often they pushed it there
+abbrev pub takes : ℕ → List PassState → ℕ
+takes f ps = total (λ (p : PassState). times f p.queue.known.taken) ps
+
+abbrev pub pushes : ℕ → List PassState → ℕ
+pushes f ps = total (λ (p : PassState). times f p.queue.known.pushed) ps
+
+-- The passes of a pool of n frames took each frame once, and once more for each time that it was pushed, but for those that were left
+pub record TookEach (n : ℕ) (ps : List PassState) : Type 0 where
+  pub left : List ℕ
+  pub inside : All (λ f. f < n) left
+  pub each : (f : ℕ) → f < n → takes f ps + times f left ≡ 1 + pushes f ps
 
 -- The view has swept each of n lanes up to a position
 abbrev pub HasSwept : ℕ → ℕ → View → Type 0
@@ -109,3 +130,5 @@ module _ {L G : Type 0} where
     pub failed_met : (tag : ℕ) → failed state tag ≡ true → 0 < (met_by_passes ps).writes
     pub unmarked : EachPass HasNoMark ps → NothingWritten state ps
     pub without_puts : EachPass PutNothing ps → NothingPut state ps
+    -- the passes took each frame from the free list once, and once more for each push, but for those that it still had
+    pub frames : TookEach o.config.frames ps

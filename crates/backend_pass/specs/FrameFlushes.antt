@@ -38,6 +38,15 @@ page_answer (Ok true) = Ok flushed.Written
 page_answer (Ok false) = Ok flushed.Clean
 page_answer (Err why) = Err (frame_refusal why)
 
+-- the page is past the log's end; the call was Ok, or was refused so
+abbrev pub IsShort : FlushError → Type 0
+IsShort (LogShort lsn end) = Unit {0}
+IsShort _ = ⊥
+
+abbrev pub IsOkOrShort : {A : Type 0} → Result A FlushError → Type 0
+IsOkOrShort (Ok done) = Unit {0}
+IsOkOrShort (Err why) = IsShort why
+
 -- what is shown after a refusal
 abbrev pub shown_unflushed : FlushError → Shown → Shown
 shown_unflushed (WriteFault tag) s = shown_write s

@@ -6,7 +6,7 @@ use Rattle.pin_core.specs.declared.view.View.{View}
 use Rattle.held_pins.specs.Tokens.{Tokens}
 use Rattle.buffer_frames.specs.declared.hinting.HintSeen.{HintSeen}
 use Rattle.buffer_frames.specs.declared.hinting.HintSeen.TheVariants.{Unused, Had}
-use Rattle.buffer_frames.specs.Hinting.{HasByHint, NotesUnlessHad, SeesHint}
+use Rattle.buffer_frames.specs.Hinting.{HasByHint, LeavesHint, SeesHint}
 use Rattle.buffer_frames.specs.Working.{Within}
 use Rattle.backend_pass.specs.declared.errors.ReadError.{ReadError}
 use Rattle.backend_pass.specs.declared.errors.ReadError.TheVariants.{ReadFault, Unsound}
@@ -23,11 +23,6 @@ abbrev pub ShowsHint : ℕ → Tag → Tokens → Bool → View → View → Hin
 ShowsHint n tag held ring v w Unused = w ≡ v
 ShowsHint n tag held ring v w (Had f) = Within (HasByHint n tag f ring) v w
 ShowsHint n tag held ring v w seen = Within (λ a b. SeesHint n tag held ring a b seen) v w
-
--- What a read that answers the frame f has stored of hints: none where the hint was not loaded, or gave the frame, which is f; else the block's, once, and it names f
-abbrev pub LeavesHint : ℕ → Tag → ℕ → HintSeen → List HintStore → List HintStore → Type 0
-LeavesHint n tag f Unused old new = new ≡ old
-LeavesHint n tag f seen old new = NotesUnlessHad n tag f seen old new
 
 -- What a read has stored of hints, by its answer. A refusal has stored none, unless the block had a frame and its page didn't come
 abbrev pub StoresHints : ℕ → Tag → HintSeen → List HintStore → List HintStore → Result Pinned ReadError → Type 0

@@ -1,5 +1,5 @@
 -- A manager and its passes.
-use Rattle.std.specs.Prelude.{◌≡◌, ◌<◌, ◌≤◌, ℕ, List, [], ◌∷◌, length, take, get_or, true, false, nat_eq, Bool, Option, Some, if◌then◌else◌}
+use Rattle.std.specs.Prelude.{◌≡◌, ◌≢◌, ◌+◌, ◌<◌, ◌≤◌, ℕ, List, [], ◌∷◌, length, take, get_or, true, false, nat_eq, Bool, Option, Some, if◌then◌else◌}
 use mathlib.Core.Option.{some}
 use lib.ListN.{get_elem?}
 use Rattle.std.specs.Global.{Vec}
@@ -13,7 +13,10 @@ use Rattle.pin_core.specs.declared.view.View.{View}
 use Rattle.pin_core.specs.State.{emptied_view, new_view}
 use Rattle.history_core.specs.Log.{IsFront}
 use Rattle.table_rule.specs.Blocks.{is_block}
+use Rattle.grid.specs.Shape.{total}
 use Rattle.clock_sweep.specs.CensusList.{new_census}
+use Rattle.clock_sweep.specs.FreeFrames.{all_parts}
+use Rattle.clock_sweep.specs.FreeLists.{IsFreeList}
 use Rattle.frame_table.specs.Opened.{WasSoundAtOpening}
 use Rattle.frame_table.specs.Seats.{base_of, frames_of, lanes_in, relations_of}
 use Rattle.held_pins.specs.Tokens.{HeldFrame, held_at, no_tokens}
@@ -34,6 +37,8 @@ module _ {L G : Type 0} where
   pub record Belongs (contents : L → Option Pages) (m : Manager L G) (p : PassState) : Type 0 where
     pub table : p.table ≡ m.table.table.shared.table_id
     pub frames : p.census.frames ≡ frames_of m.table
+    -- and it has a pass of the manager's free list
+    pub queue : IsFreeList m.table m.sweep p.queue
     -- its tokens are of frames of the pool, which have blocks of the relations
     pub inside : (f : ℕ) (h : HeldFrame) → held_at p.tokens f ≡ Some h → f < frames_of m.table
     pub blocks : (f : ℕ) (h : HeldFrame) → held_at p.tokens f ≡ Some h → is_block (relations_of m.table) h.tag ≡ true
@@ -56,6 +61,11 @@ module _ {L G : Type 0} where
     pub view : p.view ≡ record (new_view i (base_of m.table) (frames_of m.table) 128 (lanes_in m.table)) { next = p.view.next }
     -- the first one has given the numbers of all others
     pub next : i ≡ 0 → p.view.next ≡ passes
+    -- it pushed no frame on the free list, and took none. Each other has one part of it, and the first one what is left
+    pub pushed : p.queue.known.pushed ≡ []
+    pub taken : p.queue.known.taken ≡ []
+    pub rest : i ≡ 0 → p.queue.known.parts + passes ≡ all_parts + 1
+    pub part : i ≢ 0 → p.queue.known.parts ≡ 1
 
   -- so many, in order
   pub record AreNewPasses (contents : L → Option Pages) (m : Manager L G) (passes : ℕ) (ps : List PassState) : Type 0 where
@@ -96,6 +106,11 @@ AreFronted base [] = Unit {0}
 AreFronted base (p ∷ ps) = IsFront base p.view.calls p.view.front × AreFronted base ps
 
 module _ {L G : Type 0} where
+  -- each has a pass of the manager's free list
+  abbrev pub HaveQueues : Manager L G → List PassState → Type 0
+  HaveQueues m [] = Unit {0}
+  HaveQueues m (p ∷ ps) = IsFreeList m.table m.sweep p.queue × HaveQueues m ps
+
   -- The passes are all that the manager gave, in any order, and none has a token
   pub record AreAll (m : Manager L G) (ps : List PassState) : Type 0 where
     pub nonempty : 0 < length ps
@@ -104,3 +119,6 @@ module _ {L G : Type 0} where
     pub joined : (first_in ps).joined ≡ 0
     pub spent : AreSpent m.table.table.shared.table_id ps
     pub fronts : AreFronted (base_of m.table) ps
+    -- together they have all parts of the free list
+    pub queues : HaveQueues m ps
+    pub parts : total (λ (p : PassState). p.queue.known.parts) ps ≡ all_parts

@@ -1,9 +1,10 @@
 -- What contracts see of a pass.
-use Rattle.std.specs.Prelude.{◌≡◌, ℕ, ◌+◌, List, [], ◌∷◌}
+use Rattle.std.specs.Prelude.{◌≡◌, ℕ, ◌+◌, List, [], ◌∷◌, false}
 use Rattle.atomic_table.specs.Seated.{TableId}
 use Rattle.pin_core.specs.declared.view.View.{View}
 use Rattle.pin_core.specs.State.{emptied_view}
 use Rattle.clock_sweep.specs.CensusList.{CensusList}
+use Rattle.clock_sweep.specs.FreeFrames.{QueueState, lasting}
 use Rattle.held_pins.specs.Tokens.{HeldFrame, no_tokens}
 use Rattle.frame_table.specs.Seats.{OnlyRises}
 use Rattle.held_pins.specs.Rests.{OnlyTokens, SameLocks}
@@ -20,6 +21,8 @@ pub record PassState : Type 0 where
   pub table : TableId
   pub id : ℕ
   pub view : View
+  -- its pass of the free list: the list's, with what it knows of it, which is what it pushed there and took from there
+  pub queue : QueueState
   -- the tokens that its callers have
   pub tokens : List HeldFrame
   -- the words that its last choice of a victim loaded, where that found each frame pinned
@@ -53,11 +56,19 @@ pub record IsFreshView (number id base : ℕ) (v : View) : Type 0 where
   pub met : v.met ≡ record { reads = 0; writes = 0; logs = 0 }
   pub turns : v.turns ≡ 0
 
+-- What a pass has of its own and keeps: for how many frames its census has room, and its pass of the free list, but for what it pushed there and took
+pub record PassOwn : Type 0 where
+  pub frames : ℕ
+  pub queue : QueueState
+
+abbrev pub own_of : PassState → PassOwn
+own_of p = record { frames = p.census.frames; queue = lasting p.queue }
+
 -- It is the same pass: what every call leaves of it, and what only rises
 pub record KeepsPass (p q : PassState) : Type 0 where
   pub table : q.table ≡ p.table
   pub id : q.id ≡ p.id
-  pub frames : q.census.frames ≡ p.census.frames
+  pub own : own_of q ≡ own_of p
   pub number : q.view.number ≡ p.view.number
   pub next : q.view.next ≡ p.view.next
   pub joined : q.view.joined ≡ p.view.joined
@@ -75,11 +86,12 @@ pub record KeepsCalls (p q : PassState) : Type 0 where
   pub front : q.view.front ≡ p.view.front
   pub place_loads : q.view.place_loads ≡ p.view.place_loads
 
--- It looked up no block: what was seen of a hint, how many latches of partitions it took, and the hints that it stored are as they were
+-- It looked up no block: what was seen of a hint, how many latches of partitions it took, the hints that it stored, and what it took from the free list and pushed there are as they were
 pub record KeepsSought (p q : PassState) : Type 0 where
   pub hint : q.hint ≡ p.hint
   pub turns : q.view.turns ≡ p.view.turns
   pub stores : q.view.hints ≡ p.view.hints
+  pub queue : q.queue ≡ p.queue
 
 -- What its callers have of it is as it was: their tokens and content locks, the census, and what the pass read and put; and it looked up no block
 pub record KeepsCallers (p q : PassState) : Type 0 where
@@ -101,6 +113,11 @@ KeepsLocks p q = SameLocks p.view q.view
 -- No device was called
 pub record KeepsDevices (p q : PassState) : Type 0 where
   pub device_calls : q.view.device_calls ≡ p.view.device_calls
+  pub met : q.view.met ≡ p.view.met
+
+-- No call of a device failed, and the log isn't seen to be down
+pub record NoDeviceFails (p q : PassState) : Type 0 where
+  pub up : q.view.saw_down ≡ false
   pub met : q.view.met ≡ p.view.met
 
 -- what is shown with one fault more, of a write of a lane, and of the log

@@ -23,6 +23,8 @@ use Rattle.buffer_frames.specs.declared.victims.VictimError.TheVariants as victi
 use Rattle.buffer_frames.specs.declared.reading.BlockError.{BlockError}
 use Rattle.buffer_frames.specs.declared.reading.BlockError.TheVariants as block
 use Rattle.buffer_frames.specs.Loading.{WasUnsoundAtOpening, loaded_by, loading_calls}
+use Rattle.clock_sweep.specs.FreeFrames.{QueueState}
+use Rattle.buffer_frames.specs.Bringing.{PushesNone}
 use Rattle.buffer_frames.specs.Reads.{KeptOrEmptied, Locates, Misses}
 use Rattle.buffer_frames.specs.Victims.{FindsAllPinned, LeavesDirty}
 use Rattle.buffer_frames.specs.Working.{met_log, met_read, met_write}
@@ -33,7 +35,7 @@ use Rattle.backend_pass.specs.declared.met.Shown.{Shown}
 use Rattle.backend_pass.specs.declared.pinned.Pinned.{Pinned}
 use Rattle.backend_pass.specs.FrameFlushes.{WasWithin}
 use Rattle.buffer_frames.specs.Outside.{shown_count}
-use Rattle.backend_pass.specs.Passes.{PassState}
+use Rattle.backend_pass.specs.Passes.{NoDeviceFails, PassState}
 
 -- what is refused before anything is looked at: a block past the end of its fork, and then one token too many
 abbrev pub refused_at_once : List RelEntry → Tokens → Tag → Option ReadError
@@ -101,16 +103,16 @@ ReadingCensus n c d (Err (LogDown at)) = d ≡ new_census n
 ReadingCensus n c d (Err (LogShort lsn end)) = d ≡ new_census n
 ReadingCensus n c d (Err (Unsound failed)) = KeptOrEmptied n c d
 
--- In a table of n frames, by a pass that has these tokens, and saw this of the block's hint: the lane q was read for the block where the answer says so, and no lane else. Where neither the hint nor the map gave a frame for it at first, all else was done after that
-module _ (n : ℕ) (tag : Tag) (held : Tokens) (ring : Bool) (seen : HintSeen) where
+-- In a table of n frames, by a pass that has these tokens, saw this of the block's hint, and whose pass of the free list was q and is r: the lane was read for the block where the answer says so, and no lane else. Where neither the hint nor the map gave a frame for it at first, all else was done after that
+module _ (n : ℕ) (tag : Tag) (held : Tokens) (ring : Bool) (seen : HintSeen) (q r : QueueState) where
   abbrev pub ReadingCalls : ℕ → View → View → Result Pinned ReadError → Type 0
-  ReadingCalls q v w (Ok pinned) = Locates n tag held ring seen pinned.frame
-      (loading_calls q (packed_tag tag) (Ok (loaded_by pinned.hit))) v w
-  ReadingCalls q v w (Err (ReadFault failed)) = (f : ℕ)
-      × Locates n tag held ring seen f (LaneRead q (packed_tag tag) false ∷ []) v w
-  ReadingCalls q v w (Err (Unsound failed)) = (f : ℕ)
-      × Locates n tag held ring seen f (LaneRead q (packed_tag tag) true ∷ []) v w
-  ReadingCalls q v w (Err why) = Misses n tag held ring seen [] v w
+  ReadingCalls lane v w (Ok pinned) = Locates n tag held ring seen q r pinned.frame
+      (loading_calls lane (packed_tag tag) (Ok (loaded_by pinned.hit))) v w
+  ReadingCalls lane v w (Err (ReadFault failed)) = (f : ℕ)
+      × Locates n tag held ring seen q r f (LaneRead lane (packed_tag tag) false ∷ []) v w
+  ReadingCalls lane v w (Err (Unsound failed)) = (f : ℕ)
+      × Locates n tag held ring seen q r f (LaneRead lane (packed_tag tag) true ∷ []) v w
+  ReadingCalls lane v w (Err why) = Misses n tag held ring seen [] v w × PushesNone q r
 
 -- The block is pinned, or its page isn't sound, or all frames are pinned
 abbrev pub IsReadUnsoundOrAllPinned : Result Pinned ReadError → Type 0
@@ -119,14 +121,17 @@ IsReadUnsoundOrAllPinned (Err (Unsound failed)) = Unit {0}
 IsReadUnsoundOrAllPinned (Err (NoUnpinned frames)) = Unit {0}
 IsReadUnsoundOrAllPinned _ = ⊥
 
+-- The same, or a victim's page is past the log's end, as far as the log was flushed in the call
+abbrev pub IsReadUnsoundAllPinnedOrShort : Result Pinned ReadError → Type 0
+IsReadUnsoundAllPinnedOrShort (Err (LogShort lsn end)) = Unit {0}
+IsReadUnsoundAllPinnedOrShort r = IsReadUnsoundOrAllPinned r
+
 module _ {L G : Type 0} (contents : L → Option Pages) (t : FrameTable L G) where
   -- No device fails while a block is read, and no page is one that can't be written
   pub record NothingFails (p q : PassState) : Type 0 where
     -- no sound page that a lane can have held as the table was opened had a position past the end of the log that the pass had seen
     pub within : (other : Tag) → names_block other ≡ true → has_block (relations_of t) other ≡ true → WasWithin contents t other p.view.end_seen
-    -- the log isn't seen to be down, and no fault was met
-    pub up : q.view.saw_down ≡ false
-    pub met : q.view.met ≡ p.view.met
+    pub devices : NoDeviceFails p q
 
   -- why a block was not read that was looked up: all frames were pinned; a victim's page was not written; or the block's own page was not read, or isn't sound, and wasn't as the table was opened, where that is known
   abbrev pub ReadingRefused : Tag → PassState → PassState → ReadError → Type 0
@@ -158,5 +163,5 @@ module _ {L G : Type 0} (contents : L → Option Pages) (t : FrameTable L G) whe
   -- A block was looked up, with this answer and these calls of devices
   pub record ReadsBlock (tag : Tag) (ring : Bool) (p q : PassState) (r : Result Pinned ReadError) : Type 0 where
     pub answer : ReadingAnswer tag p q r
-    pub calls : ReadingCalls (frames_of t) tag p.tokens ring q.hint
+    pub calls : ReadingCalls (frames_of t) tag p.tokens ring q.hint p.queue q.queue
         (lane_number tag (lanes_in t)) p.view q.view r

@@ -9,7 +9,7 @@ ghost use Rattle.held_pins.specs.Rests.{OnlyTokens};
 ghost use Rattle.held_pins.specs.Tokens.{IsPinnedFor};
 ghost use Rattle.buffer_frames.specs.declared.flushing.FlushedPage.TheVariants.{Written};
 ghost use Rattle.buffer_frames.specs.Flushing.{EndedInError, EndedWritten, FlushAnswer, met_flushing};
-ghost use Rattle.buffer_frames.specs.Working.{WorksAt};
+ghost use Rattle.buffer_frames.specs.Working.{KeepsNotes, WorksAt};
 ghost use Rattle.backend_pass.specs.Passes.{view_in, shown_log, shown_write};
 ghost use Rattle.backend_pass.specs.Seats.{IsSeated, SameBadge};
 ghost use Rattle.backend_pass.specs.FrameFlushes.{frame_refusal, shown_unflushed};
@@ -110,6 +110,7 @@ fn flush_seated<L: BlockLane, G: LogDevice, R: Wait>(
     ensures badge { SameBadge badge.old badge.new }
     ensures rests { OnlyTokens held.now (view_in badge.new.views) }
     ensures works { WorksAt frame (view_in badge.old.views) (view_in badge.new.views) }
+    ensures notes { KeepsNotes (link (view_in badge.old.views) frame) (link (view_in badge.new.views) frame) }
     ensures unlocked { (link (view_in badge.new.views) frame).content ≡ Unlocked }
     ensures answer { FlushAnswer L.contents table.now (lane_number tag (lanes_in table.now)) tag frame (view_in badge.old.views) (view_in badge.new.views) result }
     ensures met { (view_in badge.new.views).met ≡ met_flushing result (view_in badge.old.views).met }
@@ -130,9 +131,10 @@ impl Pass {
     ghost use Rattle.frame_table.specs.Seats.{lanes_in};
     ghost use Rattle.held_pins.specs.Tokens.{IsPinnedFor};
     ghost use Rattle.buffer_frames.specs.Flushing.{EndedInError, EndedWritten, FlushAnswer, met_flushing};
+    ghost use Rattle.buffer_frames.specs.Working.{KeepsNotes};
     ghost use Rattle.backend_pass.specs.Managers.{Belongs};
-    ghost use Rattle.backend_pass.specs.Passes.{KeepsCalls, KeepsLocks, KeepsMark, KeepsSought, SamePass};
-    ghost use Rattle.backend_pass.specs.FrameFlushes.{WasWithin, page_answer};
+    ghost use Rattle.backend_pass.specs.Passes.{KeepsCalls, KeepsLocks, KeepsMark, KeepsSought, NoDeviceFails, SamePass};
+    ghost use Rattle.backend_pass.specs.FrameFlushes.{IsOkOrShort, WasWithin, page_answer};
 
     /// Writes the page of a token's frame if the frame is dirty, after flushing the log up to the page's position (`FlushOneBuffer`). The caller doesn't have the content lock. Returns false if the frame is clean.
     pub fn flush_frame<L: BlockLane, G: LogDevice, R: Wait>(
@@ -153,6 +155,7 @@ impl Pass {
         ensures mark { KeepsMark self.old self.new }
         ensures locks { KeepsLocks self.old self.new }
         ensures others { (g : ℕ) → g ≢ pinned.now.frame → link self.new.view g ≡ link self.old.view g }
+        ensures notes { KeepsNotes (link self.old.view pinned.now.frame) (link self.new.view pinned.now.frame) }
 
         // The page went to its lane after the log was flushed up to it, or the frame was clean; or this is why not, and which devices were called.
         ensures answer { FlushAnswer L.contents manager.now.table (lane_number pinned.now.tag (lanes_in manager.now.table)) pinned.now.tag pinned.now.frame self.old.view self.new.view (page_answer result) }
@@ -160,7 +163,10 @@ impl Pass {
         ensures ended { IfErr result (λ _. EndedInError pinned.now.frame self.old.view self.new.view) }
         ensures written { IfOk result (λ wrote. wrote ≡ true → EndedWritten pinned.now.frame self.old.view self.new.view) }
 
-        // It is done where the log isn't down, no call fails, and no page has a position past the log's end.
+        // It is done where no device fails and the log isn't down, unless the page is past the log's end.
+        ensures short { NoDeviceFails self.old self.new → IsOkOrShort result }
+
+        // So, where no device fails and the log isn't down, it is done if no page has a position past the end that was seen.
         ensures complete { WasWithin L.contents manager.now.table pinned.now.tag self.old.view.end_seen → self.new.view.saw_down ≡ false → self.new.view.met ≡ self.old.view.met → IsOk result }
     {
         let frame = pinned.frame;

@@ -91,11 +91,20 @@ impl<L: BlockLane, G: LogDevice> Manager<L, G> {
             Ok((table, seat)) => {
                 let PoolMemory {
                     sweep,
+                    queue,
                     memories,
                     passes,
                 } = memory;
                 let manager = Manager { table, sweep };
-                let passes = seat_passes(&manager, seat, memories, passes, config.passes, base);
+                let passes = seat_passes(
+                    &manager,
+                    seat,
+                    queue,
+                    memories,
+                    passes,
+                    config.passes,
+                    base,
+                );
                 Ok((manager, passes))
             }
             Err(BuildRefused { lanes, log }) => {
@@ -115,9 +124,10 @@ impl<L: BlockLane, G: LogDevice> Manager<L, G> {
         ensures { ClosesAll (devices L.BlockLane G.LogDevice) self.table.table.shared.key passes.items result.0.items result.1 }
     {
         let place = place_of_first(&passes);
-        let mut seat = passes.remove(place).leave();
-        join_all(&self, &mut seat, passes);
-        let Manager { table, sweep: _ } = self;
+        let (mut seat, mut queue) = passes.remove(place).leave();
+        join_all(&self, &mut seat, &mut queue, passes);
+        let Manager { table, sweep } = self;
+        sweep.close(queue);
         table.close(seat)
     }
 }

@@ -8,7 +8,7 @@ use crate::seats::{return_seat, take_seat};
 use atomic_table::Badge;
 use buffer_frames::{HintSeen, Sought};
 use cleanup_lock::unpin_and_wake;
-use clock_sweep::Census;
+use clock_sweep::{Census, QueuePass};
 use crossbeam_utils::CachePadded;
 use held_pins::HeldPins;
 use log_device::LogDevice;
@@ -18,10 +18,11 @@ use segment_store::BlockLane;
 use std::marker::Model;
 use std::sync::Wait;
 
-/// A backend of a manager: the seat that it works with, the pins that it has handed out, what it keeps of its look-ups, and room of its own for a census, for the frames that a checkpoint marks, and for a page. `Manager::close` takes it back.
+/// A backend of a manager: the seat that it works with, its pass of the free list, the pins that it has handed out, what it keeps of its look-ups, and room of its own for a census, for the frames that a checkpoint marks, and for a page. `Manager::close` takes it back.
 pub struct Pass {
     pub(crate) number: u32,
     pub(crate) seat: Badge<View>,
+    pub(crate) queue: QueuePass,
     pub(crate) held: HeldPins,
     pub(crate) sought: Sought,
     pub(crate) census: Census,
@@ -43,6 +44,7 @@ impl Model for Pass {
       table = p.seat.table_id;
       id = p.seat.id;
       view = view_in p.seat.views;
+      queue = p.queue;
       tokens = p.held;
       census = p.census;
       marked = p.marked.items;

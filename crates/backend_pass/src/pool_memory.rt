@@ -1,15 +1,17 @@
 //! The memory of a manager and of its passes.
-ghost use Rattle.std.specs.Prelude.{◌≡◌, IfOk, vec_len};
+ghost use Rattle.std.specs.Prelude.{◌≡◌, ◌<◌, IfOk, vec_len};
 ghost use Rattle.backend_pass.specs.PassMemories.{AreForFrames};
 
 use crate::pass::Pass;
 use crate::pass_memory::PassMemory;
-use clock_sweep::Sweep;
+use clock_sweep::{QueuePass, Sweep};
 use std::alloc::{AllocError, Global};
 
 /// The memory of a manager and of its passes.
 pub(crate) struct PoolMemory {
     pub(crate) sweep: Sweep,
+    /// The first pass of the free list.
+    pub(crate) queue: QueuePass,
     pub(crate) memories: Vec<PassMemory>,
     /// Empty, with room for all passes.
     pub(crate) passes: Vec<Pass>,
@@ -41,17 +43,19 @@ fn spend_memories(mut memories: Vec<PassMemory>) {
 }
 
 impl PoolMemory {
-    ghost use Rattle.std.specs.Prelude.{◌≤◌, [], vec_capacity};
+    ghost use Rattle.std.specs.Prelude.{[]};
     ghost use Rattle.backend_pass.specs.PoolMemories.{IsMemoryFor};
 
     pub(crate) fn take(alloc: Global, frames: u32, passes: u32) -> Result<PoolMemory, AllocError>
+        requires { 0 < frames }
         ensures { IfOk result (IsMemoryFor frames passes) }
     {
-        let sweep = Sweep::build(alloc, frames)?;
+        let (sweep, queue) = Sweep::build(alloc, frames)?;
         let memories = take_memories(alloc, frames, passes)?;
         match Vec::with_capacity(alloc, passes as usize) {
             Ok(passes) => Ok(PoolMemory {
                 sweep,
+                queue,
                 memories,
                 passes,
             }),
@@ -67,6 +71,7 @@ impl PoolMemory {
     {
         let PoolMemory {
             sweep: _,
+            queue: _,
             memories,
             passes,
         } = self;

@@ -4,6 +4,8 @@ ghost use Rattle.block_tag.specs.Names.{lane_number, names_block};
 ghost use Rattle.table_rule.specs.Blocks.{has_block};
 ghost use Rattle.frame_table.specs.Seats.{OnlyRises, frames_of, lanes_in, relations_of};
 ghost use Rattle.held_pins.specs.Rests.{HasNoDevice, HasNoLatch, SameLocks};
+ghost use Rattle.clock_sweep.specs.FreeFrames.{SameQueue};
+ghost use Rattle.clock_sweep.specs.FreeLists.{IsFreeList};
 ghost use Rattle.held_pins.specs.Tokens.{IsNew};
 ghost use Rattle.buffer_frames.specs.Hinting.{TakesTurns};
 ghost use Rattle.buffer_frames.specs.Outside.{kept_by_block_reads, ring_shape, shown_count};
@@ -24,7 +26,7 @@ use block_tag::Tag;
 use buffer_frames::{
     BlockError, FrameFlushError, HintSeen, PinnedBlock, Sought, VictimError, read_block,
 };
-use clock_sweep::Census;
+use clock_sweep::{Census, QueuePass};
 use crossbeam_utils::CachePadded;
 use held_pins::{HeldPins, MOST_TOKENS};
 use log_device::LogDevice;
@@ -104,6 +106,7 @@ fn read_seated<L: BlockLane, G: LogDevice, R: Wait>(
     rt: &R,
     badge: &mut Badge<View>,
     held: &HeldPins,
+    queue: &mut QueuePass,
     census: &mut Census,
     page: &mut Page,
     tag: &Tag,
@@ -111,6 +114,7 @@ fn read_seated<L: BlockLane, G: LogDevice, R: Wait>(
     sought: &mut Sought,
 ) -> Result<PinnedBlock, BlockError>
     requires seated { IsSeated manager.now.table.table.shared.table_id held.now badge.old }
+    requires queue { IsFreeList manager.now.table manager.now.sweep queue.old }
     requires census { census.old.frames ≡ frames_of manager.now.table }
     requires tag { names_block tag.now ≡ true }
     requires block { has_block (relations_of manager.now.table) tag.now ≡ true }
@@ -119,6 +123,7 @@ fn read_seated<L: BlockLane, G: LogDevice, R: Wait>(
     ensures badge { SameBadge badge.old badge.new }
     ensures quiet { HasNoDevice (view_in badge.new.views) }
     ensures latches { HasNoLatch (view_in badge.new.views) }
+    ensures lasts { SameQueue queue.old queue.new }
     ensures room { census.new.frames ≡ census.old.frames }
     ensures ring { ring_shape ring.new ≡ ring_shape ring.old }
     ensures kept { kept_by_block_reads (view_in badge.new.views)
@@ -134,7 +139,7 @@ fn read_seated<L: BlockLane, G: LogDevice, R: Wait>(
     ensures census { CensusRead (frames_of manager.now.table) census.old census.new result }
     ensures met { (view_in badge.new.views).met ≡ met_read_block result (view_in badge.old.views).met }
     ensures calls { ReadCalls (frames_of manager.now.table) tag.now held.now (is_some ring.old)
-        sought.new.hint (lane_number tag.now (lanes_in manager.now.table))
+        sought.new.hint queue.old queue.new (lane_number tag.now (lanes_in manager.now.table))
         (view_in badge.old.views) (view_in badge.new.views) result }
 {
     let mut seat = take_seat::<L, G>(badge);
@@ -144,6 +149,7 @@ fn read_seated<L: BlockLane, G: LogDevice, R: Wait>(
         &mut seat,
         held,
         &manager.sweep,
+        queue,
         census,
         page,
         tag,
@@ -169,8 +175,8 @@ impl Pass {
     ghost use Rattle.buffer_frames.specs.declared.hinting.HintSeen.TheVariants.{Unused};
     ghost use Rattle.backend_pass.specs.Managers.{Belongs};
     ghost use Rattle.backend_pass.specs.HintsSeen.{IsUnusedOrHad, ShowsHint, StoresHints};
-    ghost use Rattle.backend_pass.specs.Passes.{KeepsCalls, KeepsLocks, KeepsMark, PassState, SamePass};
-    ghost use Rattle.backend_pass.specs.Reading.{IsReadUnsoundOrAllPinned, NothingFails, ReadingCensus, ReadsBlock, at_once_of, met_reading, refused_at_once};
+    ghost use Rattle.backend_pass.specs.Passes.{KeepsCalls, KeepsLocks, KeepsMark, NoDeviceFails, SamePass};
+    ghost use Rattle.backend_pass.specs.Reading.{IsReadUnsoundAllPinnedOrShort, IsReadUnsoundOrAllPinned, NothingFails, ReadingCensus, ReadsBlock, at_once_of, met_reading, refused_at_once};
     ghost use Rattle.buffer_frames.specs.Loading.{WasUnsoundAtOpening};
     ghost use Rattle.backend_pass.specs.declared.errors.ReadError.{ReadError};
     ghost use Rattle.backend_pass.specs.declared.errors.ReadError.TheVariants.{Unsound};
@@ -208,6 +214,7 @@ impl Pass {
             rt,
             &mut self.seat,
             &self.held,
+            &mut self.queue,
             &mut self.census,
             &mut self.page,
             tag,
@@ -278,7 +285,11 @@ impl Pass {
         ensures stored { StoresHints (frames_of manager.now.table) tag self.new.hint
             self.old.view.hints self.new.view.hints result }
 
-        // Where nothing fails the block is read, unless each frame is pinned or its page isn't sound.
+        // Where no device fails and the log isn't down, the block is read, unless its page isn't sound, each frame is pinned, or a victim's page is past the log's end.
+        ensures short { refused_at_once (relations_of manager.now.table) self.old.tokens tag ≡ None
+            → NoDeviceFails self.old self.new → IsReadUnsoundAllPinnedOrShort result }
+
+        // If no page had a position past the log end that the pass had seen, the last of these doesn't happen.
         ensures complete { refused_at_once (relations_of manager.now.table) self.old.tokens tag ≡ None → NothingFails L.contents manager.now.table self.old self.new → IsReadUnsoundOrAllPinned result }
 
         // It is called unsound only where it was unsound as the table was opened, if that is known.

@@ -1,6 +1,8 @@
 //! Passes take their seats.
 ghost use Rattle.std.specs.Prelude.{◌≡◌, ◌≢◌, ◌<◌, ◌≤◌, [], vec_capacity, vec_len};
 ghost use Rattle.table_rule.specs.Shows.{starting};
+ghost use Rattle.clock_sweep.specs.FreeFrames.{all_parts, kept_part, new_part, queue_view};
+ghost use Rattle.clock_sweep.specs.FreeLists.{IsFreeList, IsOfSweep};
 ghost use Rattle.frame_table.specs.FrameSteps.{kept_view, split_view};
 ghost use Rattle.frame_table.specs.Seats.{Fits, base_of, frames_of};
 ghost use Rattle.buffer_frames.specs.declared.hinting.HintSeen.TheVariants.{Unused};
@@ -15,6 +17,7 @@ use crate::pass_memory::PassMemory;
 use crate::seats::{return_seat, take_seat};
 use atomic_table::Seat;
 use buffer_frames::{HintSeen, Sought};
+use clock_sweep::QueuePass;
 use crossbeam_utils::CachePadded;
 use frame_table::Value;
 use log_device::LogDevice;
@@ -26,6 +29,7 @@ impl Pass {
     fn seated<L: BlockLane, G: LogDevice>(
         number: u32,
         seat: Seat<Value<L, G>, View>,
+        queue: QueuePass,
         memory: PassMemory,
         base: u64,
     ) -> Pass
@@ -35,6 +39,7 @@ impl Pass {
           table = seat.table_id;
           id = seat.id;
           view = seat.me.0;
+          queue = queue;
           tokens = [];
           census = memory.census;
           marked = [];
@@ -59,6 +64,7 @@ impl Pass {
         Pass {
             number,
             seat: seat.into_badge(),
+            queue,
             held,
             sought,
             census,
@@ -79,23 +85,28 @@ impl Pass {
         requires first { (self.old.table ≡ manager.now.table.table.shared.table_id) × (self.old.id ≡ 0) }
         requires next { (self.old.view.next ≡ number) × (number ≢ 0) × (number < manager.now.table.table.shared.key.config.passes) }
         requires base { base ≡ base_of manager.now.table }
-        ensures first { self.new ≡ record self.old { view = kept_view self.old.view } }
+        requires queue { IsOfSweep manager.now.sweep self.old.queue }
+        requires parts { 1 < self.old.queue.known.parts }
+        ensures first { self.new ≡ record self.old { view = kept_view self.old.view; queue = record self.old.queue { known = kept_part self.old.queue.known } } }
         ensures table { result.table ≡ self.old.table }
         ensures view { result.view ≡ split_view base self.old.view }
+        ensures queue { result.queue ≡ record self.old.queue { known = new_part self.old.queue.known } }
         ensures fresh { (result.tokens ≡ [])
             × (result.census ≡ memory.census) × (result.hint ≡ Unused) }
     {
         let mut seat = take_seat::<L, G>(&mut self.seat);
         let other = manager.table.split(&mut seat);
         return_seat(&mut self.seat, seat);
-        Pass::seated(number, other, memory, base)
+        let queue = manager.sweep.split(&mut self.queue);
+        Pass::seated(number, other, queue, memory, base)
     }
 }
 
-/// All passes of a manager that was just opened: the first one has its seat, and the others' seats are split from it.
+/// All passes of a manager that was just opened: the first one has its seat and its pass of the free list, and those of the others are split from it.
 pub(crate) fn seat_passes<L: BlockLane, G: LogDevice>(
     manager: &Manager<L, G>,
     seat: Seat<Value<L, G>, View>,
+    queue: QueuePass,
     mut memories: Vec<PassMemory>,
     mut passes: Vec<Pass>,
     count: u32,
@@ -103,12 +114,14 @@ pub(crate) fn seat_passes<L: BlockLane, G: LogDevice>(
 ) -> Vec<Pass>
     requires seat { Fits manager.now.table seat × (seat.id ≡ 0) × (seat.me ≡ (starting manager.now.table.table.shared.key, [])) }
     requires base { base ≡ base_of manager.now.table }
-    requires count { (1 ≤ count) × (count ≡ manager.now.table.table.shared.key.config.passes) }
+    requires count { (1 ≤ count) × (count ≤ all_parts) × (count ≡ manager.now.table.table.shared.key.config.passes) }
+    requires queue { IsFreeList manager.now.table manager.now.sweep queue }
+    requires known { queue.known ≡ queue_view all_parts (frames_of manager.now.table) [] [] }
     requires memories { (vec_len memories ≡ count) × AreForFrames (frames_of manager.now.table) memories.items }
     requires room { (passes.items ≡ []) × (count ≤ vec_capacity passes) }
     ensures { AreNewPasses L.contents manager.now count result.items }
 {
-    let mut first = Pass::seated(0, seat, memories.take_last(), base);
+    let mut first = Pass::seated(0, seat, queue, memories.take_last(), base);
     for number in 1..count {
         let pass = first.split(manager, number, memories.take_last(), base);
         passes.push_reserved(pass);

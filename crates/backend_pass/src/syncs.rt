@@ -84,10 +84,10 @@ impl Pass {
     ghost use Rattle.buffer_sync.specs.declared.syncing.SyncOnly.TheVariants.{Needed};
     ghost use Rattle.buffer_sync.specs.declared.syncing.Synced.TheVariants.{Skipped};
     ghost use Rattle.buffer_sync.specs.Syncs.{EndsSync, LeavesLane, NotesBlock, SeesNotDirty, SyncsFrame, synced_work};
-    ghost use Rattle.backend_pass.specs.FrameFlushes.{frame_answer};
+    ghost use Rattle.backend_pass.specs.FrameFlushes.{IsOkOrShort, frame_answer};
     ghost use Rattle.backend_pass.specs.Locks.{HasLock};
     ghost use Rattle.backend_pass.specs.Managers.{Belongs};
-    ghost use Rattle.backend_pass.specs.Passes.{KeepsCallers, KeepsMark, SamePass};
+    ghost use Rattle.backend_pass.specs.Passes.{KeepsCallers, KeepsMark, NoDeviceFails, SamePass};
     ghost use Rattle.backend_pass.specs.Reading.{NothingFails};
 
     /// Looks at a frame's state word under its header, and by that writes the frame or passes it over (`SyncOneBuffer`). The frame is pinned for the write, its usage count unchanged.
@@ -118,7 +118,10 @@ impl Pass {
         // A frame without BM_CHECKPOINT_NEEDED is none that the pass's checkpoint has still to write.
         ensures not_left_to_write { result ≡ Ok Skipped → only ≡ Needed → (link self.new.view frame).left_to_write ≡ false }
 
-        // It is done where the log isn't down, no call fails, and no page has a position past the log's end.
+        // It is done where no device fails and the log isn't down, unless the page is past the log's end.
+        ensures short { NoDeviceFails self.old self.new → IsOkOrShort result }
+
+        // So, where no device fails and the log isn't down, it is done if no page has a position past the end that was seen.
         ensures complete { NothingFails L.contents manager.now.table self.old self.new → IsOk result }
     {
         let mut seat = take_seat::<L, G>(&mut self.seat);

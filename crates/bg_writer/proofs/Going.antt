@@ -165,8 +165,7 @@ module _ {L G : Type 0} (contents : L → Option Pages) (m : Manager L G) where
   pub nothing_fails : (p q r : PassState) (hand places written : ℕ) → Going p q hand places written → NothingFails contents m.table p r → NothingFails contents m.table q r
   nothing_fails p q r hand places written a n = record {
     within = λ other named listed page sound at. (let low = n.within other named listed page sound at in let more = a.same.keeps.advances.end_seen in omega arith);
-    up = n.up;
-    met = n.met ∙ sym a.met;
+    devices = record { up = n.devices.up; met = n.devices.met ∙ sym a.met };
   }
 
   -- the round begins

@@ -1,14 +1,13 @@
 //! A round of the background writer.
-ghost use Rattle.std.specs.Prelude.{◌≡◌, ◌≢◌, ◌+◌, ◌<◌, ◌%◌, ℕ, IfErr, IfOk, IsOk};
+ghost use Rattle.std.specs.Prelude.{◌≡◌, ◌+◌, ◌<◌, ◌%◌, ℕ, IfErr, IfOk, IsOk};
 ghost use Rattle.pin_core.specs.State.{link};
-ghost use Rattle.frame_table.specs.Seats.{frames_of};
 ghost use Rattle.clock_sweep.specs.Keeping.{SamePins};
 ghost use Rattle.buffer_frames.specs.Flushing.{met_flushing};
 ghost use Rattle.buffer_frames.specs.Working.{KeepsNotes};
 ghost use Rattle.buffer_sync.specs.Syncs.{WritesPages};
-ghost use Rattle.backend_pass.specs.FrameFlushes.{RefusesFrame, frame_answer};
+ghost use Rattle.backend_pass.specs.FrameFlushes.{IsOkOrShort, RefusesFrame, frame_answer};
 ghost use Rattle.backend_pass.specs.Managers.{Belongs};
-ghost use Rattle.backend_pass.specs.Passes.{KeepsCallers, KeepsMark, SamePass};
+ghost use Rattle.backend_pass.specs.Passes.{KeepsCallers, KeepsMark, NoDeviceFails, SamePass};
 ghost use Rattle.backend_pass.specs.Reading.{NothingFails};
 ghost use Rattle.bg_writer.specs.Rounds.{Rounds, pages_written_for};
 
@@ -63,7 +62,10 @@ pub fn round<L: BlockLane, G: LogDevice, R: Wait>(
     ensures written { IfOk result (λ round. WritesPages round.written pass.old.view pass.new.view) }
     ensures met { pass.new.view.met ≡ met_flushing (frame_answer result) pass.old.view.met }
 
-    // It ends where the log isn't down, no call fails, and no page has a position past the log's end.
+    // It ends where no device fails and the log isn't down, unless a page is past the log's end.
+    ensures short { NoDeviceFails pass.old pass.new → IsOkOrShort result }
+
+    // So, where no device fails and the log isn't down, it ends if no page has a position past the end that was seen.
     ensures complete { NothingFails L.contents manager.now.table pass.old pass.new → IsOk result }
 {
     let frames = manager.frames();

@@ -13,7 +13,7 @@ use Rattle.map_partitions.specs.Hints.{LoadsHint, StoresHint, hint_number, hint_
 use Rattle.held_pins.specs.Tokens.{Tokens, held_at}
 use Rattle.buffer_frames.specs.declared.hinting.HintSeen.{HintSeen}
 use Rattle.buffer_frames.specs.declared.hinting.HintSeen.TheVariants.{Unused, Nothing, Own, Had}
-use Rattle.buffer_frames.specs.Hinting.{HasByHint, NotesHint, NotesUnlessHad, PinsHinted, SeesHint, SeesOther, TakesTurns}
+use Rattle.buffer_frames.specs.Hinting.{HasByHint, NotesHint, LeavesHint, PinsHinted, SeesHint, SeesOther, TakesTurns}
 use Rattle.buffer_frames.specs.Outside.{outside_of, searched_of}
 
 -- a hint is loaded
@@ -59,7 +59,8 @@ module _ (n : ℕ) (tag : Tag) (f : ℕ) (v w : View) (s : StoresHint n tag f v 
 
 -- where the hint gave no frame it is stored, and a latch is taken
 module _ (n : ℕ) (tag : Tag) (held : Tokens) (ring : Bool) (v w : View) where
-  pub notes_missed : (seen : HintSeen) → SeesHint n tag held ring v w seen → (f : ℕ) (old new : List HintStore) → NotesHint n tag f old new → NotesUnlessHad n tag f seen old new
+  pub notes_missed : (seen : HintSeen) → SeesHint n tag held ring v w seen → (f : ℕ) (old new : List HintStore) → NotesHint n tag f old new → LeavesHint n tag f seen old new
+  notes_missed Unused s f old new h = absurd s
   notes_missed (Had g) s f old new h = absurd s
   notes_missed _ s f old new h = h
 

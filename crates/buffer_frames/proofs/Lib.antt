@@ -15,3 +15,4 @@ pub mod Locating
 pub mod PageReading
 pub mod PagePuts
 pub mod Hints
+pub mod Bringing

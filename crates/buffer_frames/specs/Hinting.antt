@@ -73,10 +73,11 @@ pub record NotesHint (n : ℕ) (tag : Tag) (f : ℕ) (old new : List HintStore) 
   pub found : ℕ
   pub listed : new ≡ old ++ record { number = hint_number tag n; found = found; left = f + 1 } ∷ []
 
--- Where the hint gave a block's frame, which is f, no hint was stored; else the block's was, once, and names f
-abbrev pub NotesUnlessHad : ℕ → Tag → ℕ → HintSeen → List HintStore → List HintStore → Type 0
-NotesUnlessHad n tag f (Had g) old new = (g ≡ f) × (new ≡ old)
-NotesUnlessHad n tag f _ old new = NotesHint n tag f old new
+-- What a read has stored of hints whose block has the frame f: none where the block's hint was not loaded, or gave the frame, which is f; else the block's, once, and it names f
+abbrev pub LeavesHint : ℕ → Tag → ℕ → HintSeen → List HintStore → List HintStore → Type 0
+LeavesHint n tag f Unused old new = new ≡ old
+LeavesHint n tag f (Had g) old new = (g ≡ f) × (new ≡ old)
+LeavesHint n tag f _ old new = NotesHint n tag f old new
 
 -- The hint of a block was used. Only where it gave the frame no latch of a partition was taken: here they are counted before and after
 abbrev pub TakesTurns : HintSeen → ℕ → ℕ → Type 0

@@ -6,6 +6,7 @@ pub mod Outside
 pub mod Hinting
 pub mod Lookups
 pub mod Victims
+pub mod Bringing
 pub mod Reads
 pub mod PageReads
 pub mod Puts

@@ -44,12 +44,12 @@ module _ (n : ℕ) (tag : Tag) (held : Tokens) (ring : Bool) where
   -- A block is looked up: the hint gives its frame, without a latch; or the hint doesn't and the map does, and then the hint is stored; or neither gives one
   pub data LooksUp (v w : View) : HintSeen → Option ℕ → Type 0 where
     by_hint : {f : ℕ} → HasByHint n tag f ring v w → LooksUp v w (Had f) (Some f)
-    by_map : {seen : HintSeen} {f : ℕ} (sought mapped : View)
-        → SeesHint n tag held ring v sought seen
-        → UnderPartition tag (SeesAndPins tag f ring) sought mapped
+    by_map : {seen : HintSeen} {f : ℕ} (hinted mapped : View)
+        → SeesHint n tag held ring v hinted seen
+        → UnderPartition tag (SeesAndPins tag f ring) hinted mapped
         → StoresHint n tag f mapped w
         → LooksUp v w seen (Some f)
-    by_none : {seen : HintSeen} (sought : View)
-        → SeesHint n tag held ring v sought seen
-        → UnderPartition tag (SeesNone tag) sought w
+    by_none : {seen : HintSeen} (hinted : View)
+        → SeesHint n tag held ring v hinted seen
+        → UnderPartition tag (SeesNone tag) hinted w
         → LooksUp v w seen None

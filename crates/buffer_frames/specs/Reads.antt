@@ -7,9 +7,11 @@ use Rattle.segment_store.specs.Contents.{Pages}
 use Rattle.pin_core.specs.declared.view.DeviceCall.{DeviceCall}
 use Rattle.pin_core.specs.declared.view.FailedCalls.{FailedCalls}
 use Rattle.pin_core.specs.declared.view.HintStore.{HintStore}
+use Rattle.pin_core.specs.declared.view.Role.TheVariants.{Victim}
 use Rattle.pin_core.specs.declared.view.View.{View}
 use Rattle.pin_core.specs.State.{link}
 use Rattle.clock_sweep.specs.CensusList.{CensusList, new_census}
+use Rattle.clock_sweep.specs.FreeFrames.{QueueState}
 use Rattle.frame_table.specs.declared.pin.Pin.{Pin}
 use Rattle.frame_table.specs.declared.table.FrameTable.{FrameTable}
 use Rattle.frame_table.specs.Opened.{WasSoundAtOpening}
@@ -24,9 +26,10 @@ use Rattle.buffer_frames.specs.declared.reading.BlockError.TheVariants.{NoFrame,
 use Rattle.buffer_frames.specs.declared.reading.PinnedBlock.{PinnedBlock}
 use Rattle.buffer_frames.specs.declared.victims.VictimError.{VictimError}
 use Rattle.buffer_frames.specs.Loading.{WasUnsoundAtOpening, loaded_by, loading_calls}
-use Rattle.buffer_frames.specs.Hinting.{NotesUnlessHad, SeesHint}
+use Rattle.buffer_frames.specs.Hinting.{LeavesHint, SeesHint}
 use Rattle.buffer_frames.specs.Lookups.{LooksUp, SeesNone, UnderPartition}
 use Rattle.buffer_frames.specs.Stages.{Pins}
+use Rattle.buffer_frames.specs.Bringing.{Brings, PushesNone}
 use Rattle.buffer_frames.specs.Victims.{CensusRefused, VictimRefused, met_victim}
 use Rattle.buffer_frames.specs.Working.{IsFlushCall, Made, WorksAt, met_read}
 
@@ -36,9 +39,16 @@ pub record MadeThen (last : List DeviceCall) (v w : View) : Type 0 where
   pub calls : w.device_calls ≡ v.device_calls ++ (before ++ last)
   pub each : All IsFlushCall before
 
--- The frame f was pinned for the block of a tag. Then the tag's hint was stored, which names the frame, and after that no work was done at another one
-pub record PinsAndStores (n : ℕ) (tag : Tag) (held : Tokens) (f : ℕ) (v w : View) : Type 0 where
+-- A victim was chosen, and under the latch of the tag's partition the block was brought into a frame, f, which is pinned for it. Then the tag's hint was stored, which names the frame, and after that no work was done at another one
+pub record PinsAndStores (n : ℕ) (tag : Tag) (held : Tokens) (ring : Bool) (f : ℕ) (v : View) (q : QueueState) (w : View) (r : QueueState) : Type 0 where
+  pub victim : ℕ
+  pub chosen : View
+  pub popped : QueueState
+  pub before : OnlyRises v chosen
+  pub holds : (link chosen victim).role ≡ Victim
+  pub unpushed : PushesNone q popped
   pub pinned : View
+  pub brings : UnderPartition tag (λ a b. Brings tag ring victim f a popped b r) chosen pinned
   pub since : OnlyRises v pinned
   pub pins : Pins (packed_tag tag) f held pinned
   pub noted : View
@@ -49,48 +59,50 @@ pub record PinsAndStores (n : ℕ) (tag : Tag) (held : Tokens) (f : ℕ) (v w : 
 module _ (n : ℕ) (tag : Tag) (held : Tokens) (ring : Bool) (seen : HintSeen) where
   -- The hint gave no frame for the block, and then the map gave none. All else was done after that, and these were its last calls of devices, the others those of flushes
   pub record Misses (last : List DeviceCall) (v w : View) : Type 0 where
-    pub sought : View
-    pub hint : SeesHint n tag held ring v sought seen
+    pub hinted : View
+    pub hint : SeesHint n tag held ring v hinted seen
     pub searched : View
-    pub search : UnderPartition tag (SeesNone tag) sought searched
+    pub search : UnderPartition tag (SeesNone tag) hinted searched
     pub until : OnlyRises searched w
     pub calls : MadeThen last v w
 
-  -- At first the hint or the map gave the frame f, which was pinned then, for a ring or not; no work was done at another one, and these were the calls of devices. Or neither gave one, and the frame was pinned for the block later
-  pub data Locates (f : ℕ) (last : List DeviceCall) (v w : View) : Type 0 where
-    looked_up : (pinned : View) → LooksUp n tag held ring v pinned seen (Some f)
-        → WorksAt f pinned w → Made last v w → Locates f last v w
-    missed : Misses last v w → PinsAndStores n tag held f v w → Locates f last v w
+  -- where its pass of the free list was q, and is r
+  module _ (q r : QueueState) where
+    -- At first the hint or the map gave the frame f, which was pinned then, for a ring or not; no work was done at another one, these were the calls of devices, and the free list was left alone. Or neither gave one, and after that the block was brought into the frame
+    pub data Locates (f : ℕ) (last : List DeviceCall) (v w : View) : Type 0 where
+      looked_up : (pinned : View) → LooksUp n tag held ring v pinned seen (Some f)
+          → WorksAt f pinned w → Made last v w → r ≡ q → Locates f last v w
+      missed : (m : Misses last v w) → PinsAndStores n tag held ring f m.searched q w r → Locates f last v w
 
-  -- how a block was pinned, or wasn't
-  abbrev pub PinAnswer : View → View → Result Pin VictimError → Type 0
-  PinAnswer v w (Ok pin) = Locates pin.frame [] v w
-  PinAnswer v w (Err why) = Misses [] v w
+    -- how a block was pinned, or wasn't
+    abbrev pub PinAnswer : View → View → Result Pin VictimError → Type 0
+    PinAnswer v w (Ok pin) = Locates pin.frame [] v w
+    PinAnswer v w (Err why) = Misses [] v w × PushesNone q r
 
-  -- and read: the lane q was read where the answer says so, and no lane else
-  abbrev pub ReadCalls : ℕ → View → View → Result PinnedBlock BlockError → Type 0
-  ReadCalls q v w (Ok block) = Locates block.pin.frame
-      (loading_calls q (packed_tag tag) (Ok (loaded_by block.hit))) v w
-  ReadCalls q v w (Err (NoFrame why)) = Misses [] v w
-  ReadCalls q v w (Err (ReadFault failed)) = (f : ℕ)
-      × Locates f (loading_calls q (packed_tag tag) (Err load.ReadFault)) v w
-  ReadCalls q v w (Err (Unsound failed)) = (f : ℕ)
-      × Locates f (loading_calls q (packed_tag tag) (Err load.Unsound)) v w
+    -- and read: this lane was read where the answer says so, and no lane else
+    abbrev pub ReadCalls : ℕ → View → View → Result PinnedBlock BlockError → Type 0
+    ReadCalls lane v w (Ok block) = Locates block.pin.frame
+        (loading_calls lane (packed_tag tag) (Ok (loaded_by block.hit))) v w
+    ReadCalls lane v w (Err (NoFrame why)) = Misses [] v w × PushesNone q r
+    ReadCalls lane v w (Err (ReadFault failed)) = (f : ℕ)
+        × Locates f (loading_calls lane (packed_tag tag) (Err load.ReadFault)) v w
+    ReadCalls lane v w (Err (Unsound failed)) = (f : ℕ)
+        × Locates f (loading_calls lane (packed_tag tag) (Err load.Unsound)) v w
 
 -- What a call that pins a block, and one that reads it, has stored of hints, by the answer: where no frame was freed, nothing
 abbrev pub PinNotes : ℕ → Tag → HintSeen → List HintStore → List HintStore
     → Result Pin VictimError → Type 0
-PinNotes n tag seen old new (Ok pin) = NotesUnlessHad n tag pin.frame seen old new
+PinNotes n tag seen old new (Ok pin) = LeavesHint n tag pin.frame seen old new
 PinNotes n tag seen old new (Err why) = new ≡ old
 
 abbrev pub ReadNotes : ℕ → Tag → HintSeen → List HintStore → List HintStore
     → Result PinnedBlock BlockError → Type 0
-ReadNotes n tag seen old new (Ok block) = NotesUnlessHad n tag block.pin.frame seen old new
+ReadNotes n tag seen old new (Ok block) = LeavesHint n tag block.pin.frame seen old new
 ReadNotes n tag seen old new (Err (NoFrame why)) = new ≡ old
 ReadNotes n tag seen old new (Err (ReadFault failed)) = (f : ℕ)
-    × NotesUnlessHad n tag f seen old new
+    × LeavesHint n tag f seen old new
 ReadNotes n tag seen old new (Err (Unsound failed)) = (f : ℕ)
-    × NotesUnlessHad n tag f seen old new
+    × LeavesHint n tag f seen old new
 
 -- the faults that were met, by the answer
 abbrev pub met_read_block : Result PinnedBlock BlockError → FailedCalls → FailedCalls

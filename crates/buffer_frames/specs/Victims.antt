@@ -12,6 +12,7 @@ use Rattle.frame_table.specs.declared.pin.Pin.{Pin}
 use Rattle.frame_table.specs.declared.table.FrameTable.{FrameTable}
 use Rattle.frame_table.specs.Seats.{OnlyRises, frames_of, lanes_in, relations_of}
 use Rattle.clock_sweep.specs.CensusList.{CensusList, new_census}
+use Rattle.clock_sweep.specs.FreeFrames.{QueueState}
 use Rattle.clock_sweep.specs.Choosing.{FindsNone}
 use Rattle.clock_sweep.specs.Keeping.{SamePins}
 use Rattle.held_pins.specs.Rests.{LinksRest}
@@ -27,7 +28,10 @@ use Rattle.buffer_frames.specs.Stages.{HasVictim, Pins}
 
 -- No frame was chosen: a census found each of the n pinned, and has a word of each that shows it
 pub record AllPinned (n : ℕ) (place : Option ℕ) (v w : View) (words : List ℕ) : Type 0 where
-  pub cause : FindsNone n place v w words
+  -- what the backend knew of the free list before, and after
+  pub queue : QueueState
+  pub popped : QueueState
+  pub cause : FindsNone n place v queue w popped words
   pub counted : length words ≡ n
   pub pinned : All (λ word. 0 < (fields word).pins) words
 

@@ -3,14 +3,17 @@ ghost use Rattle.std.specs.Prelude.{◌≡◌, ◌<◌, true, IfOk, IfErr, Some}
 ghost use Rattle.frame_table.specs.Seats.{Grows, SameSeat, frames_of};
 ghost use Rattle.clock_sweep.specs.CensusList.{new_census};
 ghost use Rattle.clock_sweep.specs.Choosing.{frame_at_place, ring_gone_on};
+ghost use Rattle.clock_sweep.specs.FreeFrames.{SameQueue};
+ghost use Rattle.clock_sweep.specs.FreeLists.{IsFreeList};
 ghost use Rattle.held_pins.specs.Rests.{HasNoLatch, LinksRest, SameLocks, Stands};
+ghost use Rattle.buffer_frames.specs.Bringing.{PushesNone};
 ghost use Rattle.buffer_frames.specs.Outside.{outside_of, ring_shape};
 ghost use Rattle.buffer_frames.specs.Stages.{HasVictim};
 ghost use Rattle.buffer_frames.specs.Victims.{AllPinned};
 
 use access_rings::Ring;
 use atomic_table::Seat;
-use clock_sweep::{Census, NoUnpinned, Sweep, victim};
+use clock_sweep::{Census, NoUnpinned, QueuePass, Sweep, victim};
 use frame_table::{FrameTable, Pin, Value};
 use held_pins::HeldPins;
 use log_device::LogDevice;
@@ -32,15 +35,20 @@ pub(crate) fn choose<L: BlockLane, G: LogDevice, R: Wait>(
     seat: &mut Seat<Value<L, G>, View>,
     _held: &HeldPins,
     sweep: &Sweep,
+    queue: &mut QueuePass,
     census: &mut Census,
     ring: &mut Option<Ring>,
 ) -> Result<Chosen, NoUnpinned>
     requires stands { Stands table.now seat.old }
+    requires queue { IsFreeList table.now sweep.now queue.old }
     requires rests { LinksRest _held.now seat.old.me.0 }
     requires latches { HasNoLatch seat.old.me.0 }
     requires census { census.old.frames ≡ frames_of table.now }
     ensures seat { SameSeat seat.old seat.new }
     ensures stands { Stands table.now seat.new }
+    ensures queue { IsFreeList table.now sweep.now queue.new }
+    ensures lasts { SameQueue queue.old queue.new }
+    ensures unpushed { PushesNone queue.old queue.new }
     ensures same { outside_of seat.new.me.0 ≡ outside_of seat.old.me.0 }
     ensures grows { Grows seat.old.me.0 seat.new.me.0 }
     ensures locks { SameLocks seat.old.me.0 seat.new.me.0 }
@@ -55,7 +63,7 @@ pub(crate) fn choose<L: BlockLane, G: LogDevice, R: Wait>(
     ensures frames { IfErr result (λ why. why.frames ≡ frames_of table.now) }
     ensures cause { IfErr result (λ _. AllPinned (frames_of table.now) (frame_at_place (ring_gone_on ring.old)) seat.old.me.0 seat.new.me.0 census.new.words) }
 {
-    match victim(table, rt, seat, sweep, census, ring) {
+    match victim(table, rt, seat, sweep, queue, census, ring) {
         Ok(held) => {
             let word = held.word();
             let from_ring = held.is_from_ring();

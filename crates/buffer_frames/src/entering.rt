@@ -4,14 +4,21 @@ ghost use Rattle.std.specs.Bool.{OnFalse, OnTrue};
 ghost use Rattle.block_tag.specs.Names.{names_block, packed_tag, partition_number};
 ghost use Rattle.pin_core.specs.declared.view.MapChange.TheVariants.{Stable};
 ghost use Rattle.table_rule.specs.Blocks.{has_block};
+ghost use Rattle.pin_core.specs.declared.view.View.{View};
+ghost use Rattle.pin_core.specs.Kinds as kinds;
 ghost use Rattle.pin_core.specs.State.{link};
+ghost use Rattle.frame_table.specs.Kinds.{pins};
+ghost use Rattle.frame_table.specs.FrameSteps.{Tried};
 ghost use Rattle.frame_table.specs.Seats.{Finds, Grows, Lacks, RemembersNoOther, SameSeat, frames_of, relations_of};
 ghost use Rattle.map_partitions.specs.Partition.{HoldsLatch};
+ghost use Rattle.clock_sweep.specs.FreeFrames.{SameQueue};
+ghost use Rattle.clock_sweep.specs.FreeLists.{IsFreeList};
 ghost use Rattle.cleanup_lock.specs.Waking.{Woken};
 ghost use Rattle.held_pins.specs.Rests.{HasNoLatch, HasOneLatch, LinksRest, SameLocks, Stands};
 ghost use Rattle.held_pins.specs.Tokens.{IsNew};
 ghost use Rattle.buffer_frames.specs.Hinting.{NotesHint};
 ghost use Rattle.buffer_frames.specs.Outside.{outside_of, searched_of, shown_count};
+ghost use Rattle.buffer_frames.specs.Bringing.{Brings, PutsBack};
 ghost use Rattle.buffer_frames.specs.Reads.{PinsAndStores};
 ghost use Rattle.buffer_frames.specs.Stages.{HasVictim, Pins};
 
@@ -19,7 +26,7 @@ use crate::lookup::{pin_found, take_counted};
 use atomic_table::Seat;
 use block_tag::Tag;
 use cleanup_lock::unpin_and_wake;
-use clock_sweep::Sweep;
+use clock_sweep::{QueuePass, Sweep};
 use frame_table::{FrameTable, Pin, Value};
 use held_pins::HeldPins;
 use log_device::LogDevice;
@@ -90,19 +97,21 @@ pub(crate) fn give_up<L: BlockLane, G: LogDevice, R: Wait>(
     unpin_and_wake(table, rt, seat, victim);
 }
 
-/// Gives a victim up that another backend's frame stands for, and pins that frame, which a search of the map just gave. The victim goes to the free list.
+/// Gives a victim up that another backend's frame stands for, and pins that frame, which a search of the map just gave. The victim goes to the free list, unless that is full.
 fn pin_other<L: BlockLane, G: LogDevice, R: Wait>(
     table: &FrameTable<L, G>,
     rt: &R,
     seat: &mut Seat<Value<L, G>, View>,
     held: &HeldPins,
     sweep: &Sweep,
+    queue: &mut QueuePass,
     victim: Pin,
     tag: Tag,
     frame: u32,
     ring: bool,
 ) -> Pin
     requires stands { Stands table.now seat.old }
+    requires queue { IsFreeList table.now sweep.now queue.old }
     requires latch { HasOneLatch (partition_number tag) seat.old.me.0 }
     requires victim { HasVictim victim.frame held.now seat.old.me.0 }
     requires own { victim.frame < frames_of table.now }
@@ -113,16 +122,21 @@ fn pin_other<L: BlockLane, G: LogDevice, R: Wait>(
     requires remembers { RemembersNoOther (packed_tag tag) (link seat.old.me.0 frame) }
     ensures seat { SameSeat seat.old seat.new }
     ensures stands { Stands table.now seat.new }
+    ensures queue { IsFreeList table.now sweep.now queue.new }
+    ensures lasts { SameQueue queue.old queue.new }
     ensures same { outside_of seat.new.me.0 ≡ outside_of seat.old.me.0 }
     ensures grows { Grows seat.old.me.0 seat.new.me.0 }
     ensures locks { SameLocks seat.old.me.0 seat.new.me.0 }
     ensures latch { HasOneLatch (partition_number tag) seat.new.me.0 }
     ensures frame { result.frame ≡ frame }
     ensures pinned { Pins (packed_tag tag) frame held.now seat.new.me.0 }
+    ensures gave_up { (given : View) × Woken victim.frame seat.old.me.0 given
+        × Tried (pins (kinds.pin_mapped (packed_tag tag) ring)) frame given seat.new.me.0 true }
+    ensures put_back { PutsBack victim.frame queue.old queue.new }
 {
     let given = victim.frame();
     give_up(table, rt, seat, held, victim);
-    sweep.free(rt, given);
+    sweep.free(rt, queue, given);
     pin_found(table, rt, seat, held, &tag, frame, ring)
 }
 
@@ -133,11 +147,13 @@ fn enter_latched<L: BlockLane, G: LogDevice, R: Wait>(
     seat: &mut Seat<Value<L, G>, View>,
     held: &HeldPins,
     sweep: &Sweep,
+    queue: &mut QueuePass,
     victim: Pin,
     tag: Tag,
     ring: bool,
 ) -> Option<Pin>
     requires stands { Stands table.now seat.old }
+    requires queue { IsFreeList table.now sweep.now queue.old }
     requires latch { HasOneLatch (partition_number tag) seat.old.me.0 }
     requires holds { HoldsLatch Stable seat.old.me.0 (partition_number tag) }
     requires victim { HasVictim victim.frame held.now seat.old.me.0 }
@@ -147,6 +163,8 @@ fn enter_latched<L: BlockLane, G: LogDevice, R: Wait>(
     requires new { IsNew tag held.now }
     ensures seat { SameSeat seat.old seat.new }
     ensures stands { Stands table.now seat.new }
+    ensures queue { IsFreeList table.now sweep.now queue.new }
+    ensures lasts { SameQueue queue.old queue.new }
     ensures same { outside_of seat.new.me.0 ≡ outside_of seat.old.me.0 }
     ensures grows { Grows seat.old.me.0 seat.new.me.0 }
     ensures locks { SameLocks seat.old.me.0 seat.new.me.0 }
@@ -154,9 +172,14 @@ fn enter_latched<L: BlockLane, G: LogDevice, R: Wait>(
     ensures inside { IfSome result (λ p. p.frame < frames_of table.now) }
     ensures pinned { IfSome result (λ p. Pins (packed_tag tag) p.frame held.now seat.new.me.0) }
     ensures rests { IfNone result (LinksRest held.now seat.new.me.0) }
+    ensures unpushed { IfNone result (queue.new ≡ queue.old) }
+    ensures brings { IfSome result (λ p. Brings tag ring victim.frame p.frame
+        seat.old.me.0 queue.old seat.new.me.0 queue.new) }
 {
     if let Some(frame) = find(table, seat, &tag) {
-        return Some(pin_other(table, rt, seat, held, sweep, victim, tag, frame, ring));
+        return Some(pin_other(
+            table, rt, seat, held, sweep, queue, victim, tag, frame, ring,
+        ));
     }
     if store_latched(table, rt, seat, held, victim.frame(), tag) {
         return Some(victim);
@@ -172,12 +195,14 @@ pub(crate) fn enter_or_pin<L: BlockLane, G: LogDevice, R: Wait>(
     seat: &mut Seat<Value<L, G>, View>,
     held: &HeldPins,
     sweep: &Sweep,
+    queue: &mut QueuePass,
     victim: Pin,
     tag: Tag,
     ring: bool,
     turns: &mut u64,
 ) -> Option<Pin>
     requires stands { Stands table.now seat.old }
+    requires queue { IsFreeList table.now sweep.now queue.old }
     requires latches { HasNoLatch seat.old.me.0 }
     requires victim { HasVictim victim.frame held.now seat.old.me.0 }
     requires inside { victim.frame < frames_of table.now }
@@ -187,6 +212,8 @@ pub(crate) fn enter_or_pin<L: BlockLane, G: LogDevice, R: Wait>(
     requires counted { turns.old ≡ shown_count seat.old.me.0.turns }
     ensures seat { SameSeat seat.old seat.new }
     ensures stands { Stands table.now seat.new }
+    ensures queue { IsFreeList table.now sweep.now queue.new }
+    ensures lasts { SameQueue queue.old queue.new }
     ensures same { searched_of seat.new.me.0 ≡ searched_of seat.old.me.0 }
     ensures grows { Grows seat.old.me.0 seat.new.me.0 }
     ensures locks { SameLocks seat.old.me.0 seat.new.me.0 }
@@ -198,12 +225,13 @@ pub(crate) fn enter_or_pin<L: BlockLane, G: LogDevice, R: Wait>(
     ensures turns { seat.new.me.0.turns ≡ seat.old.me.0.turns + 1 }
     ensures hints { MatchOption result (seat.new.me.0.hints ≡ seat.old.me.0.hints)
         (λ p. NotesHint (frames_of table.now) tag p.frame seat.old.me.0.hints seat.new.me.0.hints) }
-    ensures stored { IfSome result (λ p. PinsAndStores (frames_of table.now) tag held.now p.frame
-        seat.old.me.0 seat.new.me.0) }
+    ensures stored { IfSome result (λ p. PinsAndStores (frames_of table.now) tag held.now ring p.frame
+        seat.old.me.0 queue.old seat.new.me.0 queue.new) }
+    ensures unpushed { IfNone result (queue.new ≡ queue.old) }
 {
     let partition = tag.partition();
     take_counted(table, rt, seat, partition, turns);
-    let entered = enter_latched(table, rt, seat, held, sweep, victim, tag, ring);
+    let entered = enter_latched(table, rt, seat, held, sweep, queue, victim, tag, ring);
     give_turn(table, seat, partition);
     let pin = entered?;
     store_hint(table, seat, &tag, pin.frame());

@@ -13,7 +13,7 @@ ghost use Rattle.frame_table.specs.Seats.{CanTurn, Finds, Grows, Lacks, Remember
 ghost use Rattle.map_partitions.specs.Partition.{HoldsLatch};
 ghost use Rattle.held_pins.specs.Rests.{HasNoLatch, HasOneLatch, LinksRest, SameLocks, Stands};
 ghost use Rattle.held_pins.specs.Tokens.{IsNew};
-ghost use Rattle.buffer_frames.specs.Hinting.{NotesUnlessHad, TakesTurns};
+ghost use Rattle.buffer_frames.specs.Hinting.{LeavesHint, TakesTurns};
 ghost use Rattle.buffer_frames.specs.Lookups.{LooksUp, SeesAndPins, SeesNone, UnderPartition};
 ghost use Rattle.buffer_frames.specs.Outside.{outside_of, searched_of, shown_count};
 ghost use Rattle.buffer_frames.specs.Stages.{Pins};
@@ -181,7 +181,7 @@ pub(crate) fn look_up<L: BlockLane, G: LogDevice, R: Wait>(
     ensures counted { turns.new ≡ shown_count seat.new.me.0.turns }
     ensures turns { TakesTurns result.1 seat.old.me.0.turns seat.new.me.0.turns }
     ensures hints { MatchOption result.0 (seat.new.me.0.hints ≡ seat.old.me.0.hints)
-        (λ p. NotesUnlessHad (frames_of table.now) tag.now p.frame result.1
+        (λ p. LeavesHint (frames_of table.now) tag.now p.frame result.1
         seat.old.me.0.hints seat.new.me.0.hints) }
     ensures did { LooksUp (frames_of table.now) tag.now held.now ring seat.old.me.0 seat.new.me.0
         result.1 (option_map Pin.frame result.0) }

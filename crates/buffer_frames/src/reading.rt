@@ -4,6 +4,8 @@ ghost use Rattle.block_tag.specs.Names.{lane_number, names_block, packed_tag};
 ghost use Rattle.table_rule.specs.Blocks.{has_block};
 ghost use Rattle.frame_table.specs.Seats.{OnlyRises, SameSeat, frames_of, lanes_in, relations_of};
 ghost use Rattle.held_pins.specs.Rests.{HasNoLatch, LinksRest, Stands, SameLocks};
+ghost use Rattle.clock_sweep.specs.FreeFrames.{SameQueue};
+ghost use Rattle.clock_sweep.specs.FreeLists.{IsFreeList};
 ghost use Rattle.held_pins.specs.Tokens.{IsNew};
 ghost use Rattle.buffer_frames.specs.Hinting.{TakesTurns};
 ghost use Rattle.buffer_frames.specs.Outside.{kept_by_block_reads, ring_shape, shown_count};
@@ -17,7 +19,7 @@ use crate::victims::{VictimError, claim};
 use access_rings::Ring;
 use atomic_table::Seat;
 use block_tag::Tag;
-use clock_sweep::{Census, Sweep};
+use clock_sweep::{Census, QueuePass, Sweep};
 use frame_table::{FrameTable, Pin, Value};
 use held_pins::HeldPins;
 use log_device::LogDevice;
@@ -54,6 +56,7 @@ fn pin_block<L: BlockLane, G: LogDevice, R: Wait>(
     seat: &mut Seat<Value<L, G>, View>,
     held: &HeldPins,
     sweep: &Sweep,
+    queue: &mut QueuePass,
     census: &mut Census,
     page: &mut Page,
     tag: &Tag,
@@ -61,6 +64,7 @@ fn pin_block<L: BlockLane, G: LogDevice, R: Wait>(
     sought: &mut Sought,
 ) -> Result<Pin, VictimError>
     requires stands { Stands table.now seat.old }
+    requires queue { IsFreeList table.now sweep.now queue.old }
     requires rests { LinksRest held.now seat.old.me.0 }
     requires latches { HasNoLatch seat.old.me.0 }
     requires census { census.old.frames ≡ frames_of table.now }
@@ -70,6 +74,8 @@ fn pin_block<L: BlockLane, G: LogDevice, R: Wait>(
     requires counted { sought.old.turns ≡ shown_count seat.old.me.0.turns }
     ensures seat { SameSeat seat.old seat.new }
     ensures stands { Stands table.now seat.new }
+    ensures queue { IsFreeList table.now sweep.now queue.new }
+    ensures lasts { SameQueue queue.old queue.new }
     ensures latches { HasNoLatch seat.new.me.0 }
     ensures room { census.new.frames ≡ census.old.frames }
     ensures ring { ring_shape ring.new ≡ ring_shape ring.old }
@@ -80,7 +86,7 @@ fn pin_block<L: BlockLane, G: LogDevice, R: Wait>(
     ensures census { CensusPinned (frames_of table.now) census.old census.new result }
     ensures met { seat.new.me.0.met ≡ met_claimed result seat.old.me.0.met }
     ensures calls { PinAnswer (frames_of table.now) tag.now held.now (is_some ring.old)
-        sought.new.hint seat.old.me.0 seat.new.me.0 result }
+        sought.new.hint queue.old queue.new seat.old.me.0 seat.new.me.0 result }
     ensures counted { sought.new.turns ≡ shown_count seat.new.me.0.turns }
     ensures turns { TakesTurns sought.new.hint seat.old.me.0.turns seat.new.me.0.turns }
     ensures hints { PinNotes (frames_of table.now) tag.now sought.new.hint
@@ -98,6 +104,7 @@ fn pin_block<L: BlockLane, G: LogDevice, R: Wait>(
         seat,
         held,
         sweep,
+        queue,
         census,
         page,
         *tag,
@@ -113,6 +120,7 @@ pub fn read_block<L: BlockLane, G: LogDevice, R: Wait>(
     seat: &mut Seat<Value<L, G>, View>,
     held: &HeldPins,
     sweep: &Sweep,
+    queue: &mut QueuePass,
     census: &mut Census,
     page: &mut Page,
     tag: &Tag,
@@ -120,6 +128,7 @@ pub fn read_block<L: BlockLane, G: LogDevice, R: Wait>(
     sought: &mut Sought,
 ) -> Result<PinnedBlock, BlockError>
     requires stands { Stands table.now seat.old }
+    requires queue { IsFreeList table.now sweep.now queue.old }
     requires rests { LinksRest held.now seat.old.me.0 }
     requires latches { HasNoLatch seat.old.me.0 }
     requires census { census.old.frames ≡ frames_of table.now }
@@ -129,6 +138,8 @@ pub fn read_block<L: BlockLane, G: LogDevice, R: Wait>(
     requires counted { sought.old.turns ≡ shown_count seat.old.me.0.turns }
     ensures seat { SameSeat seat.old seat.new }
     ensures stands { Stands table.now seat.new }
+    ensures queue { IsFreeList table.now sweep.now queue.new }
+    ensures lasts { SameQueue queue.old queue.new }
     ensures latches { HasNoLatch seat.new.me.0 }
     ensures room { census.new.frames ≡ census.old.frames }
     ensures ring { ring_shape ring.new ≡ ring_shape ring.old }
@@ -139,7 +150,7 @@ pub fn read_block<L: BlockLane, G: LogDevice, R: Wait>(
     ensures census { CensusRead (frames_of table.now) census.old census.new result }
     ensures met { seat.new.me.0.met ≡ met_read_block result seat.old.me.0.met }
     ensures calls { ReadCalls (frames_of table.now) tag.now held.now (is_some ring.old)
-        sought.new.hint (lane_number tag.now (lanes_in table.now))
+        sought.new.hint queue.old queue.new (lane_number tag.now (lanes_in table.now))
         seat.old.me.0 seat.new.me.0 result }
     ensures counted { sought.new.turns ≡ shown_count seat.new.me.0.turns }
     // Only where the block's hint gave its frame no latch of a partition was taken.
@@ -149,7 +160,7 @@ pub fn read_block<L: BlockLane, G: LogDevice, R: Wait>(
         seat.old.me.0.hints seat.new.me.0.hints result }
 {
     let pin = match pin_block(
-        table, rt, seat, held, sweep, census, page, tag, ring, sought,
+        table, rt, seat, held, sweep, queue, census, page, tag, ring, sought,
     ) {
         Ok(pin) => pin,
         Err(why) => return Err(BlockError::NoFrame(why)),

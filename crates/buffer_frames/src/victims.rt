@@ -1,11 +1,14 @@
 //! A frame is freed for a block.
-ghost use Rattle.std.specs.Prelude.{◌≡◌, ◌<◌, ◌≤◌, Some, true, IfOk, IfSome, MatchResult};
+ghost use Rattle.std.specs.Prelude.{◌≡◌, ◌<◌, ◌≤◌, Some, true, IfErr, IfOk, IfSome, MatchResult, is_some};
 ghost use Rattle.block_tag.specs.Names.{names_block, packed_tag};
 ghost use Rattle.pin_core.specs.State.{link};
 ghost use Rattle.table_rule.specs.Blocks.{has_block};
 ghost use Rattle.frame_table.specs.Seats.{Grows, OnlyRises, SameSeat, frames_of, relations_of};
 ghost use Rattle.held_pins.specs.Rests.{HasNoLatch, LinksRest, Stands, SameLocks};
+ghost use Rattle.clock_sweep.specs.FreeFrames.{SameQueue};
+ghost use Rattle.clock_sweep.specs.FreeLists.{IsFreeList};
 ghost use Rattle.held_pins.specs.Tokens.{IsNew};
+ghost use Rattle.buffer_frames.specs.Bringing.{PushesNone};
 ghost use Rattle.buffer_frames.specs.Hinting.{NotesHint};
 ghost use Rattle.buffer_frames.specs.Outside.{kept_by_block_reads, outside_of, ring_shape, shown_count};
 ghost use Rattle.buffer_frames.specs.Reads.{PinsAndStores};
@@ -20,7 +23,7 @@ use crate::flushing::{FrameFlushError, VictimPage, flush_victim};
 use access_rings::Ring;
 use atomic_table::Seat;
 use block_tag::Tag;
-use clock_sweep::{Census, Sweep};
+use clock_sweep::{Census, QueuePass, Sweep};
 use frame_table::{FrameTable, Pin, Value};
 use held_pins::HeldPins;
 use log_device::LogDevice;
@@ -82,18 +85,23 @@ fn make_victim<L: BlockLane, G: LogDevice, R: Wait>(
     seat: &mut Seat<Value<L, G>, View>,
     held: &HeldPins,
     sweep: &Sweep,
+    queue: &mut QueuePass,
     census: &mut Census,
     page: &mut Page,
     ring: &mut Option<Ring>,
     turns: &mut u64,
 ) -> Freed
     requires stands { Stands table.now seat.old }
+    requires queue { IsFreeList table.now sweep.now queue.old }
     requires rests { LinksRest held.now seat.old.me.0 }
     requires latches { HasNoLatch seat.old.me.0 }
     requires census { census.old.frames ≡ frames_of table.now }
     requires counted { turns.old ≡ shown_count seat.old.me.0.turns }
     ensures seat { SameSeat seat.old seat.new }
     ensures stands { Stands table.now seat.new }
+    ensures queue { IsFreeList table.now sweep.now queue.new }
+    ensures lasts { SameQueue queue.old queue.new }
+    ensures unpushed { PushesNone queue.old queue.new }
     ensures latches { HasNoLatch seat.new.me.0 }
     ensures room { census.new.frames ≡ census.old.frames }
     ensures ring { ring_shape ring.new ≡ ring_shape ring.old }
@@ -108,7 +116,9 @@ fn make_victim<L: BlockLane, G: LogDevice, R: Wait>(
     ensures turns { seat.old.me.0.turns ≤ seat.new.me.0.turns }
     ensures hints { seat.new.me.0.hints ≡ seat.old.me.0.hints }
 {
-    let Chosen { pin, from_ring } = match choose(table, rt, seat, held, sweep, census, ring) {
+    let Chosen { pin, from_ring } = match choose(
+        table, rt, seat, held, sweep, queue, census, ring,
+    ) {
         Ok(chosen) => chosen,
         Err(why) => {
             return Freed::Refused(VictimError::NoUnpinned { frames: why.frames });
@@ -143,6 +153,7 @@ pub(crate) fn claim<L: BlockLane, G: LogDevice, R: Wait>(
     seat: &mut Seat<Value<L, G>, View>,
     held: &HeldPins,
     sweep: &Sweep,
+    queue: &mut QueuePass,
     census: &mut Census,
     page: &mut Page,
     tag: Tag,
@@ -150,6 +161,7 @@ pub(crate) fn claim<L: BlockLane, G: LogDevice, R: Wait>(
     turns: &mut u64,
 ) -> Result<Pin, VictimError>
     requires stands { Stands table.now seat.old }
+    requires queue { IsFreeList table.now sweep.now queue.old }
     requires rests { LinksRest held.now seat.old.me.0 }
     requires latches { HasNoLatch seat.old.me.0 }
     requires census { census.old.frames ≡ frames_of table.now }
@@ -159,6 +171,9 @@ pub(crate) fn claim<L: BlockLane, G: LogDevice, R: Wait>(
     requires counted { turns.old ≡ shown_count seat.old.me.0.turns }
     ensures seat { SameSeat seat.old seat.new }
     ensures stands { Stands table.now seat.new }
+    ensures queue { IsFreeList table.now sweep.now queue.new }
+    ensures lasts { SameQueue queue.old queue.new }
+    ensures unpushed { IfErr result (λ _. PushesNone queue.old queue.new) }
     ensures latches { HasNoLatch seat.new.me.0 }
     ensures room { census.new.frames ≡ census.old.frames }
     ensures ring { ring_shape ring.new ≡ ring_shape ring.old }
@@ -174,15 +189,17 @@ pub(crate) fn claim<L: BlockLane, G: LogDevice, R: Wait>(
     ensures hints { MatchResult result
         (λ p. NotesHint (frames_of table.now) tag p.frame seat.old.me.0.hints seat.new.me.0.hints)
         (λ _. seat.new.me.0.hints ≡ seat.old.me.0.hints) }
-    ensures stored { IfOk result (λ p. PinsAndStores (frames_of table.now) tag held.now p.frame
-        seat.old.me.0 seat.new.me.0) }
+    ensures stored { IfOk result (λ p. PinsAndStores (frames_of table.now) tag held.now
+        (is_some ring.old) p.frame seat.old.me.0 queue.old seat.new.me.0 queue.new) }
 {
     let ringed = ring.is_some();
     for _ in rt.forever() {
-        match make_victim(table, rt, seat, held, sweep, census, page, ring, turns) {
+        match make_victim(
+            table, rt, seat, held, sweep, queue, census, page, ring, turns,
+        ) {
             Freed::Ready(victim) => {
                 if let Some(pin) = enter_or_pin(
-                    table, rt, seat, held, sweep, victim, tag, ringed, turns,
+                    table, rt, seat, held, sweep, queue, victim, tag, ringed, turns,
                 ) {
                     return Ok(pin);
                 }

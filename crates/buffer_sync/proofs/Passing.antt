@@ -207,7 +207,7 @@ clean_between f v u x w before a (by_word s) self b = by_word record { finds = w
 
 module _ {L G : Type 0} (contents : L → Option Pages) (t : FrameTable L G) where
   block_between : (f : ℕ) (v u x w : View) (r : Result FlushedPage FrameFlushError) → u.device_calls ≡ v.device_calls → OnlyRises v u → WritesBlock contents t f u x r → SameSelf x w → OnlyRises x w → WritesBlock contents t f v w r
-  block_between f v u x w r before a s self b = record { tag = s.tag; named = s.named; listed = s.listed; answer = flush_between contents t (lane_number s.tag (lanes_in t)) s.tag f v u x w r before a s.answer self b }
+  block_between f v u x w r before a s self b = record { tag = s.tag; pinned = s.pinned; since = rises_on v u s.pinned a s.since; until = rises_on s.pinned x w s.until b; remembered = s.remembered; named = s.named; listed = s.listed; answer = flush_between contents t (lane_number s.tag (lanes_in t)) s.tag f v u x w r before a s.answer self b }
 
   pub pinned_between : (f : ℕ) (v u x w : View) (r : Result Synced FrameFlushError) → u.device_calls ≡ v.device_calls → OnlyRises v u → PinnedAnswer contents t f u x r → SameSelf x w → OnlyRises x w → PinnedAnswer contents t f v w r
   pinned_between f v u x w (Ok Skipped) before a s self b = absurd s
@@ -268,10 +268,10 @@ module _ {L G : Type 0} (contents : L → Option Pages) (t : FrameTable L G) whe
   }
 
   -- and one that was flushed
-  flushed_answer : (f : ℕ) (tag : Tag) (v w : View) (r : Result FlushedPage FrameFlushError) → names_block tag ≡ true → has_block (relations_of t) tag ≡ true → FlushAnswer contents t (lane_number tag (lanes_in t)) tag f v w r → PinnedAnswer contents t f v w (synced_of r)
-  flushed_answer f tag v w (Ok flush.Written) named listed a = record { tag = tag; named = named; listed = listed; answer = a }
-  flushed_answer f tag v w (Ok flush.Clean) named listed a = by_word a
-  flushed_answer f tag v w (Err why) named listed a = record { tag = tag; named = named; listed = listed; answer = a }
+  flushed_answer : (f : ℕ) (tag : Tag) (v w : View) (r : Result FlushedPage FrameFlushError) → names_block tag ≡ true → has_block (relations_of t) tag ≡ true → (link v f).tag ≡ Some (packed_tag tag) → OnlyRises v w → FlushAnswer contents t (lane_number tag (lanes_in t)) tag f v w r → PinnedAnswer contents t f v w (synced_of r)
+  flushed_answer f tag v w (Ok flush.Written) named listed has rises a = record { tag = tag; pinned = v; since = rises_none v; until = rises; remembered = has; named = named; listed = listed; answer = a }
+  flushed_answer f tag v w (Ok flush.Clean) named listed has rises a = by_word a
+  flushed_answer f tag v w (Err why) named listed has rises a = record { tag = tag; pinned = v; since = rises_none v; until = rises; remembered = has; named = named; listed = listed; answer = a }
 
   flushed_met : (v w : View) (r : Result FlushedPage FrameFlushError) → w.met ≡ met_flushing r v.met → w.met ≡ met_flushing (synced_of r) v.met
   flushed_met v w (Ok flush.Written) e = e
@@ -283,8 +283,8 @@ module _ {L G : Type 0} (contents : L → Option Pages) (t : FrameTable L G) whe
   flushed_ended f v w (Ok flush.Clean) error written = tt
   flushed_ended f v w (Err why) error written = error
 
-  pub flushes_flushed : (f : ℕ) (tag : Tag) (v w : View) (r : Result FlushedPage FrameFlushError) → names_block tag ≡ true → has_block (relations_of t) tag ≡ true → WorksAt f v w → KeepsNotes (link v f) (link w f) → FlushAnswer contents t (lane_number tag (lanes_in t)) tag f v w r → w.met ≡ met_flushing r v.met → IfErr r (λ _. EndedInError f v w) → IfOk r (λ flushed. flushed ≡ flush.Written → EndedWritten f v w) → FlushesPinned contents t f v w (synced_of r)
-  flushes_flushed f tag v w r named listed works notes a met error written = record { works = works; notes = notes; answer = flushed_answer f tag v w r named listed a; met = flushed_met v w r met; ended = flushed_ended f v w r error written }
+  pub flushes_flushed : (f : ℕ) (tag : Tag) (v w : View) (r : Result FlushedPage FrameFlushError) → names_block tag ≡ true → has_block (relations_of t) tag ≡ true → (link v f).tag ≡ Some (packed_tag tag) → WorksAt f v w → KeepsNotes (link v f) (link w f) → FlushAnswer contents t (lane_number tag (lanes_in t)) tag f v w r → w.met ≡ met_flushing r v.met → IfErr r (λ _. EndedInError f v w) → IfOk r (λ flushed. flushed ≡ flush.Written → EndedWritten f v w) → FlushesPinned contents t f v w (synced_of r)
+  flushes_flushed f tag v w r named listed has works notes a met error written = record { works = works; notes = notes; answer = flushed_answer f tag v w r named listed has works.advances a; met = flushed_met v w r met; ended = flushed_ended f v w r error written }
 
   -- what came of it, with the look before
   pub syncs_flushed : (only : SyncOnly) (word f : ℕ) (v looked w : View) (r : Result Synced FrameFlushError) → LooksUnderHeader f word v looked → Touches f v looked → SameMarks v looked → KeepsNotes (link v f) (link looked f) → passes_over only (fields word) ≡ false → PinsUnder f word looked w → FlushesPinned contents t f looked w r → (link w f).content ≡ (link v f).content → SyncsOne contents t only f v w r

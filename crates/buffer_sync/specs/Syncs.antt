@@ -120,9 +120,13 @@ pub data ShowsTag (l : Link) : Type 0 where
   by_header : HoldsWord (HasFlag true) l → ShowsTag l
 
 module _ {L G : Type 0} (contents : L → Option Pages) (t : FrameTable L G) where
-  -- The page of the frame f, of a block of the relations, went to the block's lane, or this is why not
+  -- The page of the frame f, which was pinned for a block of the relations, went to the block's lane, or this is why not
   pub record WritesBlock (f : ℕ) (v w : View) (r : Result FlushedPage FrameFlushError) : Type 0 where
     pub tag : Tag
+    pub pinned : View
+    pub since : OnlyRises v pinned
+    pub until : OnlyRises pinned w
+    pub remembered : (link pinned f).tag ≡ Some (packed_tag tag)
     pub named : names_block tag ≡ true
     pub listed : has_block (relations_of t) tag ≡ true
     pub answer : FlushAnswer contents t (lane_number tag (lanes_in t)) tag f v w r

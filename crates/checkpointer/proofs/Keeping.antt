@@ -41,20 +41,20 @@ module _ {L G : Type 0} (contents : L → Option Pages) (m : Manager L G) where
 
   -- another list of marked frames
   pub belongs_listed : (p : PassState) (marked : List MarkedFrame) → Belongs contents m p → Belongs contents m (record p { marked = marked })
-  belongs_listed p marked b = record { table = b.table; frames = b.frames; inside = b.inside; blocks = b.blocks; alone = b.alone; sound = b.sound; front = b.front; seen = b.seen }
+  belongs_listed p marked b = record { table = b.table; frames = b.frames; queue = b.queue; inside = b.inside; blocks = b.blocks; alone = b.alone; sound = b.sound; front = b.front; seen = b.seen }
 
   pub marks_listed : (p : PassState) (marked : List MarkedFrame) → Belongs contents m p → MarksFrames contents m p (record p { marked = marked })
   marks_listed p marked b = record {
     keeps = record {
       belongs = belongs_listed p marked b;
-      same = record { keeps = record { table = refl; id = refl; frames = refl; number = refl; next = refl; joined = refl; kept = refl; advances = rises_none p.view }; upto = refl };
+      same = record { keeps = record { table = refl; id = refl; own = refl; number = refl; next = refl; joined = refl; kept = refl; advances = rises_none p.view }; upto = refl };
       callers = record {
-        keeps = record { table = refl; id = refl; frames = refl; number = refl; next = refl; joined = refl; kept = refl; advances = rises_none p.view };
+        keeps = record { table = refl; id = refl; own = refl; number = refl; next = refl; joined = refl; kept = refl; advances = rises_none p.view };
         tokens = refl;
         locks = λ f. refl;
         census = refl;
         calls = record { calls = refl; front = refl; place_loads = refl };
-        sought = record { hint = refl; turns = refl; stores = refl };
+        sought = record { hint = refl; turns = refl; stores = refl; queue = refl };
       };
     };
     mark = refl;

@@ -46,6 +46,12 @@ abbrev pub met_checkpointing : Result Checkpoint CheckpointError → FailedCalls
 met_checkpointing (Ok done) m = m
 met_checkpointing (Err why) m = met_stopping why m
 
+-- it completed, or a page is past the log's end
+abbrev pub IsCompleteOrShort : Result Checkpoint CheckpointError → Type 0
+IsCompleteOrShort (Ok done) = Unit {0}
+IsCompleteOrShort (Err (LogShort lsn end)) = Unit {0}
+IsCompleteOrShort _ = ⊥
+
 -- the log is down, or failed
 abbrev pub IsDownOrFault : FlushLog → Type 0
 IsDownOrFault log.LogFault = Unit {0}

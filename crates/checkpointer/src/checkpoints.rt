@@ -2,10 +2,10 @@
 ghost use Rattle.std.specs.Prelude.{◌≡◌, ℕ, IfErr, IfOk, IsOk};
 ghost use Rattle.frame_table.specs.Seats.{lanes_in};
 ghost use Rattle.backend_pass.specs.Managers.{Belongs};
-ghost use Rattle.backend_pass.specs.Passes.{KeepsCallers};
+ghost use Rattle.backend_pass.specs.Passes.{KeepsCallers, NoDeviceFails};
 ghost use Rattle.backend_pass.specs.Reading.{NothingFails};
 ghost use Rattle.checkpointer.specs.Checkpoints.{Begins, Completes};
-ghost use Rattle.checkpointer.specs.Refusals.{Stops, met_checkpointing};
+ghost use Rattle.checkpointer.specs.Refusals.{IsCompleteOrShort, Stops, met_checkpointing};
 ghost use Rattle.checkpointer.specs.Stages.{HasNoLock};
 
 use crate::ending::{Checkpoint, CheckpointError, unflushed, unwritten};
@@ -35,7 +35,10 @@ pub fn checkpoint<L: BlockLane, G: LogDevice, R: Wait>(
     ensures stops { IfErr result (λ why. (upto : ℕ) × Begins upto pass.old.view pass.new.view × Stops L.contents manager.now upto pass.old.view pass.new.view why) }
     ensures met { pass.new.view.met ≡ met_checkpointing result pass.old.view.met }
 
-    // It completes where the log isn't down, no call fails, and no page has a position past the log's end.
+    // It completes where no device fails and the log isn't down, unless a page is past the log's end.
+    ensures short { NoDeviceFails pass.old pass.new → IsCompleteOrShort result }
+
+    // So, where no device fails and the log isn't down, it completes if no page has a position past the end that was seen.
     ensures complete { NothingFails L.contents manager.now.table pass.old pass.new → IsOk result }
 {
     pass.forget_marked();

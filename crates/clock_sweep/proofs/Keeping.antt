@@ -26,6 +26,7 @@ use Rattle.frame_table.specs.Seats.{CanStep, Grows, HoldsHeader, IsSeat, Looked,
 use Rattle.frame_table.specs.FrameSteps.{Did, Looks, still, again, looking}
 use Rattle.frame_table.proofs.Told.{grows, grows_none, grows_on, touches, link_is, looked, looked_on, looked_same, locked_after, looks_touch, looks_link, looked_by, quiet, quiet_link}
 use Rattle.frame_table.proofs.Rising.{grows_loads}
+use Rattle.clock_sweep.specs.FreeFrames.{ListHad, QueueState}
 use Rattle.clock_sweep.specs.Keeping.{SameAside, aside_of, KeepsFrames, GetsHeader, SamePins}
 use Rattle.clock_sweep.specs.Choosing as choice
 use Rattle.clock_sweep.specs.Choosing.{TakesHeader, LeavesFrame, Skips, LeavesRing, LeavesFree, Counts, NextIs, Passes, Sweeps, Comes, Chooses, FindsNone, Takes}
@@ -155,9 +156,9 @@ pub ring_keeps : (n : ℕ) (place : Option ℕ) (v w : View) → LeavesRing n pl
 ring_keeps n place v w (choice.empty e same) none = keeps_same v w same
 ring_keeps n place v w (choice.tried f e s) none = skips_keep n 1 f v w s none
 
-pub list_keeps : (n : ℕ) (v w : View) → LeavesFree n v w → HoldsNoHeader v → KeepsFrames v w
-list_keeps n v w choice.still none = keeps_none v
-list_keeps n v w (choice.again {u = u} f before s) none = let a = list_keeps n v u before none in keeps_on v u w a (skips_keep n 0 f u w s (headless_on v u a none))
+pub list_keeps : (n : ℕ) (v : View) (q : QueueState) (w : View) (r : QueueState) → LeavesFree n v q w r → HoldsNoHeader v → KeepsFrames v w
+list_keeps n v q w r choice.still none = keeps_none v
+list_keeps n v q w r (choice.again {u = u} {r = p} f before low s) none = let a = list_keeps n v q u p before none in keeps_on v u w a (skips_keep n 0 f u w s (headless_on v u a none))
 
 -- a census
 pub counts_keep : (entry v : View) (k : ℕ) (w : View) (words : List ℕ) → Counts entry v k w words → KeepsFrames v w
@@ -212,10 +213,10 @@ gets_on f word v u w a b = record {
 pub takes_gets : (limit : ℕ) (held : LockedFrame) (v u w : View) → KeepsFrames v u → Takes limit held u w → GetsHeader held.frame held.word v w
 takes_gets limit held v u w a t = gets_on held.frame held.word v u w a (gets held.frame held.word u w t.locks)
 
-pub chooses_gets : (n : ℕ) (place : Option ℕ) (v w : View) (held : LockedFrame) → Chooses n place v w held → HoldsNoHeader v → GetsHeader held.frame held.word v w
-chooses_gets n place v w held (choice.from_ring source e t) none = takes_gets 1 held v v w (keeps_none v) t
-chooses_gets n place v w held (choice.from_list {u = u} {x = x} source r l t) none = let a = ring_keeps n place v u r none in let b = keeps_on v u x a (list_keeps n u x l (headless_on v u a none)) in takes_gets 0 held v x w b t
-chooses_gets n place v w held (choice.by_clock {u = u} {x = x} {y = y} {left = left} source r l c t) none = let a = ring_keeps n place v u r none in let b = keeps_on v u x a (list_keeps n u x l (headless_on v u a none)) in
+pub chooses_gets : (n : ℕ) (place : Option ℕ) (v : View) (q : QueueState) (w : View) (p : QueueState) (held : LockedFrame) → Chooses n place v q w p held → HoldsNoHeader v → GetsHeader held.frame held.word v w
+chooses_gets n place v q w p held (choice.from_ring source e t same) none = takes_gets 1 held v v w (keeps_none v) t
+chooses_gets n place v q w p held (choice.from_list {u = u} {x = x} {p = s} source r l t popped) none = let a = ring_keeps n place v u r none in let b = keeps_on v u x a (list_keeps n u q x s l (headless_on v u a none)) in takes_gets 0 held v x w b t
+chooses_gets n place v q w p held (choice.by_clock {u = u} {x = x} {y = y} {left = left} source r l empty c t) none = let a = ring_keeps n place v u r none in let b = keeps_on v u x a (list_keeps n u q x p l (headless_on v u a none)) in
     takes_gets 0 held v y w (keeps_on v x y b (comes_keep n x y held.frame left c (headless_on v x b none))) t
 
 -- a frame that no backend pins isn't pinned by this one
@@ -233,19 +234,19 @@ takes_absent limit held v w t = ap (λ (l : Link). l.role) (link_is (pins pin.lo
     of_role HandedOut e = let a = some (λ no. let x : HandedOut ≡ Absent = sym e ∙ no in absurd (cc)) in absurd (omega (arith, a, none))
     of_role Victim e = let a = some (λ no. let x : Victim ≡ Absent = sym e ∙ no in absurd (cc)) in absurd (omega (arith, a, none))
 
-pub chooses_absent : (n : ℕ) (place : Option ℕ) (v w : View) (held : LockedFrame) → Chooses n place v w held → GetsHeader held.frame held.word v w → (link v held.frame).role ≡ Absent
-chooses_absent n place v w held (choice.from_ring source e t) g = sym g.here.role ∙ takes_absent 1 held v w t
-chooses_absent n place v w held (choice.from_list {u = u} {x = x} source r l t) g = sym g.here.role ∙ takes_absent 0 held x w t
-chooses_absent n place v w held (choice.by_clock {u = u} {x = x} {y = y} {left = left} source r l c t) g = sym g.here.role ∙ takes_absent 0 held y w t
+pub chooses_absent : (n : ℕ) (place : Option ℕ) (v : View) (q : QueueState) (w : View) (p : QueueState) (held : LockedFrame) → Chooses n place v q w p held → GetsHeader held.frame held.word v w → (link v held.frame).role ≡ Absent
+chooses_absent n place v q w p held (choice.from_ring source e t same) g = sym g.here.role ∙ takes_absent 1 held v w t
+chooses_absent n place v q w p held (choice.from_list {u = u} {x = x} source r l t popped) g = sym g.here.role ∙ takes_absent 0 held x w t
+chooses_absent n place v q w p held (choice.by_clock {u = u} {x = x} {y = y} {left = left} source r l empty c t) g = sym g.here.role ∙ takes_absent 0 held y w t
 
 -- what was taken from the ring stands at its place
-pub chooses_place : (n : ℕ) (place : Option ℕ) (v w : View) (held : LockedFrame) → Chooses n place v w held → held.from_ring ≡ true → place ≡ Some held.frame
-chooses_place n place v w held (choice.from_ring source e t) ring = e
-chooses_place n place v w held (choice.from_list source r l t) ring = let no : false ≡ true = sym source ∙ ring in absurd (cc)
-chooses_place n place v w held (choice.by_clock source r l c t) ring = let no : false ≡ true = sym source ∙ ring in absurd (cc)
+pub chooses_place : (n : ℕ) (place : Option ℕ) (v : View) (q : QueueState) (w : View) (p : QueueState) (held : LockedFrame) → Chooses n place v q w p held → held.from_ring ≡ true → place ≡ Some held.frame
+chooses_place n place v q w p held (choice.from_ring source e t same) ring = e
+chooses_place n place v q w p held (choice.from_list source r l t popped) ring = let no : false ≡ true = sym source ∙ ring in absurd (cc)
+chooses_place n place v q w p held (choice.by_clock source r l empty c t) ring = let no : false ≡ true = sym source ∙ ring in absurd (cc)
 
-pub none_keeps : (n : ℕ) (place : Option ℕ) (v w : View) (words : List ℕ) → FindsNone n place v w words → HoldsNoHeader v → KeepsFrames v w
-none_keeps n place v w words k none = let a = ring_keeps n place v k.listed k.ring none in let b = keeps_on v k.listed k.started a (list_keeps n k.listed k.started k.free (headless_on v k.listed a none)) in let c = keeps_on v k.started k.tired b (sweeps_keep n k.started k.tired 0 k.clock (headless_on v k.started b none)) in
+pub none_keeps : (n : ℕ) (place : Option ℕ) (v : View) (q : QueueState) (w : View) (p : QueueState) (words : List ℕ) → FindsNone n place v q w p words → HoldsNoHeader v → KeepsFrames v w
+none_keeps n place v q w p words k none = let a = ring_keeps n place v k.listed k.ring none in let b = keeps_on v k.listed k.started a (list_keeps n k.listed q k.started p k.free (headless_on v k.listed a none)) in let c = keeps_on v k.started k.tired b (sweeps_keep n k.started k.tired 0 k.clock (headless_on v k.started b none)) in
     keeps_on v k.tired w c (counts_keep v k.tired n w words k.census)
 
 -- seats
@@ -267,13 +268,14 @@ ok_to (Ok x) to p q = to x p q
 ok_to (Err e) to p q = p
 
 -- nothing was chosen
-pub finds_none : (n : ℕ) (place : Option ℕ) (v listed started w : View) (words : List ℕ) → HoldsNoHeader v → LeavesRing n place v listed → LeavesFree n listed started → (tired : View) × Sweeps n started tired 0 × Counts tired tired n w words → FindsNone n place v w words
-finds_none n place v listed started w words none r l (tired, s, c) = let a = ring_keeps n place v listed r none in let b = keeps_on v listed started a (list_keeps n listed started l (headless_on v listed a none)) in record {
+pub finds_none : (n : ℕ) (place : Option ℕ) (v listed started w : View) (q p : QueueState) (words : List ℕ) → HoldsNoHeader v → LeavesRing n place v listed → LeavesFree n listed q started p → ListHad 0 p.known → (tired : View) × Sweeps n started tired 0 × Counts tired tired n w words → FindsNone n place v q w p words
+finds_none n place v listed started w q p words none r l empty (tired, s, c) = let a = ring_keeps n place v listed r none in let b = keeps_on v listed started a (list_keeps n listed q started p l (headless_on v listed a none)) in record {
   listed = listed;
   started = started;
   tired = tired;
   ring = r;
   free = l;
+  empty = empty;
   clock = s;
   census = counts_from v tired (same_pins v tired (keeps_on v started tired b (sweeps_keep n started tired 0 s (headless_on v started b none)))) n w words c;
 }

@@ -16,6 +16,7 @@ use Rattle.clock_sweep.specs.declared.clock.Treated.{Treated}
 use Rattle.clock_sweep.specs.declared.clock.Treated.TheVariants.{Chosen, Passed}
 use Rattle.clock_sweep.specs.declared.taking.Source.{Source}
 use Rattle.clock_sweep.specs.declared.taking.Source.TheVariants.{Ring, Pool}
+use Rattle.clock_sweep.specs.FreeFrames.{ListHad, QueueState, taking}
 use Rattle.clock_sweep.specs.Keeping.{SamePins}
 
 -- The header of the frame f was locked, after loads, and this word is held: the word found, locked (`LocksHeader` of `content_locks` names the word found alone)
@@ -68,10 +69,10 @@ pub data LeavesRing (n : ℕ) (place : Option ℕ) (v w : View) : Type 0 where
   empty : place ≡ None → w ≡ v → LeavesRing n place v w
   tried : (f : ℕ) → place ≡ Some f → Skips n 1 f v w → LeavesRing n place v w
 
--- the view v became w as frames of the free list were not taken
-pub data LeavesFree (n : ℕ) : View → View → Type 0 where
-  still : {v : View} → LeavesFree n v v
-  again : {v u w : View} (f : ℕ) → LeavesFree n v u → Skips n 0 f u w → LeavesFree n v w
+-- The view v and the pass q of the free list became w and r as frames were popped there, none of which was taken
+pub data LeavesFree (n : ℕ) : View → QueueState → View → QueueState → Type 0 where
+  still : {v : View} {q : QueueState} → LeavesFree n v q v q
+  again : {v u w : View} {q r : QueueState} (f : ℕ) → LeavesFree n v q u r → f < r.known.frames → Skips n 0 f u w → LeavesFree n v q w (taking f r)
 
 -- The frames below a number were loaded in order, with these words, each of which shows a pin; and at each load the backend pinned just what it pinned at `entry`
 pub data Counts (entry v : View) : ℕ → View → List ℕ → Type 0 where
@@ -107,19 +108,20 @@ pub data Sweeps (n : ℕ) : View → View → ℕ → Type 0 where
 abbrev pub Comes : ℕ → View → View → ℕ → ℕ → Type 0
 Comes n v w f left = (u : View) × (tries : ℕ) × Sweeps n v u tries × NextIs n tries u w f left
 
--- A frame was chosen: the ring's, or of the free list where that isn't taken, or of the clock
-pub data Chooses (n : ℕ) (place : Option ℕ) (v w : View) (held : LockedFrame) : Type 0 where
-  from_ring : held.from_ring ≡ true → place ≡ Some held.frame → Takes 1 held v w → Chooses n place v w held
-  from_list : {u x : View} → held.from_ring ≡ false → LeavesRing n place v u → LeavesFree n u x → Takes 0 held x w → Chooses n place v w held
-  by_clock : {u x y : View} {left : ℕ} → held.from_ring ≡ false → LeavesRing n place v u → LeavesFree n u x → Comes n x y held.frame left → Takes 0 held y w → Chooses n place v w held
+-- A frame was chosen: the ring's; or where that isn't taken the one that was popped last from the free list; or, where that was found empty, of the clock
+pub data Chooses (n : ℕ) (place : Option ℕ) (v : View) (q : QueueState) (w : View) (r : QueueState) (held : LockedFrame) : Type 0 where
+  from_ring : held.from_ring ≡ true → place ≡ Some held.frame → Takes 1 held v w → r ≡ q → Chooses n place v q w r held
+  from_list : {u x : View} {p : QueueState} → held.from_ring ≡ false → LeavesRing n place v u → LeavesFree n u q x p → Takes 0 held x w → r ≡ taking held.frame p → Chooses n place v q w r held
+  by_clock : {u x y : View} {left : ℕ} → held.from_ring ≡ false → LeavesRing n place v u → LeavesFree n u q x r → ListHad 0 r.known → Comes n x y held.frame left → Takes 0 held y w → Chooses n place v q w r held
 
--- No frame was chosen: neither the ring's nor one of the free list is taken, the clock ran out of tries, and a census of all n frames finds each pinned
-pub record FindsNone (n : ℕ) (place : Option ℕ) (v w : View) (words : List ℕ) : Type 0 where
+-- No frame was chosen: neither the ring's nor one of the free list is taken, which was found empty, the clock ran out of tries, and a census of all n frames finds each pinned
+pub record FindsNone (n : ℕ) (place : Option ℕ) (v : View) (q : QueueState) (w : View) (r : QueueState) (words : List ℕ) : Type 0 where
   pub listed : View
   pub started : View
   pub tired : View
   pub ring : LeavesRing n place v listed
-  pub free : LeavesFree n listed started
+  pub free : LeavesFree n listed q started r
+  pub empty : ListHad 0 r.known
   pub clock : Sweeps n started tired 0
   pub census : Counts v tired n w words
 

@@ -1,4 +1,5 @@
 pub mod FreeFrames
+pub mod FreeLists
 pub mod CensusList
 pub mod Keeping
 pub mod Choosing

@@ -1,50 +1,105 @@
-//! The free list as plain data.
-ghost use Rattle.std.specs.Prelude.{◌≡◌, ◌<◌, ◌≤◌, ◌++◌, ◌∷◌, ℕ, [], true, IfOk, MatchOption, nat_eq, vec_capacity};
-ghost use Rattle.std.specs.List.{IsDistinct, list_any};
-ghost use Rattle.std.proofs.Props.{props};
-ghost use Rattle.clock_sweep.specs.FreeFrames.{frames_below, stack_with};
+//! The rule of the free list, and what a backend has of it.
 
-use access_rings::Memory;
-use std::alloc::Global;
+use crossbeam_queue::Pass;
+use crossbeam_queue::protocol::{Join, Lesson, Outcome, Protocol, Split};
+use std::collections::LinkedList;
+use std::marker::Model;
 
-/// Frames of a pool, none of them twice. The first of the list stands on top, at the end, so that a frame is taken and added there, as in PostgreSQL. It may be out of date: a frame that stands here may be in use.
-#[derive(Drop)]
-pub(crate) struct FreeList {
-    stack: Vec<u32>,
-    frames: u32,
-    ghost apart: { IsDistinct nat_eq stack.items } by { Prim.hlevel props },
-    ghost inside: { (f : ℕ) → list_any (nat_eq f) stack.items ≡ true → f < frames },
-    ghost room: { frames ≤ vec_capacity stack },
+/// What a backend knows of the free list: its parts of the right to know the whole, of how many frames the list was made, and the frames that it pushed and took, in order. No value of it is made.
+pub struct QueueView {
+    pub parts: u64,
+    pub frames: u32,
+    pub pushed: LinkedList<u32>,
+    pub taken: LinkedList<u32>,
 }
 
-impl FreeList {
-    /// All frames of a pool of this size, frame 0 first.
-    pub(crate) fn build(alloc: Global, frames: u32) -> Result<FreeList, Memory>
-        ensures stack { IfOk result (λ list. list.stack.items ≡ frames_below frames) }
-        ensures frames { IfOk result (λ list. list.frames ≡ frames) }
-    {
-        let mut stack = Vec::with_capacity(alloc, frames as usize)?;
-        for frame in (0..frames).rev() {
-            stack.push_reserved(frame);
-        }
-        Ok(FreeList { stack, frames })
-    }
+/// The rule: each frame of the pool was listed once, and then each time that it was pushed, and was taken or is still there.
+pub(crate) struct FreeFrames;
 
-    /// Takes the first frame.
-    pub(crate) fn take(&mut self) -> Option<u32>
-        ensures stack { MatchOption result ((self.old.stack.items ≡ []) × (self.new.stack.items ≡ [])) (λ frame. self.old.stack.items ≡ self.new.stack.items ++ frame ∷ []) }
-        ensures frames { self.new.frames ≡ self.old.frames }
-    {
-        self.stack.pop()
-    }
+impl Protocol<u32, QueueView> for FreeFrames {
+    ghost use Rattle.std.specs.Prelude.{[]};
+    ghost use Rattle.clock_sweep.specs.FreeFrames.{Accounts, all_parts, queue_view};
 
-    /// Adds a frame of the pool that isn't there, as the first (`StrategyFreeBuffer`). Nothing is done with any other one.
-    pub(crate) fn add(&mut self, frame: u32)
-        ensures stack { self.new.stack.items ≡ stack_with self.old.frames frame self.old.stack.items }
-        ensures frames { self.new.frames ≡ self.old.frames }
-    {
-        if frame < self.frames && !self.stack.contains(&frame) {
-            self.stack.push_reserved(frame);
-        }
-    }
+    ghost holds = { Accounts };
+
+    ghost first = { queue_view all_parts 0 [] [] };
+}
+
+/// The next frame is listed, as the list is made.
+pub(crate) struct Listing;
+
+impl Outcome<u32, QueueView> for Listing {
+    ghost use Rattle.std.specs.Prelude.{◌≡◌, ◌+◌};
+    ghost use Rattle.clock_sweep.specs.FreeFrames.{queue_view};
+
+    ghost then = { λ v f w. w ≡ queue_view v.parts (v.frames + 1) v.pushed v.taken };
+}
+
+/// A frame is pushed.
+pub(crate) struct Freeing;
+
+impl Outcome<u32, QueueView> for Freeing {
+    ghost use Rattle.std.specs.Prelude.{◌≡◌};
+    ghost use Rattle.clock_sweep.specs.FreeFrames.{with_pushed};
+
+    ghost then = { λ v f w. w ≡ with_pushed f v };
+}
+
+impl Lesson<u32, QueueView> for Freeing {
+    ghost use Rattle.clock_sweep.specs.FreeFrames.{IsAmong};
+
+    ghost fact = { IsAmong };
+}
+
+/// A frame is taken.
+pub(crate) struct Taking;
+
+impl Outcome<u32, QueueView> for Taking {
+    ghost use Rattle.std.specs.Prelude.{◌≡◌, ◌<◌};
+    ghost use Rattle.clock_sweep.specs.FreeFrames.{with_taken};
+
+    ghost then = { λ v f w. (f < v.frames) × (w ≡ with_taken f v) };
+}
+
+impl Lesson<u32, QueueView> for Taking {
+    ghost use Rattle.clock_sweep.specs.FreeFrames.{IsAmong};
+
+    ghost fact = { IsAmong };
+}
+
+/// A part is cut off, and comes back.
+pub(crate) struct Parting;
+
+impl Split<QueueView> for Parting {
+    ghost use Rattle.clock_sweep.specs.FreeFrames.{kept_part, new_part};
+
+    ghost left = { kept_part };
+
+    ghost right = { new_part };
+}
+
+impl Join<QueueView> for Parting {
+    ghost use Rattle.clock_sweep.specs.FreeFrames.{joined_parts, no_part};
+
+    ghost both = { joined_parts };
+
+    ghost spent = { no_part };
+}
+
+/// A backend's pass of the free list: only its calls change what it knows. Contracts see of which queue it is, and what it knows.
+#[derive(Drop)]
+pub struct QueuePass {
+    pub(crate) pass: Pass<u32, QueueView>,
+}
+
+impl Model for QueuePass {
+    ghost use Rattle.std.specs.Prelude.{◌≡◌, ◌<◌, []};
+    ghost use Rattle.clock_sweep.specs.FreeFrames.{QueueState};
+
+    ghost Value = { QueueState };
+
+    ghost view = { λ p. record { queue = p.pass.table_id; known = p.pass.me.0.client } };
+
+    // It holds none of the queue's slots, and has a part.
+    ghost invariant = { λ p. (p.pass.me.1 ≡ []) × (0 < p.pass.me.0.client.parts) };
 }

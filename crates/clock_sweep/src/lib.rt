@@ -13,6 +13,7 @@ pub use access_rings::Memory;
 pub use census::Census;
 pub use choice::victim;
 pub use clock::hand;
+pub use free_list::{QueuePass, QueueView};
 pub use held::{LockedFrame, NoUnpinned};
 pub use sweep::Sweep;
 

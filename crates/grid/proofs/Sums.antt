@@ -42,6 +42,11 @@ module _ {A : Type 0} (g : A → ℕ) where
   total-snoc [] a = omega arith
   total-snoc (x ∷ xs) a = omega (arith, total-snoc xs a)
 
+  pub total-both : (l m : List A) → total g (l ++ m) ≡ total g l + total g m
+  unfolding total
+  total-both [] m = omega arith
+  total-both (x ∷ xs) m = omega (arith, total-both xs m)
+
   pub total-few : (l : List A) → ((a : A) → g a ≤ 1) → total g l ≤ length l
   unfolding total
   total-few [] few = omega arith

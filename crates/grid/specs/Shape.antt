@@ -26,6 +26,14 @@ unfoldable pub total : {A : Type 0} → (A → ℕ) → List A → ℕ
 total g [] = 0
 total g (x ∷ xs) = g x + total g xs
 
+-- a measure g of the items whose key is k
+abbrev pub at_key : {A : Type 0} → (A → ℕ) → (A → ℕ) → ℕ → A → ℕ
+at_key key g k x = cond (nat_eq k (key x)) (g x) 0
+
+-- and its sum over the items of a list
+abbrev pub sum_at : {A : Type 0} → (A → ℕ) → (A → ℕ) → ℕ → List A → ℕ
+sum_at key g k l = total (at_key key g k) l
+
 -- each sum over the links of the column f
 abbrev pub tallies : (S : Shape) → List S.View → ℕ → S.Tally → ℕ
 tallies S views f k = total (λ (v : S.View). S.weigh k (S.link v f)) views

@@ -15,7 +15,7 @@ use Rattle.history_core.specs.Log.{Entry, Log, LogLaw, image, is_image, tag_in, 
 use Rattle.history_core.specs.Invariant.{HasNumber, CallsLaw, KeptLaw, HistoryLaw}
 use Rattle.grid.specs.Shape.{total}
 use Rattle.grid.proofs.Lists.{at_set, at_end, at_longer, set_else, set_here}
-use Rattle.grid.proofs.Sums.{total-set, total-snoc, total-none}
+use Rattle.grid.proofs.Sums.{total-both, total-none, total-set, total-snoc}
 use Rattle.history_core.proofs.Logs.{some_size, cut_longer, cut_all, ends_below, end_above, end_longer}
 
 -- what is at a place of two lists, one after the other
@@ -40,11 +40,6 @@ index_below : {A : Type 0} (l : List A) (j : ℕ) (y : A) → get_elem? l j ≡ 
 index_below [] j y t = absurd (some-ne-none y (sym t))
 index_below (z ∷ l) zero y t = omega arith
 index_below (z ∷ l) (suc j) y t = omega (arith, index_below l j y t)
-
-pub total-both : {A : Type 0} (g : A → ℕ) (l m : List A) → total g (l ++ m) ≡ total g l + total g m
-unfolding total
-total-both g [] m = omega arith
-total-both g (x ∷ l) m = omega (arith, total-both g l m)
 
 pub no_total : {A : Type 0} (g : A → ℕ) → total g [] ≡ 0
 unfolding total

@@ -1,5 +1,5 @@
 -- Each step keeps the law of the hint words.
-use Rattle.std.proofs.Common.{◌≡◌, ◌≢◌, ℕ, ◌+◌, ◌≤◌, Bool, List, [], ◌∷◌, ◌++◌, length, set, cond, eqb, eq-eqb, ne_eqb, sym, refl, ap, ◌∙◌, arith}
+use Rattle.std.proofs.Common.{◌≡◌, ◌≢◌, ℕ, ◌+◌, ◌≤◌, List, [], ◌∷◌, ◌++◌, length, set, sym, refl, ap, ◌∙◌, arith}
 use mathlib.Core.Logic.{dite}
 use mathlib.Core.Option.{some}
 use native.Mathlib.Decide.{ℕ_discrete}
@@ -7,7 +7,7 @@ use lib.ListN.{get_elem?}
 use Rattle.pin_core.specs.declared.view.HintStore.{HintStore}
 use Rattle.pin_core.specs.declared.view.LoadedWord.TheVariants as seen
 use Rattle.pin_core.specs.declared.view.View.{View}
-use Rattle.pin_core.specs.State.{Config, Page, link, hold, first_view, new_view, emptied_view, joined_view}
+use Rattle.pin_core.specs.State.{Config, Page, link, hold, new_view}
 use Rattle.pin_core.specs.State as pins
 use Rattle.pin_core.specs.Kinds as pin_kinds
 use Rattle.pin_core.specs.Turns.{view_turned}
@@ -18,61 +18,22 @@ use Rattle.history_core.specs.Log.{change_size}
 use Rattle.history_core.specs.Lanes.{lane_back}
 use Rattle.history_core.specs.Device.{view_logged}
 use Rattle.history_core.specs.State.{State, Store, opening}
-use Rattle.history_core.specs.Hints.{sum_of_hints, hint_found, hint_left, FollowsHints, HintsLaw}
+use Rattle.history_core.proofs.Balances.{balances_aside, balances_listed, balances_split, balances_joined, balances_fixed}
+use Rattle.history_core.specs.Hints.{FollowsHints, HintsLaw}
 use Rattle.history_core.specs.Steps.{Event, stepped, looked, pool_noting, paged, laned, has_read, has_written, Step, pools, lanes, writes, notes, logs, enters, reads, words, after_word}
 use Rattle.history_core.specs.Words.{WordKind, load_hint, store_hint, WordAllowed, hint_word, word_at, number_after, word_set}
 use Rattle.grid.specs.Shape.{put, total}
-use Rattle.grid.proofs.Lists.{put_at, put_else, set_else}
-use Rattle.grid.proofs.Sums.{total-set, total-snoc}
-
--- sums over two lists, one after the other, and over none and one
-hints_both : (g : HintStore → ℕ) (n : ℕ) (a b : List HintStore) → sum_of_hints g n (a ++ b) ≡ sum_of_hints g n a + sum_of_hints g n b
-unfolding sum_of_hints
-hints_both g n [] b = omega arith
-hints_both g n (c ∷ a) b = let h = hints_both g n a b in omega arith
-
-hints_none : (g : HintStore → ℕ) (n : ℕ) → sum_of_hints g n [] ≡ 0
-unfolding sum_of_hints
-hints_none g n = refl
-
-hints_one : (g : HintStore → ℕ) (n : ℕ) (c : HintStore) → sum_of_hints g n (c ∷ []) ≡ cond (eqb n c.number) (g c) 0
-unfolding sum_of_hints
-hints_one g n c = omega arith
-
--- what a store adds to a sum of its own word, and of another
-hints_here : (g : HintStore → ℕ) (n : ℕ) (a : List HintStore) (c : HintStore) → n ≡ c.number → sum_of_hints g n (a ++ c ∷ []) ≡ sum_of_hints g n a + g c
-hints_here g n a c is = let t = eq-eqb n c.number is in let x = hints_both g n a (c ∷ []) in let y = hints_one g n c ∙ ap (λ (b : Bool). cond b (g c) 0) t in omega arith
-
-hints_else : (g : HintStore → ℕ) (n : ℕ) (a : List HintStore) (c : HintStore) → n ≢ c.number → sum_of_hints g n (a ++ c ∷ []) ≡ sum_of_hints g n a
-hints_else g n a c other = let t = ne_eqb n c.number other in let x = hints_both g n a (c ∷ []) in let y = hints_one g n c ∙ ap (λ (b : Bool). cond b (g c) 0) t in omega arith
-
--- a step that stores no hint word
-aside : (hint : ℕ → ℕ) (views : List View) → FollowsHints hint views → (i : ℕ) (v w : View) → get_elem? views i ≡ some v → w.hints ≡ v.hints → FollowsHints hint (set views i w)
-aside hint views m i v w there same n = let a = total-set (hint_left n) views i v w there in let b = total-set (hint_found n) views i v w there in let c = m n in
-    let p : hint_left n w ≡ hint_left n v = ap (sum_of_hints (λ (c : HintStore). c.left) n) same in let q : hint_found n w ≡ hint_found n v = ap (sum_of_hints (λ (c : HintStore). c.found) n) same in omega arith
+use Rattle.grid.proofs.Lists.{put_at, put_else}
 
 -- where one view lists one store more, of a word that it found as it was, the views fix the word as it was left, and each other word as it was
 pub follows_stored : (hint : ℕ → ℕ) (views : List View) → FollowsHints hint views → (i : ℕ) (v w : View) (c : HintStore) → get_elem? views i ≡ some v → w.hints ≡ v.hints ++ c ∷ [] → c.found ≡ hint c.number → FollowsHints (put hint c.number c.left) (set views i w)
-follows_stored hint views m i v w c there listed was n = let a = total-set (hint_left n) views i v w there in let b = total-set (hint_found n) views i v w there in let k = m n in
-    let p : hint_left n w ≡ sum_of_hints (λ (x : HintStore). x.left) n (v.hints ++ c ∷ []) = ap (sum_of_hints (λ (x : HintStore). x.left) n) listed in
-    let q : hint_found n w ≡ sum_of_hints (λ (x : HintStore). x.found) n (v.hints ++ c ∷ []) = ap (sum_of_hints (λ (x : HintStore). x.found) n) listed in
-    dite (ℕ_discrete n c.number)
-    (λ (is : n ≡ c.number). let x = hints_here (λ (y : HintStore). y.left) n v.hints c is in let y = hints_here (λ (y : HintStore). y.found) n v.hints c is in let z : put hint c.number c.left n ≡ c.left = put_at hint c.number c.left n is in let t : hint n ≡ hint c.number = ap hint is in omega arith)
-    (λ (o : n ≢ c.number). let x = hints_else (λ (y : HintStore). y.left) n v.hints c o in let y = hints_else (λ (y : HintStore). y.found) n v.hints c o in let z : put hint c.number c.left n ≡ hint n = put_else hint c.number c.left n o in omega arith)
+follows_stored hint views m i v w c there listed was n = balances_listed (m n) i v w c (put hint c.number c.left n) there listed (λ is. (was ∙ ap hint (sym is), put_at hint c.number c.left n is)) (put_else hint c.number c.left n)
 
 pools_hints : (s : State) → HintsLaw s → {e : pin_steps.Event} {core' : pins.State} → pin_steps.Step e s.pool.core core' → HintsLaw (record s { pool = record s.pool { core = core' } })
-pools_hints s m (pin_steps.touches i f k v there live inside around a) = record { named = m.named; fixed = aside s.hint s.pool.core.views m.fixed i v (pin_kinds.view_after k s.pool.core.partition_of f (s.pool.core.frame f) (link v f) v) there refl }
-pools_hints s m (pin_steps.turns i p k v there live below a) = record { named = m.named; fixed = aside s.hint s.pool.core.views m.fixed i v (view_turned k p (hold v p) v) there refl }
-pools_hints s m (pin_steps.splits v there room) = let w : View = record v { next = v.next + 1 } in let b : View = new_view v.next s.pool.core.base (length v.links) (length v.partitions) (length v.lanes) in let x = aside s.hint s.pool.core.views m.fixed 0 v w there refl in record {
-  named = m.named;
-  fixed = λ n. let a = total-snoc (hint_left n) (set s.pool.core.views 0 w) b in let c = total-snoc (hint_found n) (set s.pool.core.views 0 w) b in let p = hints_none (λ (c : HintStore). c.left) n in let q = hints_none (λ (c : HintStore). c.found) n in let y = x n in omega arith;
-}
-pools_hints s m (pin_steps.joins j v u there other here live free) = let w : View = joined_view v u in let vs : List View = set s.pool.core.views 0 w in let also = set_else s.pool.core.views 0 j w other ∙ here in record {
-  named = m.named;
-  fixed = λ n. let a = total-set (hint_left n) s.pool.core.views 0 v w there in let b = total-set (hint_found n) s.pool.core.views 0 v w there in
-      let c = total-set (hint_left n) vs j u emptied_view also in let e = total-set (hint_found n) vs j u emptied_view also in
-      let p = hints_none (λ (c : HintStore). c.left) n in let q = hints_none (λ (c : HintStore). c.found) n in let x = hints_both (λ (c : HintStore). c.left) n v.hints u.hints in let z = hints_both (λ (c : HintStore). c.found) n v.hints u.hints in let y = m.fixed n in omega arith;
-}
+pools_hints s m (pin_steps.touches i f k v there live inside around a) = record { named = m.named; fixed = λ n. balances_aside (m.fixed n) i v (pin_kinds.view_after k s.pool.core.partition_of f (s.pool.core.frame f) (link v f) v) there refl }
+pools_hints s m (pin_steps.turns i p k v there live below a) = record { named = m.named; fixed = λ n. balances_aside (m.fixed n) i v (view_turned k p (hold v p) v) there refl }
+pools_hints s m (pin_steps.splits v there room) = let w : View = record v { next = v.next + 1 } in let b = new_view v.next s.pool.core.base (length v.links) (length v.partitions) (length v.lanes) in record { named = m.named; fixed = λ n. balances_split (balances_aside (m.fixed n) 0 v w there refl) b refl }
+pools_hints s m (pin_steps.joins j v u there other here live free) = record { named = m.named; fixed = λ n. balances_joined (m.fixed n) j v u there here other refl refl }
 
 -- a word that is given the number that it has is as it was
 same_set : (hint : ℕ → ℕ) (number k : ℕ) → put hint number (hint number) k ≡ hint k
@@ -93,30 +54,30 @@ named_after_word _ s v m a j = m j
 
 fixed_after_word : (k : WordKind) (s : State) (i : ℕ) (v : View) → get_elem? s.pool.core.views i ≡ some v → FollowsHints s.hint s.pool.core.views → FollowsHints (λ j. word_set (word_at k) (number_after k s) s (hint_word j)) (set s.pool.core.views i (after_word k s v))
 fixed_after_word (store_hint number value) s i v there m = follows_stored s.hint s.pool.core.views m i v (after_word (store_hint number value) s v) (record { number = number; found = s.hint number; left = value }) there refl refl
-fixed_after_word (load_hint number) s i v there m = λ n. let e = same_set s.hint number n in let x = aside s.hint s.pool.core.views m i v (after_word (load_hint number) s v) there refl n in omega arith
-fixed_after_word k s i v there m = aside s.hint s.pool.core.views m i v (after_word k s v) there refl
+fixed_after_word (load_hint number) s i v there m = λ n. let x = balances_aside (m n) i v (after_word (load_hint number) s v) there refl in record { sums = omega (arith, x.sums, same_set s.hint number n) }
+fixed_after_word k s i v there m = λ n. balances_aside (m n) i v (after_word k s v) there refl
 
 pub hints_kept : {e : Event} {s t : State} → Step e s t → HintsLaw s → HintsLaw t
 hints_kept (pools {s = s} (page_steps.cores x) a) m = pools_hints s m x
-hints_kept (pools {s = s} (page_steps.touches i f k v there live inside a around) plain) m = record { named = m.named; fixed = aside s.hint s.pool.core.views m.fixed i v (paged k s.pool f v) there refl }
-hints_kept (lanes {s = s} i q k v there live low a alone) m = record { named = m.named; fixed = aside s.hint s.pool.core.views m.fixed i v (stepped (laned k q v v)) there refl }
-hints_kept (writes {s = s} i q f k v there live low inside a x) m = record { named = m.named; fixed = aside s.hint s.pool.core.views m.fixed i v (laned k q v (paged begin_write s.pool f v)) there refl }
-hints_kept (notes {s = s} i q f noted k v there live low inside a x) m = record { named = m.named; fixed = aside s.hint s.pool.core.views m.fixed i v (laned (lane_back noted) q v (paged k (pool_noting k s f) f v)) there refl }
-hints_kept (logs {s = s} i k v there live a record_is) m = record { named = m.named; fixed = aside s.hint s.pool.core.views m.fixed i v (view_logged k v) there refl }
-hints_kept (enters {s = s} i f p ch v there live inside x) m = record { named = m.named; fixed = aside s.hint s.pool.core.views m.fixed i v (has_written ch (s.end + change_size ch) (s.pool.core.frame f).tag p (paged (make_entry p) s.pool f v)) there refl }
-hints_kept (reads {s = s} i f tag p v there live inside a) m = record { named = m.named; fixed = aside s.hint s.pool.core.views m.fixed i v (looked (seen.LogEnd s.end) (has_read s.end tag p v)) there refl }
+hints_kept (pools {s = s} (page_steps.touches i f k v there live inside a around) plain) m = record { named = m.named; fixed = λ n. balances_aside (m.fixed n) i v (paged k s.pool f v) there refl }
+hints_kept (lanes {s = s} i q k v there live low a alone) m = record { named = m.named; fixed = λ n. balances_aside (m.fixed n) i v (stepped (laned k q v v)) there refl }
+hints_kept (writes {s = s} i q f k v there live low inside a x) m = record { named = m.named; fixed = λ n. balances_aside (m.fixed n) i v (laned k q v (paged begin_write s.pool f v)) there refl }
+hints_kept (notes {s = s} i q f noted k v there live low inside a x) m = record { named = m.named; fixed = λ n. balances_aside (m.fixed n) i v (laned (lane_back noted) q v (paged k (pool_noting k s f) f v)) there refl }
+hints_kept (logs {s = s} i k v there live a record_is) m = record { named = m.named; fixed = λ n. balances_aside (m.fixed n) i v (view_logged k v) there refl }
+hints_kept (enters {s = s} i f p ch v there live inside x) m = record { named = m.named; fixed = λ n. balances_aside (m.fixed n) i v (has_written ch (s.end + change_size ch) (s.pool.core.frame f).tag p (paged (make_entry p) s.pool f v)) there refl }
+hints_kept (reads {s = s} i f tag p v there live inside a) m = record { named = m.named; fixed = λ n. balances_aside (m.fixed n) i v (looked (seen.LogEnd s.end) (has_read s.end tag p v)) there refl }
 hints_kept (words {s = s} i k v there live a) m = record { named = named_after_word k s v m.named a; fixed = fixed_after_word k s i v there m.fixed }
 
 pub hints_open : (c : Config) (store : Store) (page : Page) → HintsLaw (opening c store page)
-unfolding total sum_of_hints
-hints_open c store page = record { named = λ n. omega arith; fixed = λ n. omega arith }
+unfolding total
+hints_open c store page = record { named = λ n. omega arith; fixed = λ n. record { sums = omega arith } }
 
 -- what follows of two states
 pub hints_same : (hint hint' : ℕ → ℕ) (views : List View) → FollowsHints hint views → FollowsHints hint' views → (number : ℕ) → hint number ≡ hint' number
-hints_same hint hint' views a b n = let x = a n in let y = b n in omega arith
+hints_same hint hint' views a b n = balances_fixed (a n) (b n)
 
 pub hints_unstored : (hint hint' : ℕ → ℕ) (views : List View) → FollowsHints hint views → (i : ℕ) (v w : View) → get_elem? views i ≡ some v → FollowsHints hint' (set views i w) → w.hints ≡ v.hints → (number : ℕ) → hint' number ≡ hint number
-hints_unstored hint hint' views a i v w there b same n = hints_same hint' hint (set views i w) b (aside hint views a i v w there same) n
+hints_unstored hint hint' views a i v w there b same n = balances_fixed (b n) (balances_aside (a n) i v w there same)
 
 pub hints_stored : (hint hint' : ℕ → ℕ) (views : List View) → FollowsHints hint views → (i : ℕ) (v w : View) (c : HintStore) → get_elem? views i ≡ some v → FollowsHints hint' (set views i w) → w.hints ≡ v.hints ++ c ∷ [] → c.found ≡ hint c.number → (number : ℕ) → hint' number ≡ put hint c.number c.left number
 hints_stored hint hint' views a i v w c there b listed was n = hints_same hint' (put hint c.number c.left) (set views i w) b (follows_stored hint views a i v w c there listed was) n

@@ -34,6 +34,7 @@ pub mod History
 pub mod Outings
 pub mod PinsStay
 pub mod Promises
+pub mod Balances
 pub mod Hints
 pub mod Trail
 pub mod Lasting

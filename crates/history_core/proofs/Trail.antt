@@ -1,5 +1,5 @@
 -- Each step keeps what the views fix of the shared words.
-use Rattle.std.proofs.Common.{◌≡◌, ◌≢◌, ◌⊎◌, inl, inr, ℕ, ◌+◌, ◌%◌, ◌<◌, ◌≤◌, Bool, true, false, List, [], ◌∷◌, ◌++◌, length, set, cond, eqb, eq-eqb, ne_eqb, sym, refl, ap, ◌∙◌, subst, ⊎_elim, arith}
+use Rattle.std.proofs.Common.{◌≡◌, ◌≢◌, ◌⊎◌, inl, inr, ℕ, ◌+◌, ◌%◌, ◌<◌, ◌≤◌, Bool, true, false, List, [], ◌∷◌, ◌++◌, length, set, cond, eq-eqb, ne_eqb, sym, refl, ap, ◌∙◌, subst, ⊎_elim, arith}
 use Rattle.std.specs.Prelude.{max}
 use Rattle.std.proofs.lemmas.Bool.{cases_lt}
 use mathlib.Core.Logic.{dite}
@@ -28,40 +28,14 @@ use Rattle.history_core.specs.State.{State, Store, next_hand, opening}
 use Rattle.history_core.specs.Invariant.{HistoryInvariant}
 use Rattle.history_core.specs.Laws.{Laws}
 use Rattle.history_core.specs.Hints.{FollowsHints}
+use Rattle.history_core.proofs.Balances.{balances_aside, balances_listed, balances_split, balances_joined, balances_fixed}
 use Rattle.history_core.proofs.Hints.{hints_same, hints_unstored, hints_stored}
-use Rattle.history_core.specs.Trail.{sum_found, sum_left, Follows, IsHighest, TrailLaw, HasSameWords, ListedIsMade}
+use Rattle.history_core.specs.Trail.{Follows, IsHighest, TrailLaw, HasSameWords, ListedIsMade}
 use Rattle.history_core.specs.Steps.{Event, stepped, looked, pool_noting, paged, laned, has_read, has_written, Step, pools, lanes, writes, notes, logs, enters, reads, words, after_word}
 use Rattle.history_core.specs.Words.{flushed_word, hand_word, WordKind, raise_flushed, add_hand, word_at, number_after, word_set}
 use Rattle.grid.specs.Shape.{put, total}
 use Rattle.grid.proofs.Lists.{at_set, at_end, at_only, at_longer, put_at, put_else, set_here, set_else}
 use Rattle.grid.proofs.Sums.{total-set, total-snoc}
-
--- sums over two lists, one after the other
-found_both : (g : StateWord → ℕ) (f : ℕ) (a b : List WordChange) → sum_found g f (a ++ b) ≡ sum_found g f a + sum_found g f b
-unfolding sum_found
-found_both g f [] b = omega arith
-found_both g f (c ∷ a) b = let h = found_both g f a b in omega arith
-
-left_both : (g : StateWord → ℕ) (f : ℕ) (a b : List WordChange) → sum_left g f (a ++ b) ≡ sum_left g f a + sum_left g f b
-unfolding sum_left
-left_both g f [] b = omega arith
-left_both g f (c ∷ a) b = let h = left_both g f a b in omega arith
-
-found_none : (g : StateWord → ℕ) (f : ℕ) → sum_found g f [] ≡ 0
-unfolding sum_found
-found_none g f = refl
-
-left_none : (g : StateWord → ℕ) (f : ℕ) → sum_left g f [] ≡ 0
-unfolding sum_left
-left_none g f = refl
-
-found_one : (g : StateWord → ℕ) (f : ℕ) (c : WordChange) → sum_found g f (c ∷ []) ≡ cond (eqb f c.frame) (g c.found) 0
-unfolding sum_found
-found_one g f c = omega arith
-
-left_one : (g : StateWord → ℕ) (f : ℕ) (c : WordChange) → sum_left g f (c ∷ []) ≡ cond (eqb f c.frame) (g c.left) 0
-unfolding sum_left
-left_one g f c = omega arith
 
 -- A step changes no state word, or lists its change
 pub record Lists (f : ℕ) (a b : StateWord) (before after : List WordChange) : Type 0 where
@@ -113,57 +87,31 @@ pages_list (kinds.set_waiter number) f b fr cs = lists_one f fr.word (kinds.fram
 pages_list kinds.clear_waiter f b fr cs = lists_one f fr.word (kinds.frame_after kinds.clear_waiter b fr).word cs
 pages_list kinds.need_checkpoint f b fr cs = lists_one f fr.word (kinds.frame_after kinds.need_checkpoint b fr).word cs
 
-abbrev one : ℕ → StateWord → StateWord → List WordChange
-one f a b = record { frame = f; found = a; left = b } ∷ []
-
--- what is left of what a step lists, and what is found, differ as the word before it and after it do
-lists_move : (g : StateWord → ℕ) (f : ℕ) (frame : ℕ → Frame) (fr' : Frame) (before after : List WordChange) → Lists f (frame f).word fr'.word before after → (h : ℕ) → (sum_left g h after + g (frame h).word) + sum_found g h before ≡ (sum_left g h before + g (put frame f fr' h).word) + sum_found g h after
-lists_move g f frame fr' before after l h = ⊎_elim
-    (λ (x : (fr'.word ≡ (frame f).word) × (after ≡ before)). subst (λ (cs : List WordChange). (sum_left g h cs + g (frame h).word) + sum_found g h before ≡ (sum_left g h before + g (put frame f fr' h).word) + sum_found g h cs) (sym x.1) (let e = ap g (same x.0) in omega arith))
-    (λ (x : after ≡ before ++ record { frame = f; found = (frame f).word; left = fr'.word } ∷ []). subst (λ (cs : List WordChange). (sum_left g h cs + g (frame h).word) + sum_found g h before ≡ (sum_left g h before + g (put frame f fr' h).word) + sum_found g h cs) (sym x) added)
-    l.is
-  where
-    same : fr'.word ≡ (frame f).word → (put frame f fr' h).word ≡ (frame h).word
-    same e = dite (ℕ_discrete h f) (λ is. ap (λ (x : Frame). x.word) (put_at frame f fr' h is) ∙ e ∙ ap (λ (z : ℕ). (frame z).word) (sym is)) (λ o. ap (λ (x : Frame). x.word) (put_else frame f fr' h o))
-
-    added : (sum_left g h (before ++ one f (frame f).word fr'.word) + g (frame h).word) + sum_found g h before ≡ (sum_left g h before + g (put frame f fr' h).word) + sum_found g h (before ++ one f (frame f).word fr'.word)
-    added = let a = left_both g h before (one f (frame f).word fr'.word) in let b = found_both g h before (one f (frame f).word fr'.word) in dite (ℕ_discrete h f)
-        (λ (is : h ≡ f). let t = eq-eqb h f is in let x : sum_left g h (one f (frame f).word fr'.word) ≡ g fr'.word = left_one g h (record { frame = f; found = (frame f).word; left = fr'.word }) ∙ ap (λ (q : Bool). cond q (g fr'.word) 0) t in
-        let y : sum_found g h (one f (frame f).word fr'.word) ≡ g (frame f).word = found_one g h (record { frame = f; found = (frame f).word; left = fr'.word }) ∙ ap (λ (q : Bool). cond q (g (frame f).word) 0) t in
-        let p : g (put frame f fr' h).word ≡ g fr'.word = ap (λ (z : Frame). g z.word) (put_at frame f fr' h is) in let q : g (frame h).word ≡ g (frame f).word = ap (λ (z : ℕ). g (frame z).word) is in omega arith)
-        (λ (o : h ≢ f). let t = ne_eqb h f o in let x : sum_left g h (one f (frame f).word fr'.word) ≡ 0 = left_one g h (record { frame = f; found = (frame f).word; left = fr'.word }) ∙ ap (λ (q : Bool). cond q (g fr'.word) 0) t in
-        let y : sum_found g h (one f (frame f).word fr'.word) ≡ 0 = found_one g h (record { frame = f; found = (frame f).word; left = fr'.word }) ∙ ap (λ (q : Bool). cond q (g (frame f).word) 0) t in
-        let p : g (put frame f fr' h).word ≡ g (frame h).word = ap (λ (z : Frame). g z.word) (put_else frame f fr' h o) in omega arith)
-
 -- a step at a frame
 moves : (frame : ℕ → Frame) (views : List View) → Follows frame views → (i f : ℕ) (v w : View) (fr' : Frame) → get_elem? views i ≡ some v → Lists f (frame f).word fr'.word v.changes w.changes → Follows (put frame f fr') (set views i w)
-moves frame views m i f v w fr' there l g h = let a = total-set (λ (x : View). sum_left g h x.changes) views i v w there in let b = total-set (λ (x : View). sum_found g h x.changes) views i v w there in let c = m g h in let e = lists_move g f frame fr' v.changes w.changes l h in omega arith
-
--- a step elsewhere
-rests_aside : (frame : ℕ → Frame) (views : List View) → Follows frame views → (i : ℕ) (v w : View) → get_elem? views i ≡ some v → w.changes ≡ v.changes → Follows frame (set views i w)
-rests_aside frame views m i v w there same g h = let a = total-set (λ (x : View). sum_left g h x.changes) views i v w there in let b = total-set (λ (x : View). sum_found g h x.changes) views i v w there in let c = m g h in
-    let p : sum_left g h w.changes ≡ sum_left g h v.changes = ap (sum_left g h) same in let q : sum_found g h w.changes ≡ sum_found g h v.changes = ap (sum_found g h) same in omega arith
+moves frame views m i f v w fr' there l g h = let was = λ (is : h ≡ f). ap (λ (z : ℕ). g (frame z).word) (sym is) in
+    let left = λ (is : h ≡ f). ap (λ (x : Frame). g x.word) (put_at frame f fr' h is) in let else = λ (n : h ≢ f). ap (λ (x : Frame). g x.word) (put_else frame f fr' h n) in ⊎_elim
+    (λ (x : (fr'.word ≡ (frame f).word) × (w.changes ≡ v.changes)). let y = balances_aside (m g h) i v w there x.1 in dite (ℕ_discrete h f)
+    (λ is. record { sums = omega (arith, y.sums, was is, left is, ap g x.0) }) (λ n. record { sums = omega (arith, y.sums, else n) }))
+    (λ (x : w.changes ≡ v.changes ++ record { frame = f; found = (frame f).word; left = fr'.word } ∷ []). balances_listed (m g h) i v w (record { frame = f; found = (frame f).word; left = fr'.word }) (g (put frame f fr' h).word) there x (λ is. (was is, left is)) else)
+    l.is
 
 pools_trail : (s : State) → Follows s.pool.core.frame s.pool.core.views → {e : pin_steps.Event} {core' : pins.State} → pin_steps.Step e s.pool.core core' → Follows core'.frame core'.views
 pools_trail s m (pin_steps.touches i f k v there live inside a around) = moves s.pool.core.frame s.pool.core.views m i f v (pin_kinds.view_after k s.pool.core.partition_of f (s.pool.core.frame f) (link v f) v) (pin_kinds.frame_after k (s.pool.core.frame f)) there (pins_list k f (s.pool.core.frame f) v.changes)
-pools_trail s m (pin_steps.turns i p k v there live below a) = rests_aside s.pool.core.frame s.pool.core.views m i v (view_turned k p (hold v p) v) there refl
-pools_trail s m (pin_steps.splits v there room) = let w : View = record v { next = v.next + 1 } in let b : View = new_view v.next s.pool.core.base (length v.links) (length v.partitions) (length v.lanes) in let x = rests_aside s.pool.core.frame s.pool.core.views m 0 v w there refl in
-    λ g h. let a = total-snoc (λ (y : View). sum_left g h y.changes) (set s.pool.core.views 0 w) b in let c = total-snoc (λ (y : View). sum_found g h y.changes) (set s.pool.core.views 0 w) b in let p = left_none g h in let q = found_none g h in let y = x g h in omega arith
-pools_trail s m (pin_steps.joins j v u there other here live free) = let w : View = joined_view v u in let vs : List View = set s.pool.core.views 0 w in let also = set_else s.pool.core.views 0 j w other ∙ here in
-    λ g h. let a = total-set (λ (y : View). sum_left g h y.changes) s.pool.core.views 0 v w there in let b = total-set (λ (y : View). sum_found g h y.changes) s.pool.core.views 0 v w there in
-    let c = total-set (λ (y : View). sum_left g h y.changes) vs j u emptied_view also in let e = total-set (λ (y : View). sum_found g h y.changes) vs j u emptied_view also in
-    let p = left_none g h in let q = found_none g h in let x = left_both g h v.changes u.changes in let z = found_both g h v.changes u.changes in let y = m g h in omega arith
+pools_trail s m (pin_steps.turns i p k v there live below a) = λ g f. balances_aside (m g f) i v (view_turned k p (hold v p) v) there refl
+pools_trail s m (pin_steps.splits v there room) = let w : View = record v { next = v.next + 1 } in let b = new_view v.next s.pool.core.base (length v.links) (length v.partitions) (length v.lanes) in λ g f. balances_split (balances_aside (m g f) 0 v w there refl) b refl
+pools_trail s m (pin_steps.joins j v u there other here live free) = λ g f. balances_joined (m g f) j v u there here other refl refl
 
 words_kept : {e : Event} {s t : State} → Step e s t → Follows s.pool.core.frame s.pool.core.views → Follows t.pool.core.frame t.pool.core.views
 words_kept (pools {s = s} (page_steps.cores x) a) m = pools_trail s m x
 words_kept (pools {s = s} (page_steps.touches i f k v there live inside a around) plain) m = let b : Block = block_of s.pool.logged (s.pool.core.frame f).tag in moves s.pool.core.frame s.pool.core.views m i f v (paged k s.pool f v) (kinds.frame_after k b (s.pool.core.frame f)) there (pages_list k f b (s.pool.core.frame f) v.changes)
-words_kept (lanes {s = s} i q k v there live low a alone) m = rests_aside s.pool.core.frame s.pool.core.views m i v (stepped (laned k q v v)) there refl
+words_kept (lanes {s = s} i q k v there live low a alone) m = λ g f. balances_aside (m g f) i v (stepped (laned k q v v)) there refl
 words_kept (writes {s = s} i q f k v there live low inside a x) m = moves s.pool.core.frame s.pool.core.views m i f v (laned k q v (paged begin_write s.pool f v)) (s.pool.core.frame f) there (lists_none f (s.pool.core.frame f).word v.changes)
 words_kept (notes {s = s} i q f noted k v there live low inside a x) m = let b : Block = block_of (pool_noting k s f).logged (s.pool.core.frame f).tag in moves s.pool.core.frame s.pool.core.views m i f v (laned (lane_back noted) q v (paged k (pool_noting k s f) f v)) (kinds.frame_after k b (s.pool.core.frame f)) there (pages_list k f b (s.pool.core.frame f) v.changes)
-words_kept (logs {s = s} i k v there live a record_is) m = rests_aside s.pool.core.frame s.pool.core.views m i v (view_logged k v) there refl
+words_kept (logs {s = s} i k v there live a record_is) m = λ g f. balances_aside (m g f) i v (view_logged k v) there refl
 words_kept (enters {s = s} i f p ch v there live inside x) m = moves s.pool.core.frame s.pool.core.views m i f v (has_written ch (s.end + change_size ch) (s.pool.core.frame f).tag p (paged (make_entry p) s.pool f v)) (s.pool.core.frame f) there (lists_none f (s.pool.core.frame f).word v.changes)
-words_kept (reads {s = s} i f tag p v there live inside a) m = rests_aside s.pool.core.frame s.pool.core.views m i v (looked (seen.LogEnd s.end) (has_read s.end tag p v)) there refl
-words_kept (words {s = s} i k v there live a) m = rests_aside s.pool.core.frame s.pool.core.views m i v (after_word k s v) there refl
+words_kept (reads {s = s} i f tag p v there live inside a) m = λ g f. balances_aside (m g f) i v (looked (seen.LogEnd s.end) (has_read s.end tag p v)) there refl
+words_kept (words {s = s} i k v there live a) m = λ g f. balances_aside (m g f) i v (after_word k s v) there refl
 
 -- the moves that the views count
 abbrev pub Ticks : List View → ℕ
@@ -261,9 +209,9 @@ pub trail_kept : {e : Event} {s t : State} → Step e s t → HistoryInvariant s
 trail_kept x h m = record { words = words_kept x m.words; hand = hand_kept x m.hand; flushed = highest_kept x h m.flushed }
 
 pub trail_open : (c : Config) (store : Store) (page : Page) → TrailLaw (opening c store page)
-unfolding total sum_left sum_found
+unfolding total
 trail_open c store page = let w : View = first_view c.base c.frames c.partitions c.lanes in record {
-  words = λ g f. omega arith;
+  words = λ g f. record { sums = omega arith };
   hand = refl;
   flushed = record { above = λ i v there. let e : c.base ≡ v.raised_to = ap (λ (x : View). x.raised_to) (at_only w v i there).0 in omega arith; reached = (0, w, refl, refl) };
 }
@@ -282,22 +230,15 @@ same_measures a b h = same_record a b (h (λ w. w.pins)) (h (λ w. w.usage)) (we
 
 -- The views fix each frame's state word
 pub words_fixed : (frame frame' : ℕ → Frame) (views : List View) → Follows frame views → Follows frame' views → (f : ℕ) → (frame f).word ≡ (frame' f).word
-words_fixed frame frame' views a b f = same_measures (frame f).word (frame' f).word (λ g. let x = a g f in let y = b g f in omega arith)
+words_fixed frame frame' views a b f = same_measures (frame f).word (frame' f).word (λ g. balances_fixed (a g f) (b g f))
 
 -- where one view lists one change more, of a frame's word as it was, the frame has the word that was left
 pub next_word : (frame frame' : ℕ → Frame) (views : List View) (i f : ℕ) (v w : View) (found left : StateWord) → Follows frame views → Follows frame' (set views i w) → get_elem? views i ≡ some v → w.changes ≡ v.changes ++ record { frame = f; found = found; left = left } ∷ [] → found ≡ (frame f).word → (frame' f).word ≡ left
-next_word frame frame' views i f v w found left m m' there listed was = same_measures (frame' f).word left (λ g. let a = total-set (λ (x : View). sum_left g f x.changes) views i v w there in let b = total-set (λ (x : View). sum_found g f x.changes) views i v w there in let c = m g f in let e = m' g f in
-    let t = eq-eqb f f refl in
-    let x : sum_left g f w.changes ≡ sum_left g f v.changes + g left = ap (sum_left g f) listed ∙ left_both g f v.changes (one f found left) ∙ ap (λ (n : ℕ). sum_left g f v.changes + n) (left_one g f (record { frame = f; found = found; left = left }) ∙ ap (λ (q : Bool). cond q (g left) 0) t) in
-    let y : sum_found g f w.changes ≡ sum_found g f v.changes + g found = ap (sum_found g f) listed ∙ found_both g f v.changes (one f found left) ∙ ap (λ (n : ℕ). sum_found g f v.changes + n) (found_one g f (record { frame = f; found = found; left = left }) ∙ ap (λ (q : Bool). cond q (g found) 0) t) in
-    let z = ap g was in omega arith)
+next_word frame frame' views i f v w found left m m' there listed was = same_measures (frame' f).word left (λ g. balances_fixed (m' g f) (balances_listed (m g f) i v w (record { frame = f; found = found; left = left }) (g left) there listed (λ _. (ap g was, refl)) (λ n. absurd (n refl))))
 
 -- and the other frames have theirs
 pub other_word : (frame frame' : ℕ → Frame) (views : List View) (i f : ℕ) (v w : View) (c : WordChange) → Follows frame views → Follows frame' (set views i w) → get_elem? views i ≡ some v → w.changes ≡ v.changes ++ c ∷ [] → f ≢ c.frame → (frame' f).word ≡ (frame f).word
-other_word frame frame' views i f v w c m m' there listed other = same_measures (frame' f).word (frame f).word (λ g. let a = total-set (λ (x : View). sum_left g f x.changes) views i v w there in let b = total-set (λ (x : View). sum_found g f x.changes) views i v w there in let p = m g f in let q = m' g f in
-    let t = ne_eqb f c.frame other in
-    let x : sum_left g f w.changes ≡ sum_left g f v.changes + 0 = ap (sum_left g f) listed ∙ left_both g f v.changes (c ∷ []) ∙ ap (λ (n : ℕ). sum_left g f v.changes + n) (left_one g f c ∙ ap (λ (y : Bool). cond y (g c.left) 0) t) in
-    let z : sum_found g f w.changes ≡ sum_found g f v.changes + 0 = ap (sum_found g f) listed ∙ found_both g f v.changes (c ∷ []) ∙ ap (λ (n : ℕ). sum_found g f v.changes + n) (found_one g f c ∙ ap (λ (y : Bool). cond y (g c.found) 0) t) in omega arith)
+other_word frame frame' views i f v w c m m' there listed other = same_measures (frame' f).word (frame f).word (λ g. balances_fixed (m' g f) (balances_listed (m g f) i v w c (g (frame f).word) there listed (λ is. absurd (other is)) (λ _. refl)))
 
 -- where one view counts one move more, the hand has moved on
 pub next_tick : (hand hand' : ℕ) (views : List View) (i : ℕ) (v w : View) → hand ≡ Ticks views % 18446744073709551616 → hand' ≡ Ticks (set views i w) % 18446744073709551616 → get_elem? views i ≡ some v → w.ticks ≡ v.ticks + 1 → hand' ≡ next_hand hand
@@ -314,7 +255,7 @@ words_same s t a b same = record {
 
 pub listed_made : (s t : State) → Laws s → Laws t → ListedIsMade s t
 listed_made s t a b i v w there views = let words : Follows t.pool.core.frame (set s.pool.core.views i w) = subst (Follows t.pool.core.frame) views b.trail.words in let hand : t.hand ≡ Ticks (set s.pool.core.views i w) % 18446744073709551616 = b.trail.hand ∙ ap (λ (l : List View). Ticks l % 18446744073709551616) views in record {
-  still = λ same. words_fixed t.pool.core.frame s.pool.core.frame (set s.pool.core.views i w) words (rests_aside s.pool.core.frame s.pool.core.views a.trail.words i v w there same);
+  still = λ same. words_fixed t.pool.core.frame s.pool.core.frame (set s.pool.core.views i w) words (λ g f. balances_aside (a.trail.words g f) i v w there same);
   changed = λ f c listed at was. next_word s.pool.core.frame t.pool.core.frame s.pool.core.views i f v w c.found c.left a.trail.words words there (listed ∙ ap (λ (g : ℕ). v.changes ++ record c { frame = g } ∷ []) at) was;
   others = λ f c listed other. other_word s.pool.core.frame t.pool.core.frame s.pool.core.views i f v w c a.trail.words words there listed other;
   unmoved = λ same. hand ∙ ap (λ (n : ℕ). n % 18446744073709551616) (same_ticks s.pool.core.views i v w there same) ∙ sym a.trail.hand;

@@ -23,6 +23,7 @@ pub mod Sound
 pub mod History
 pub mod Outings
 pub mod Promises
+pub mod Balances
 pub mod Hints
 pub mod Trail
 pub mod Laws

@@ -1,5 +1,5 @@
 -- What the views fix of the shared words. The changes of state words that they list follow on one another, from the word at the start to the word that the frame has; they count the moves of the clock's hand; and they keep to where they raised the flushed position.
-use Rattle.std.specs.Prelude.{◌≡◌, ◌≢◌, ℕ, ◌+◌, ◌%◌, ◌≤◌, List, [], ◌∷◌, ◌++◌, max, nat_eq, cond, slice_set}
+use Rattle.std.specs.Prelude.{◌≡◌, ◌≢◌, ℕ, ◌+◌, ◌%◌, ◌≤◌, List, [], ◌∷◌, ◌++◌, max, slice_set}
 use mathlib.Core.Option.{some}
 use lib.ListN.{get_elem?}
 use Rattle.state_word.specs.declared.word.StateWord.{StateWord}
@@ -7,21 +7,15 @@ use Rattle.pin_core.specs.declared.view.View.{View}
 use Rattle.pin_core.specs.declared.view.HintStore.{HintStore}
 use Rattle.pin_core.specs.declared.view.WordChange.{WordChange}
 use Rattle.pin_core.specs.State.{Frame, zero_word}
+use Rattle.history_core.specs.Balances.{Balances}
 use Rattle.history_core.specs.State.{State, next_hand}
 use Rattle.grid.specs.Shape.{put, total}
 
--- a measure g of words, summed over those that the changes of the frame f found, and that they left
-unfoldable pub sum_found : (StateWord → ℕ) → ℕ → List WordChange → ℕ
-sum_found g f [] = 0
-sum_found g f (c ∷ cs) = cond (nat_eq f c.frame) (g c.found) 0 + sum_found g f cs
-
-unfoldable pub sum_left : (StateWord → ℕ) → ℕ → List WordChange → ℕ
-sum_left g f [] = 0
-sum_left g f (c ∷ cs) = cond (nat_eq f c.frame) (g c.left) 0 + sum_left g f cs
-
 -- for each frame, each word was left as often as it was found, but that the first one was not left by a change, and the last one, which the frame has, not found: by every measure of words the sums agree, so that the views fix the word
 abbrev pub Follows : (ℕ → Frame) → List View → Type 0
-Follows frame views = (g : StateWord → ℕ) (f : ℕ) → g zero_word + total (λ (v : View). sum_left g f v.changes) views ≡ total (λ (v : View). sum_found g f v.changes) views + g (frame f).word
+Follows frame views = (g : StateWord → ℕ) (f : ℕ) → Balances (λ (v : View). v.changes)
+    (λ (c : WordChange). c.frame) (λ c. g c.found) (λ c. g c.left)
+    f (g zero_word) (g (frame f).word) views
 
 -- The position is the largest to which a view raised the flushed position; a view that raised it nowhere keeps the log's base
 pub record IsHighest (flushed : ℕ) (views : List View) : Type 0 where

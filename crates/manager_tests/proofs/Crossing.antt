@@ -9,7 +9,6 @@ use Rattle.std.proofs.Crossing.{crosses, frees}
 use Rattle.std.proofs.CrossingOver as over
 use Rattle.segment_store.specs.declared.device.BlockLane as block_lane
 use Rattle.log_device.specs.declared.device.LogDevice as log_device
-use Rattle.clock_sweep.specs.contracts.sweep.Sweep as sweep
 use Rattle.backend_pass.specs.contracts.manager.Manager as manager
 use Rattle.backend_pass.proofs.Crossing.{lease_sync, shared_sync}
 use Rattle.test_devices.specs.contracts.lane.TestLane as lane
@@ -19,9 +18,6 @@ use Rattle.table_rule.specs.contracts.value.Value as value
 pub numbers_shared : IsSync (u32-field).row
 numbers_shared = search sendable
 
-sweeps_shared : IsSync sweep.the_row
-sweeps_shared = search (sendable, crosses, over.crosses, frees) depth 40 fits 20000
-
 lanes_cross : IsSend lane.the_row
 lanes_cross = search (sendable, crosses, over.crosses) depth 30
 
@@ -29,7 +25,7 @@ values_cross : IsSend (value.the_row lane.the_row log.the_row)
 values_cross = search (sendable, crosses, over.crosses, lanes_cross) depth 30 fits 20000
 
 pub managers_shared : (a : block_lane.Ghosts lane.the_row.Denot) (b : log_device.Ghosts log.the_row.Denot) → IsSync (manager.the_row lane.the_row log.the_row a b)
-managers_shared a b = search (sendable, crosses, over.crosses, values_cross, shared_sync, lease_sync, sweeps_shared, frees) depth 50 fits 40000
+managers_shared a b = search (sendable, crosses, over.crosses, values_cross, shared_sync, lease_sync, frees) depth 50 fits 40000
 
 -- what captures five values may cross threads where they may
 pub five_sent : (ν : Sym) (A B C D E : RattleType) → IsSend A → IsSend B → IsSend C → IsSend D → IsSend E → IsSend (TupleAt ν (A ∷ B ∷ C ∷ D ∷ E ∷ []))

@@ -1,5 +1,5 @@
 -- Passes of a small manager.
-use Rattle.std.proofs.Common.{◌≡◌, ◌+◌, ◌∙◌, ℕ, List, [], ◌∷◌, ◌++◌, length, Option, refl, sym, ap, subst, arith}
+use Rattle.std.proofs.Common.{◌≡◌, ◌+◌, ◌∙◌, ℕ, List, [], ◌∷◌, ◌++◌, length, nat_eq, Option, refl, sym, ap, subst, arith}
 use mathlib.Core.Logic.{dite}
 use native.Mathlib.Decide.{ℕ_discrete}
 use Rattle.segment_store.specs.Contents.{Pages}
@@ -14,8 +14,10 @@ use Rattle.held_pins.specs.Tokens.{IsPinnedFor, tokens_less}
 use Rattle.backend_pass.specs.declared.manager.Manager.{Manager}
 use Rattle.backend_pass.specs.declared.pinned.Pinned.{Pinned}
 use Rattle.backend_pass.specs.Locks.{ChangesLock, HasLock}
-use Rattle.backend_pass.specs.Managers.{AreNewPasses, Belongs, IsNewPass}
-use Rattle.backend_pass.specs.Passes.{KeepsLocks, PassState, SamePass}
+use Rattle.backend_pass.specs.Managers.{AreAll, AreNewPasses, Belongs, IsNewPass, first_in}
+use Rattle.backend_pass.specs.Passes.{KeepsLocks, PassState, SamePass, PassOwn}
+use Rattle.grid.specs.Shape.{total}
+use Rattle.backend_pass.proofs.Joining.{first_here, first_past}
 use Rattle.backend_pass.proofs.Keeping.{pass_none}
 use Rattle.backend_pass.proofs.Seated.{same_on}
 use Rattle.manager_tests.specs.Bench.{HasOnly, IsFree, IsUnlocked, Returns}
@@ -29,9 +31,13 @@ three : (xs : List PassState) (a b c : PassState) (ps : List PassState) → ps �
 three [] a b c ps e n = e
 three (x ∷ xs) a b c ps e n = absurd (let l = ap length e in let more = length_three xs a b c in omega arith)
 
+all_parts_of : (a b c : PassState) → a.queue.known.parts + 3 ≡ 65 → b.queue.known.parts ≡ 1 → c.queue.known.parts ≡ 1 → total (λ (p : PassState). p.queue.known.parts) (c ∷ a ∷ b ∷ []) ≡ 64
+unfolding total
+all_parts_of a b c x y z = omega arith
+
 module _ {L G : Type 0} (contents : L → Option Pages) (m : Manager L G) where
   new_free : (i : ℕ) (p : PassState) → IsNewPass contents m 3 i p → IsFree contents m i p
-  new_free i p n = record { is = record { belongs = n.belongs; number = ap (λ (v : View). v.number) n.view; joined = ap (λ (v : View). v.joined) n.view; next = n.next }; spent = n.tokens }
+  new_free i p n = record { is = record { belongs = n.belongs; number = ap (λ (v : View). v.number) n.view; joined = ap (λ (v : View). v.joined) n.view; next = n.next; rest = n.rest; part = n.part }; spent = n.tokens }
 
   new_unlocked : (i : ℕ) (p : PassState) → IsNewPass contents m 3 i p → IsUnlocked contents m p
   new_unlocked i p n = record {
@@ -54,10 +60,24 @@ module _ {L G : Type 0} (contents : L → Option Pages) (m : Manager L G) where
       → IsUnlocked contents m a × IsUnlocked contents m b × IsUnlocked contents m c
   three_unlocked ps qs rs ss a b c new last middle front = let t = three_new ps qs rs ss a b c new last middle front in (new_unlocked 0 a t.0, new_unlocked 1 b t.1, new_unlocked 2 c t.2)
 
+  -- the three, in the order in which a bench closes them
+  pub all_three : (ps : List PassState) (a b c : PassState) → ps ≡ c ∷ a ∷ b ∷ [] → IsFree contents m 0 a → IsFree contents m 1 b → IsFree contents m 2 c → AreAll m ps
+  all_three ps a b c is x y z =
+      let first : first_in (c ∷ a ∷ b ∷ []) ≡ a.view = first_past c (a ∷ b ∷ []) (ap (λ (n : ℕ). nat_eq n 0) z.is.number) ∙ first_here a (b ∷ []) (ap (λ (n : ℕ). nat_eq n 0) x.is.number) in
+      subst (AreAll m) (sym is) record {
+        nonempty = omega arith;
+        counted = sym (ap (λ (v : View). v.next) first ∙ x.is.next refl);
+        joined = ap (λ (v : View). v.joined) first ∙ x.is.joined;
+        spent = ((z.is.belongs.table, z.spent, ((x.is.belongs.table, x.spent, ((y.is.belongs.table, y.spent, tt))))));
+        fronts = (z.is.belongs.front, (x.is.belongs.front, (y.is.belongs.front, tt)));
+        queues = (z.is.belongs.queue, (x.is.belongs.queue, (y.is.belongs.queue, tt)));
+        parts = all_parts_of a b c (x.is.rest refl) (y.is.part (λ none. absurd (omega arith))) (z.is.part (λ none. absurd (omega arith)));
+      }
+
   -- a call that keeps tokens and locks
   pub only_on : (lock : Content) (pinned : Pinned) (i : ℕ) (p q : PassState) → HasOnly contents lock pinned m i p → Belongs contents m q → SamePass p q → q.tokens ≡ p.tokens → KeepsLocks p q → HasOnly contents lock pinned m i q
   only_on lock pinned i p q o b s tokens locks = record {
-    is = record { belongs = b; number = s.keeps.number ∙ o.is.number; joined = s.keeps.joined ∙ o.is.joined; next = λ first. s.keeps.next ∙ o.is.next first };
+    is = record { belongs = b; number = s.keeps.number ∙ o.is.number; joined = s.keeps.joined ∙ o.is.joined; next = λ first. s.keeps.next ∙ o.is.next first; rest = λ first. ap (λ (x : PassOwn). x.queue.known.parts + 3) s.keeps.own ∙ o.is.rest first; part = λ other. ap (λ (x : PassOwn). x.queue.known.parts) s.keeps.own ∙ o.is.part other };
     token = subst (IsPinnedFor pinned.tag pinned.frame) (sym tokens) o.token;
     last = ap (tokens_less pinned.frame) tokens ∙ o.last;
     locked = locks pinned.frame ∙ o.locked;
@@ -66,7 +86,7 @@ module _ {L G : Type 0} (contents : L → Option Pages) (m : Manager L G) where
   -- a call that changes the lock of the frame alone
   pub only_relocked : (lock : Content) (pinned given : Pinned) (i : ℕ) (p q : PassState) {before : Content} → HasOnly contents before pinned m i p → given ≡ pinned → Belongs contents m q → SamePass p q → q.tokens ≡ p.tokens → ChangesLock lock pinned.frame p q → HasOnly contents lock given m i q
   only_relocked lock pinned given i p q o e b s tokens changes = subst (λ (x : Pinned). HasOnly contents lock x m i q) (sym e) record {
-    is = record { belongs = b; number = s.keeps.number ∙ o.is.number; joined = s.keeps.joined ∙ o.is.joined; next = λ first. s.keeps.next ∙ o.is.next first };
+    is = record { belongs = b; number = s.keeps.number ∙ o.is.number; joined = s.keeps.joined ∙ o.is.joined; next = λ first. s.keeps.next ∙ o.is.next first; rest = λ first. ap (λ (x : PassOwn). x.queue.known.parts + 3) s.keeps.own ∙ o.is.rest first; part = λ other. ap (λ (x : PassOwn). x.queue.known.parts) s.keeps.own ∙ o.is.part other };
     token = subst (IsPinnedFor pinned.tag pinned.frame) (sym tokens) o.token;
     last = ap (tokens_less pinned.frame) tokens ∙ o.last;
     locked = changes.here;

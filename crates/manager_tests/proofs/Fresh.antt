@@ -8,6 +8,7 @@ use Rattle.backend_pass.specs.declared.manager.Manager.{Manager}
 use Rattle.backend_pass.specs.Managers.{AreAll, AreNewPasses, first_in}
 use Rattle.backend_pass.specs.Passes.{PassState}
 use Rattle.backend_pass.specs.Starting.{start_refusal}
+use Rattle.backend_pass.proofs.Listed.{listed_each, parts_each}
 use Rattle.backend_pass.proofs.Joining.{first_here, fronted_each, spent_each}
 
 passes_some : (c : Config) (given : ℕ) → start_refusal c given ≡ None → 0 < c.passes
@@ -25,6 +26,8 @@ module _ {L G : Type 0} (contents : L → Option Pages) (m : Manager L G) where
         joined = ap (λ (v : View). v.joined) first ∙ ap (λ (v : View). v.joined) h.view;
         spent = spent_each m.table.table.shared.table_id (p ∷ ps) (λ i q e. let k = new.each i q e in (k.belongs.table, k.tokens));
         fronts = fronted_each (base_of m.table) (p ∷ ps) (λ i q e. (new.each i q e).belongs.front);
+        queues = listed_each m (p ∷ ps) (λ i q e. (new.each i q e).belongs.queue);
+        parts = parts_each n (p ∷ ps) more new.counted (λ i q e. let k = new.each i q e in (k.rest, k.part));
       }
 
   pub all_fresh : (c : Config) (given : ℕ) (ps : List PassState) → start_refusal c given ≡ None → AreNewPasses contents m c.passes ps → AreAll m ps

@@ -1,8 +1,9 @@
 -- A pass between the steps of a test.
-use Rattle.std.specs.Prelude.{◌≡◌, ℕ, Option, None}
+use Rattle.std.specs.Prelude.{◌≡◌, ◌≢◌, ◌+◌, ℕ, Option, None}
 use Rattle.segment_store.specs.Contents.{Pages}
 use Rattle.pin_core.specs.declared.view.Content.{Content}
 use Rattle.pin_core.specs.declared.view.Content.TheVariants.{Unlocked}
+use Rattle.clock_sweep.specs.FreeFrames.{all_parts}
 use Rattle.held_pins.specs.Tokens.{IsPinnedFor, no_tokens, tokens_less}
 use Rattle.backend_pass.specs.declared.manager.Manager.{Manager}
 use Rattle.backend_pass.specs.declared.pinned.Pinned.{Pinned}
@@ -17,6 +18,9 @@ module _ {L G : Type 0} (contents : L → Option Pages) where
     pub number : p.view.number ≡ i
     pub joined : p.view.joined ≡ 0
     pub next : i ≡ 0 → p.view.next ≡ 3
+    -- each other has one part of the free list
+    pub rest : i ≡ 0 → p.queue.known.parts + 3 ≡ all_parts + 1
+    pub part : i ≢ 0 → p.queue.known.parts ≡ 1
 
   -- and it has no tokens
   pub record IsFree (m : Manager L G) (i : ℕ) (p : PassState) : Type 0 where

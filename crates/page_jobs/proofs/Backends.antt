@@ -1,5 +1,5 @@
 -- Backends that only read, once their job is over.
-use Rattle.std.proofs.Common.{◌≡◌, ℕ, zero, suc, ◌+◌, ◌-◌, ◌<◌, ◌≤◌, ◌⊎◌, nat_eq, false, List, [], ◌∷◌, length, Option, Some, refl, sym, ap, ◌∙◌, subst, inl, inr, ⊎_elim, arith}
+use Rattle.std.proofs.Common.{◌≡◌, ℕ, zero, suc, ◌+◌, ◌-◌, ◌<◌, ◌≤◌, ◌⊎◌, nat_eq, false, List, [], ◌∷◌, length, Option, Some, refl, sym, ap, ◌∙◌, subst, inl, inr, ⊎_elim, arith, ◌≢◌}
 use mathlib.Core.Logic.{dite}
 use mathlib.Core.Option.{some, some-injective, some-ne-none}
 use native.Mathlib.Decide.{dec_le}
@@ -19,7 +19,10 @@ use Rattle.backend_pass.specs.declared.errors.ReadError.{ReadError}
 use Rattle.backend_pass.specs.declared.errors.ReadError.TheVariants as read
 use Rattle.backend_pass.specs.declared.manager.Manager.{Manager}
 use Rattle.backend_pass.specs.Managers.{AreAll, AreNewPasses, IsNewPass, first_in}
-use Rattle.backend_pass.specs.Passes.{PassState, SamePass}
+use Rattle.clock_sweep.specs.FreeLists.{IsFreeList}
+use Rattle.clock_sweep.proofs.FreeLists.{list_same}
+use Rattle.backend_pass.specs.Passes.{PassOwn, PassState, SamePass}
+use Rattle.backend_pass.proofs.Listed.{listed_each, parts_each}
 use Rattle.backend_pass.specs.Closing.{EachPass, HasNoMark, PutNothing, met_by_passes}
 use Rattle.backend_pass.specs.Reading.{met_read_refused}
 use Rattle.backend_pass.proofs.Joining.{first_here, fronted_each, spent_each}
@@ -158,6 +161,9 @@ module _ {L G : Type 0} (contents : L → Option Pages) (m : Manager L G) (fork 
     pub number : q.view.number ≡ i
     pub next : i ≡ 0 → q.view.next ≡ n
     pub joined : q.view.joined ≡ 0
+    pub queue : IsFreeList m.table m.sweep q.queue
+    pub rest : i ≡ 0 → q.queue.known.parts + n ≡ 65
+    pub part : i ≢ 0 → q.queue.known.parts ≡ 1
 
   -- a pass as it was started
   pub new_is_given : (n i : ℕ) (p : PassState) → IsNewPass contents m n i p → IsGiven n i p
@@ -168,6 +174,9 @@ module _ {L G : Type 0} (contents : L → Option Pages) (m : Manager L G) (fork 
     number = ap (λ (v : View). v.number) h.view;
     next = h.next;
     joined = ap (λ (v : View). v.joined) h.view;
+    queue = h.belongs.queue;
+    rest = h.rest;
+    part = h.part;
   }
 
   -- new passes have put nothing
@@ -189,6 +198,9 @@ module _ {L G : Type 0} (contents : L → Option Pages) (m : Manager L G) (fork 
     number = same.keeps.number ∙ h.number;
     next = λ first. same.keeps.next ∙ h.next first;
     joined = same.keeps.joined ∙ h.joined;
+    queue = list_same m.table m.sweep p.queue q.queue h.queue (ap (λ (x : PassOwn). x.queue) same.keeps.own);
+    rest = λ first. ap (λ (x : PassOwn). x.queue.known.parts + n) same.keeps.own ∙ h.rest first;
+    part = λ other. ap (λ (x : PassOwn). x.queue.known.parts) same.keeps.own ∙ h.part other;
   }
 
   pub all_of : (n : ℕ) (qs : List PassState) → 0 < n → length qs ≡ n → ((i : ℕ) (q : PassState) → get_elem? qs i ≡ some q → IsGiven n i q) → AreAll m qs
@@ -202,6 +214,8 @@ module _ {L G : Type 0} (contents : L → Option Pages) (m : Manager L G) (fork 
         joined = ap (λ (v : View). v.joined) first ∙ h.joined;
         spent = spent_each m.table.table.shared.table_id (q ∷ qs) (λ i x at. let k = each i x at in (k.table, k.spent));
         fronts = fronted_each (base_of m.table) (q ∷ qs) (λ i x at. (each i x at).front);
+        queues = listed_each m (q ∷ qs) (λ i x at. (each i x at).queue);
+        parts = parts_each n (q ∷ qs) more counted (λ i x at. let k = each i x at in (k.rest, k.part));
       }
 
   module _ (n : ℕ) (ps qs : List PassState) (new : AreNewPasses contents m n ps) (several : 1 < n) (parts : ReadParts contents m 0 fork (workers_in ps) (workers_in qs)) (last : StaysBeside contents m ps qs) where

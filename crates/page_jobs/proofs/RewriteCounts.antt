@@ -6,7 +6,8 @@ use mathlib.Core.Option.{some, some-ne-none, some-injective}
 use lib.ListN.{get_elem?}
 use Rattle.pin_core.specs.declared.view.Call.{Call}
 use Rattle.pin_core.specs.declared.view.Call.TheVariants.{Read, Write}
-use Rattle.history_core.proofs.Calls.{at_both, total-both}
+use Rattle.grid.proofs.Sums.{total-both}
+use Rattle.history_core.proofs.Calls.{at_both}
 use Rattle.history_core.specs.Log.{write_weight, weight_at, writes_in, writes_at}
 use Rattle.grid.specs.Shape.{total}
 use Rattle.grid.proofs.Lists.{at_longer}

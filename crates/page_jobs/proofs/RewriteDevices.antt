@@ -17,7 +17,8 @@ use Rattle.pin_core.specs.declared.view.View.{View}
 use Rattle.pin_core.specs.State.{Page}
 use Rattle.history_core.specs.Log.{Entry, image, tag_in, end_of, place_of, writes_in}
 use Rattle.history_core.specs.State.{stored, failed}
-use Rattle.history_core.proofs.Calls.{at_both, total-both}
+use Rattle.grid.proofs.Sums.{total-both}
+use Rattle.history_core.proofs.Calls.{at_both}
 use Rattle.table_rule.specs.declared.opening.Opening.{Opening}
 use Rattle.table_rule.specs.Layout.{lane_of_tag, tag_lane}
 use Rattle.table_rule.specs.Shows.{Devices, IsPlaced}

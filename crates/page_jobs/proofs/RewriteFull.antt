@@ -14,7 +14,7 @@ use Rattle.history_core.proofs.Images.{images_alone}
 use Rattle.history_core.proofs.Logs.{images_end}
 use Rattle.history_core.specs.Log.{record_size, write_weight, writes_in}
 use Rattle.history_core.specs.State.{last_position}
-use Rattle.history_core.proofs.Calls.{total-both}
+use Rattle.grid.proofs.Sums.{total-both}
 use Rattle.table_rule.specs.Shows.{Devices}
 use Rattle.frame_table.specs.Seats.{base_of}
 use Rattle.wal_flush.specs.declared.inserts.InsertError.{InsertError}

@@ -5,7 +5,8 @@ use lib.ListN.{get_elem?}
 use Rattle.grid.specs.Shape.{total}
 use Rattle.pin_core.specs.declared.view.Call.{Call}
 use Rattle.history_core.specs.Log.{writes_in}
-use Rattle.history_core.proofs.Calls.{at_both, total-both}
+use Rattle.grid.proofs.Sums.{total-both}
+use Rattle.history_core.proofs.Calls.{at_both}
 use Rattle.backend_pass.specs.Closing.{calls_in_order, calls_of_passes}
 use Rattle.backend_pass.specs.Managers.{first_in, is_first, others_in}
 use Rattle.backend_pass.specs.Passes.{PassState}

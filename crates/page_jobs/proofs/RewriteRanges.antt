@@ -6,7 +6,8 @@ use mathlib.Core.Logic.{dite}
 use native.Mathlib.Decide.{ℕ_discrete}
 use mathlib.Core.Option.{some, some-ne-none, some-injective}
 use lib.ListN.{get_elem?}
-use Rattle.history_core.proofs.Calls.{at_both, total-both}
+use Rattle.grid.proofs.Sums.{total-both}
+use Rattle.history_core.proofs.Calls.{at_both}
 use Rattle.grid.specs.Shape.{total}
 use Rattle.page_jobs.specs.Rewrites.{AreFrom, Outcome, outcome_block}
 use Rattle.page_jobs.specs.RewriteEnds.{AreParts, BackendCalls, DidAll, all_done, block_weight, times}

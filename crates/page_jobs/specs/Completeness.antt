@@ -6,10 +6,10 @@ use Rattle.segment_store.specs.Contents.{Pages}
 use Rattle.history_core.specs.Log.{record_size}
 use Rattle.history_core.specs.State.{last_position}
 use Rattle.backend_pass.specs.declared.manager.Manager.{Manager}
-use Rattle.backend_pass.specs.Passes.{PassState}
+use Rattle.backend_pass.specs.Passes.{NoDeviceFails, PassState}
 use Rattle.backend_pass.specs.Reading.{NothingFails}
 use Rattle.page_jobs.specs.declared.ending.JobError.{JobError}
-use Rattle.page_jobs.specs.declared.ending.JobError.TheVariants.{LogFull, Memory}
+use Rattle.page_jobs.specs.declared.ending.JobError.TheVariants.{LogFull, LogShort, Memory}
 use Rattle.page_jobs.specs.declared.ending.Totals.{Totals}
 
 -- the job ended well, or there was no memory
@@ -27,6 +27,19 @@ abbrev pub IsDoneFullOrMemory : Result Totals JobError → Type 0
 IsDoneFullOrMemory (Ok totals) = Unit {0}
 IsDoneFullOrMemory (Err (LogFull end)) = last_position < end + record_size
 IsDoneFullOrMemory (Err e) = e ≡ Memory
+
+-- a scan or a dump ended well, or there was no memory, or a page was past the log's end; a rewrite ended so, or as the log was full
+abbrev pub IsDoneShortOrMemory : Result Totals JobError → Type 0
+IsDoneShortOrMemory (Err (LogShort lsn end)) = Unit {0}
+IsDoneShortOrMemory r = IsDoneOrMemory r
+
+abbrev pub IsDoneFullShortOrMemory : Result Totals JobError → Type 0
+IsDoneFullShortOrMemory (Err (LogShort lsn end)) = Unit {0}
+IsDoneFullShortOrMemory r = IsDoneFullOrMemory r
+
+-- for none of the passes a device failed
+abbrev pub NoDeviceFailsIn : List PassState → List PassState → Type 0
+NoDeviceFailsIn ps qs = (w : ℕ) (p q : PassState) → get_elem? ps w ≡ some p → get_elem? qs w ≡ some q → NoDeviceFails p q
 
 -- for none of the passes a device failed, and none could meet a page that can't be written
 abbrev pub NothingFailsIn : {L G : Type 0} → (L → Option Pages) → Manager L G → List PassState → List PassState → Type 0

@@ -3,7 +3,7 @@ ghost use Rattle.std.specs.Prelude.{◌≡◌, ◌<◌, ◌≤◌, ◌⊎◌, �
 ghost use Rattle.page_jobs.specs.declared.ending.JobError.TheVariants.{Memory};
 ghost use Rattle.page_jobs.specs.declared.ending.Totals.{Totals};
 ghost use Rattle.page_jobs.specs.Beside.{EndsBeside, StaysBeside, WorkIsRefused, WorksBeside};
-ghost use Rattle.page_jobs.specs.Completeness.{IsDoneFullOrMemory, NothingFailsIn};
+ghost use Rattle.page_jobs.specs.Completeness.{IsDoneFullOrMemory, IsDoneFullShortOrMemory, NoDeviceFailsIn, NothingFailsIn};
 ghost use Rattle.page_jobs.specs.Dealt.{AllDone, IsReady};
 ghost use Rattle.page_jobs.specs.Ending.{totals_of_rewrite};
 ghost use Rattle.page_jobs.specs.Jobs.{HaveNoTokens, workers_in};
@@ -171,6 +171,9 @@ pub fn rewrite<
     ensures met { OnOk result.end (MeetNothing passes.items result.passes.items) }
     ensures done { IfOk result.end (RewritesFork L.contents manager.now rel.0 fork (workers_in passes.items) (workers_in result.passes.items)) }
     ensures cause { IfErr result.end (EndsRewrite L.contents manager.now rel.0 fork passes.items result.passes.items) }
+    // Where no device fails for any of the passes, it ends well, out of memory, at a page past the log's end, or as the log is full.
+    ensures short { NoDeviceFailsIn passes.items result.passes.items
+        → IsDoneFullShortOrMemory result.end }
     ensures complete { NothingFailsIn L.contents manager.now passes.items result.passes.items
         → IsDoneFullOrMemory result.end }
 {

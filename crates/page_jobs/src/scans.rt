@@ -1,5 +1,5 @@
 //! Scans and dumps.
-ghost use Rattle.std.specs.Prelude.{◌≡◌, ◌<◌, ◌≤◌, ◌⊎◌, List, IfErr, IfOk, OnOk, length, vec_capacity, vec_len, All};
+ghost use Rattle.std.specs.Prelude.{◌≡◌, ◌<◌, ◌≤◌, ◌⊎◌, List, IfErr, IfOk, OnOk, vec_capacity, vec_len, All};
 ghost use Rattle.page_layout.specs.Dump.{dump_text};
 ghost use Rattle.page_layout.specs.Scan.{scan_text};
 ghost use Rattle.pin_core.specs.State.{Page};
@@ -9,7 +9,7 @@ ghost use Rattle.frame_table.specs.Seats.{base_of};
 ghost use Rattle.page_jobs.specs.declared.ending.JobError.TheVariants.{Memory, OutFault};
 ghost use Rattle.page_jobs.specs.declared.printing.Lines.TheVariants.{Dump, Scan};
 ghost use Rattle.page_jobs.specs.Beside.{EndsBeside, StaysBeside, WorkIsRefused, WorksBeside};
-ghost use Rattle.page_jobs.specs.Completeness.{IsDoneOrMemory, NothingFailsIn, OutIsQuiet};
+ghost use Rattle.page_jobs.specs.Completeness.{IsDoneOrMemory, IsDoneShortOrMemory, NoDeviceFailsIn, NothingFailsIn, OutIsQuiet};
 ghost use Rattle.page_jobs.specs.Dealt.{HaveWorked, IsReady};
 ghost use Rattle.page_jobs.specs.Ending.{as_done};
 ghost use Rattle.page_jobs.specs.Jobs.{AllAtBase, AnyMeets, EndsJob, HaveNoTokens, IsOrigin, ReadParts, ReadsAll, workers_in};
@@ -166,6 +166,9 @@ fn run_job<
     ensures quiet { OnOk result.end (O.faults out.new ≡ O.faults out.old) }
     ensures later { O.faults out.old ≤ O.faults out.new }
     ensures cause { IfErr result.end (EndsJob L.contents manager.now job.rel.0 job.fork passes.items result.passes.items (O.faults out.old) (O.faults out.new)) }
+    // Where no device fails for any of the passes, it ends well, out of memory, or at a page past the log's end.
+    ensures short { NoDeviceFailsIn passes.items result.passes.items
+        → OutIsQuiet (O.faults out.old) (O.faults out.new) → IsDoneShortOrMemory result.end }
     ensures complete { NothingFailsIn L.contents manager.now passes.items result.passes.items
         → OutIsQuiet (O.faults out.old) (O.faults out.new) → IsDoneOrMemory result.end }
 {
@@ -216,6 +219,9 @@ pub fn scan<
     ensures quiet { OnOk result.end (O.faults out.new ≡ O.faults out.old) }
     ensures later { O.faults out.old ≤ O.faults out.new }
     ensures cause { IfErr result.end (EndsJob L.contents manager.now rel.0 fork passes.items result.passes.items (O.faults out.old) (O.faults out.new)) }
+    // Where no device fails for any of the passes, it ends well, out of memory, or at a page past the log's end.
+    ensures short { NoDeviceFailsIn passes.items result.passes.items
+        → OutIsQuiet (O.faults out.old) (O.faults out.new) → IsDoneShortOrMemory result.end }
     ensures complete { NothingFailsIn L.contents manager.now passes.items result.passes.items
         → OutIsQuiet (O.faults out.old) (O.faults out.new) → IsDoneOrMemory result.end }
 {
@@ -258,6 +264,9 @@ pub fn dump<
     ensures quiet { OnOk result.end (O.faults out.new ≡ O.faults out.old) }
     ensures later { O.faults out.old ≤ O.faults out.new }
     ensures cause { IfErr result.end (EndsJob L.contents manager.now rel.0 fork passes.items result.passes.items (O.faults out.old) (O.faults out.new)) }
+    // Where no device fails for any of the passes, it ends well, out of memory, or at a page past the log's end.
+    ensures short { NoDeviceFailsIn passes.items result.passes.items
+        → OutIsQuiet (O.faults out.old) (O.faults out.new) → IsDoneShortOrMemory result.end }
     ensures complete { NothingFailsIn L.contents manager.now passes.items result.passes.items
         → OutIsQuiet (O.faults out.old) (O.faults out.new) → IsDoneOrMemory result.end }
 {

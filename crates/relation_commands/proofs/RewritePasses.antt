@@ -1,5 +1,5 @@
 -- The passes of a rewrite, from their start to the close.
-use Rattle.std.proofs.Common.{◌≡◌, ℕ, zero, suc, ◌-◌, ◌<◌, ◌≤◌, ◌⊎◌, List, [], ◌∷◌, append-nil, length, Option, refl, sym, ap, ◌∙◌, subst, inl, inr, ⊎_elim, arith}
+use Rattle.std.proofs.Common.{◌≡◌, ℕ, zero, suc, ◌+◌, ◌-◌, ◌<◌, ◌≤◌, ◌⊎◌, List, [], ◌∷◌, append-nil, length, Option, refl, sym, ap, ◌∙◌, subst, inl, inr, ⊎_elim, arith}
 use mathlib.Core.Logic.{dite}
 use mathlib.Core.Option.{some, some-injective, some-ne-none}
 use native.Mathlib.Decide.{dec_le}
@@ -12,7 +12,7 @@ use Rattle.frame_table.specs.Seats.{base_of, frames_of, lanes_in, opened_of}
 use Rattle.frame_table.proofs.Resting.{new_rests}
 use Rattle.backend_pass.specs.declared.manager.Manager.{Manager}
 use Rattle.backend_pass.specs.Managers.{AreAll, AreNewPasses, Belongs}
-use Rattle.backend_pass.specs.Passes.{KeepsCallers, PassState}
+use Rattle.backend_pass.specs.Passes.{KeepsCallers, PassState, PassOwn}
 use Rattle.backend_pass.proofs.Keeping.{callers_none}
 use Rattle.checkpointer.specs.Stages.{HasNoLock}
 use Rattle.checkpointer.proofs.Keeping.{no_lock_after}
@@ -111,6 +111,9 @@ module _ {L G : Type 0} (contents : L → Option Pages) (m : Manager L G) where
         number = keeps.keeps.number ∙ h.number;
         next = λ first. keeps.keeps.next ∙ h.next first;
         joined = keeps.keeps.joined ∙ h.joined;
+        queue = belongs.queue;
+        rest = λ first. ap (λ (x : PassOwn). x.queue.known.parts + length ps) keeps.keeps.own ∙ h.rest first;
+        part = λ other. ap (λ (x : PassOwn). x.queue.known.parts) keeps.keeps.own ∙ h.part other;
       }
 
       given_at : (i : ℕ) (z : PassState) → get_elem? zs i ≡ some z → IsGiven contents m fork (length ps) i z

@@ -1,9 +1,9 @@
 -- Passes that are left as they were.
-use Rattle.std.proofs.Common.{◌≡◌, ◌∙◌, ℕ, List, ◌++◌, ◌∷◌, [], Option}
+use Rattle.std.proofs.Common.{◌≡◌, ◌∙◌, ◌+◌, ap, ℕ, List, ◌++◌, ◌∷◌, [], Option}
 use Rattle.segment_store.specs.Contents.{Pages}
 use Rattle.backend_pass.specs.declared.manager.Manager.{Manager}
 use Rattle.backend_pass.specs.Managers.{AreNewPasses, Belongs}
-use Rattle.backend_pass.specs.Passes.{KeepsCallers, PassState}
+use Rattle.backend_pass.specs.Passes.{KeepsCallers, PassOwn, PassState}
 use Rattle.manager_tests.proofs.Freeing.{three_free, three_unlocked}
 use Rattle.sync_tests.specs.Idle.{IsFreeAndUnlocked}
 
@@ -12,7 +12,7 @@ module _ {L G : Type 0} (contents : L → Option Pages) (m : Manager L G) where
   pub idle_on : (i : ℕ) (p q : PassState) → IsFreeAndUnlocked contents m i p → Belongs contents m q → KeepsCallers p q → IsFreeAndUnlocked contents m i q
   idle_on i p q idle b k = record {
     free = record {
-      is = record { belongs = b; number = k.keeps.number ∙ idle.free.is.number; joined = k.keeps.joined ∙ idle.free.is.joined; next = λ first. k.keeps.next ∙ idle.free.is.next first };
+      is = record { belongs = b; number = k.keeps.number ∙ idle.free.is.number; joined = k.keeps.joined ∙ idle.free.is.joined; next = λ first. k.keeps.next ∙ idle.free.is.next first; rest = λ first. ap (λ (x : PassOwn). x.queue.known.parts + 3) k.keeps.own ∙ idle.free.is.rest first; part = λ other. ap (λ (x : PassOwn). x.queue.known.parts) k.keeps.own ∙ idle.free.is.part other };
       spent = k.tokens ∙ idle.free.spent;
     };
     unlocked = λ f. k.locks f ∙ idle.unlocked f;

@@ -1,5 +1,5 @@
 -- The passes of a manager of two, after a rewrite and a checkpoint.
-use Rattle.std.proofs.Common.{◌≡◌, ◌<◌, ◌∙◌, ℕ, List, [], ◌∷◌, ◌++◌, length, Bool, true, false, if◌then◌else◌, nat_eq, Option, refl, sym, ap, subst, arith}
+use Rattle.std.proofs.Common.{◌≡◌, ◌<◌, ◌+◌, ◌∙◌, ℕ, List, [], ◌∷◌, ◌++◌, length, Bool, true, false, if◌then◌else◌, nat_eq, Option, refl, sym, ap, subst, arith}
 use mathlib.Core.Option.{some}
 use lib.ListN.{get_elem?}
 use Rattle.segment_store.specs.Contents.{Pages}
@@ -10,7 +10,8 @@ use Rattle.pin_core.proofs.Views.{link_new}
 use Rattle.frame_table.specs.Seats.{base_of, frames_of, lanes_in}
 use Rattle.backend_pass.specs.declared.manager.Manager.{Manager}
 use Rattle.backend_pass.specs.Managers.{AreAll, AreNewPasses, Belongs, IsNewPass, first_in, is_first}
-use Rattle.backend_pass.specs.Passes.{KeepsCallers, PassState}
+use Rattle.grid.specs.Shape.{total}
+use Rattle.backend_pass.specs.Passes.{KeepsCallers, PassOwn, PassState}
 use Rattle.checkpointer.specs.Stages.{HasNoLock}
 use Rattle.page_jobs.specs.Beside.{StaysBeside, WorksBeside}
 
@@ -28,6 +29,10 @@ chosen : (a b : Bool) (u v w none : View) → v.next ≡ w.next → v.joined ≡
 chosen true b u v w none n j = (refl, refl)
 chosen false true u v w none n j = (n, j)
 chosen false false u v w none n j = (refl, refl)
+
+two_parts : (x z : PassState) → total (λ (p : PassState). p.queue.known.parts) (x ∷ z ∷ []) ≡ x.queue.known.parts + z.queue.known.parts
+unfolding total
+two_parts x z = omega arith
 
 module _ {L G : Type 0} (contents : L → Option Pages) (m : Manager L G) where
   new_has_no_lock : (n i : ℕ) (p : PassState) → IsNewPass contents m n i p → HasNoLock p
@@ -61,4 +66,6 @@ module _ {L G : Type 0} (contents : L → Option Pages) (m : Manager L G) where
             joined = c.1 ∙ sym (ap (λ (v : View). v.joined) one) ∙ a.joined;
             spent = (a.spent.0, a.spent.1, (b.table, k.tokens ∙ a.spent.2.1, tt));
             fronts = (a.fronts.0, (b.front, tt));
+            queues = (a.queues.0, (b.queue, tt));
+            parts = (let whole = a.parts in let same = ap (λ (o : PassOwn). o.queue.known.parts) k.keeps.own in let both = two_parts x q in let now = two_parts x z in omega arith);
           }

@@ -11,6 +11,7 @@ use Rattle.atomic_table.specs.declared.shared.Seat.{Seat}
 use Rattle.pin_core.specs.declared.view.LaneHold.{LaneHold}
 use Rattle.pin_core.specs.declared.view.LogHold.{LogHold}
 use Rattle.pin_core.specs.declared.view.PartitionHold.{PartitionHold}
+use Rattle.pin_core.specs.declared.view.Role.TheVariants.{Absent}
 use Rattle.pin_core.specs.declared.view.View.{View}
 use Rattle.pin_core.specs.State.{link, hold, no_lane, no_partition, joined_view}
 use Rattle.pin_core.specs.Steps.{HoldsNothing, HoldsNothingAt}
@@ -19,7 +20,7 @@ use Rattle.frame_table.specs.declared.table.FrameTable.{FrameTable}
 use Rattle.frame_table.specs.Closes.{CanClose}
 use Rattle.table_rule.specs.declared.turn.Turn.TheVariants.{Partition}
 use Rattle.frame_table.specs.Latches.{SameWork, view_counted}
-use Rattle.frame_table.specs.Seats.{Fits, HoldsHeader, Looked, SameSeat, Touches, locked_link, pinned_link, unlocked_link, unpinned_link}
+use Rattle.frame_table.specs.Seats.{Fits, HoldsHeader, Looked, SameSeat, Touches, locked_link, pinned_link, unlocked_link, unpinned_link, victim_link}
 use Rattle.frame_table.proofs.Resting.{rests_on, free_unpinned, new_rests}
 use Rattle.frame_table.proofs.Told.{looks_link, touches_on}
 use Rattle.frame_table.proofs.SameSeats.{same_seat_on}
@@ -31,7 +32,9 @@ use Rattle.buffer_frames.specs.declared.reading.BlockError.{BlockError}
 use Rattle.buffer_frames.specs.declared.reading.BlockError.TheVariants.{NoFrame, ReadFault, Unsound}
 use Rattle.buffer_frames.specs.Reads.{ReadAnswer}
 use Rattle.buffer_frames.specs.Stages.{Pins}
-use Rattle.buffer_frames.proofs.Calm.{pins_unpinned}
+use Rattle.clock_sweep.specs.Keeping.{GetsHeader}
+use Rattle.buffer_frames.proofs.Calm.{pins_unpinned, victim_unpinned}
+use Rattle.buffer_frames.proofs.Heading.{victim_pinned}
 use Rattle.held_pins.proofs.Resting.{new_has_no_tokens, rests_hold_nothing}
 use Rattle.table_tests.specs.Work.{IsFresh, KeepsSeat, SeatHoldsNothing}
 
@@ -146,3 +149,23 @@ module _ {L G : Type 0} (t : FrameTable L G) (s s' : Seat (Value L G) View) (p :
     };
     joined = (let a = ap (λ (v : View). v.joined) work in let b = ap (λ (v : View). v.next) work in let d = c.joined in omega arith);
   }
+
+-- a victim that is pinned and given up again leaves a seat that holds nothing
+module _ {L G : Type 0} (t : FrameTable L G) (s s1 s2 s3 : Seat (Value L G) View) (h f p word : ℕ) where
+  pub rests_freed : IsFresh t s → SameSeat s s1 → GetsHeader h word s.me.0 s1.me.0 → (link s.me.0 h).role ≡ Absent → f ≡ h
+      → SameSeat s1 s2 → Touches f s1.me.0 s2.me.0 → p ≡ f → link s2.me.0 f ≡ victim_link (link s1.me.0 f)
+      → SameSeat s2 s3 → Touches p s2.me.0 s3.me.0 → Looked (unpinned_link (link s2.me.0 p)) (link s3.me.0 p) → SeatHoldsNothing t s3
+  rests_freed fresh one gets absent is two touches same pinned three after unpinned =
+      let r = fresh.rests in
+      let victim = victim_pinned no_tokens h f word s.me.0 s1.me.0 is r.links gets absent p s2.me.0 same touches.others pinned in
+      let links = victim_unpinned no_tokens p s2.me.0 s3.me.0 victim after.others unpinned in record {
+        fits = three.table ∙ two.table ∙ one.table ∙ fresh.fits;
+        live = ap (λ (v : View). v.emptied) after.self ∙ ap (λ (v : View). v.emptied) touches.self ∙ ap (λ (v : View). v.emptied) gets.aside ∙ r.quiet.live;
+        hand = three.hand ∙ two.hand ∙ one.hand ∙ fresh.hand;
+        free = record {
+          frames = λ g. let l = links g in record { no_pin = l.role; no_header = l.calm.no_header; no_content = l.unlocked refl; no_io = l.calm.no_io; page_home = l.calm.page_home; no_wait = l.calm.no_wait };
+          partitions = λ n. ap (λ (l : List PartitionHold). (slice_index_or l n no_partition).held) (after.partitions ∙ touches.partitions ∙ ap (λ (v : View). v.partitions) gets.aside) ∙ ap (λ (k : PartitionHold). k.held) (r.latches n);
+          lanes = λ n. ap (λ (l : List LaneHold). (slice_index_or l n no_lane).held) (ap (λ (v : View). v.lanes) after.self ∙ ap (λ (v : View). v.lanes) touches.self ∙ ap (λ (v : View). v.lanes) gets.aside) ∙ r.quiet.free n;
+          log = ap (λ (v : View). v.log.held) after.self ∙ ap (λ (v : View). v.log.held) touches.self ∙ ap (λ (v : View). v.log.held) gets.aside ∙ ap (λ (k : LogHold). k.held) r.quiet.log;
+        };
+      }

@@ -1,5 +1,6 @@
 //! A read whose hint names a frame that can't be pinned.
 ghost use Rattle.std.specs.Prelude.{◌≡◌, ◌<◌};
+ghost use Rattle.clock_sweep.specs.FreeLists.{IsFreeList};
 ghost use Rattle.frame_table.specs.Closes.{CanClose};
 ghost use Rattle.frame_table.specs.Seats.{frames_of};
 ghost use Rattle.held_pins.specs.Tokens.{no_tokens};
@@ -9,7 +10,7 @@ use crate::fixture::{Table, TableSeat};
 use block_tag::{Fork, RelNo, Tag};
 use buffer_frames::{HintSeen, PinnedBlock, Sought, read_block};
 use cleanup_lock::unpin_and_wake;
-use clock_sweep::{Census, Sweep};
+use clock_sweep::{Census, QueuePass, Sweep};
 use held_pins::HeldPins;
 use map_partitions::store_hint;
 use page_layout::Page;
@@ -37,10 +38,12 @@ fn read_released<R: Wait>(
     seat: &mut TableSeat,
     held: &HeldPins,
     sweep: &Sweep,
+    queue: &mut QueuePass,
     census: &mut Census,
     page: &mut Page,
 ) -> Sighted
     requires fresh { IsFresh table.now seat.old }
+    requires queue { IsFreeList table.now sweep.now queue.old }
     requires census { census.old.frames ≡ frames_of table.now }
     requires none { held.now ≡ no_tokens }
     ensures { SeatHoldsNothing table.now seat.new }
@@ -61,6 +64,7 @@ fn read_released<R: Wait>(
         seat,
         held,
         sweep,
+        queue,
         census,
         page,
         &BLOCK,
@@ -94,12 +98,21 @@ fn sight_hint<R: Wait>(
     requires frame { frame < frames_of table.now }
     ensures { SeatHoldsNothing table.now seat.new }
 {
-    let sweep = Sweep::build(alloc, table.frames())?;
+    let (sweep, mut queue) = Sweep::build(alloc, table.frames())?;
     let mut census = Census::build(alloc, table.frames())?;
     let mut page = Page::zeroed(alloc)?;
     let held = HeldPins::build(alloc)?;
     store_hint(table, seat, &BLOCK, frame);
-    let sighted = read_released(table, rt, seat, &held, &sweep, &mut census, &mut page);
+    let sighted = read_released(
+        table,
+        rt,
+        seat,
+        &held,
+        &sweep,
+        &mut queue,
+        &mut census,
+        &mut page,
+    );
     held.spend();
     Ok(sighted)
 }

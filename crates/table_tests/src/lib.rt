@@ -1,8 +1,10 @@
-//! Tests of a small table that has no manager: its pins, its hints, its values and the positions of its log.
+//! Tests of a small table that has no manager: its pins, its free list, its hints, its values and the positions of its log.
 #![tactic(auto)]
 
 #[cfg(test)]
 mod fixture;
+#[cfg(test)]
+mod freeing;
 #[cfg(test)]
 mod hinting;
 #[cfg(test)]

@@ -1,5 +1,6 @@
 //! Tables that are built and closed.
 use crate::fixture::table;
+use crate::freeing::{Freed, free_by_another};
 use crate::hinting::{Sighted, sight_by_two};
 use crate::pinning::{refusal, refusal_of_two};
 use crate::positions::positions;
@@ -24,6 +25,20 @@ fn a_header_that_another_has_is_locked(rt: HostRuntime) -> Result<(), Fail> {
     let refused = refusal_of_two(&table, &rt, &mut first, 3);
     let (_lanes, _log) = table.close(first);
     assert_eq!(rt; refused, Some(TryPin::Locked { word: 4194304 }));
+    Ok(())
+}
+
+/// A list of 16 frames has no room for one of them, until a victim is taken from it.
+#[test]
+fn a_victim_is_free_again(rt: HostRuntime) -> Result<(), Fail> {
+    let (table, mut seat) = table(rt.alloc())?;
+    let freed = free_by_another(&table, &rt, &mut seat, rt.alloc());
+    let (_lanes, _log) = table.close(seat);
+    let first = Freed {
+        frame: 0,
+        pushed: true,
+    };
+    assert_eq!(rt; freed?, (false, Some(first)));
     Ok(())
 }
 

@@ -8,7 +8,7 @@ use Rattle.frame_table.specs.Seats.{lanes_in}
 use Rattle.held_pins.specs.Rests.{HasNoDevice, HasNoLatch, LinksRest}
 use Rattle.buffer_frames.specs.declared.flushing.FlushedPage.TheVariants.{Written}
 use Rattle.buffer_frames.specs.Flushing.{EndedInError, EndedWritten, FlushAnswer, met_flushing}
-use Rattle.buffer_frames.specs.Working.{WorksAt}
+use Rattle.buffer_frames.specs.Working.{KeepsNotes, WorksAt}
 use Rattle.backend_pass.specs.Passes.{view_in}
 use Rattle.backend_pass.proofs.Seated.{moved, moved_one, same_badge}
 use Rattle.backend_pass.proofs.flushing.flush_seated.Goals as goal
@@ -52,6 +52,11 @@ pub returns-clause-works : goal.returns-clause-works
 returns-clause-works g c =
     let before = c.take_seat-seat.ensures.view in
     moved (WorksAt c.args.frame) (view_in c.args.badge.now.views) (view_in c.return_seat.new.badge.views) c.take_seat-seat.result.me.0 c.flush_frame-answer.new.seat.me.0 before c.return_seat.ensures.view c.flush_frame-answer.ensures.works
+
+pub returns-clause-notes : goal.returns-clause-notes
+returns-clause-notes g c =
+    let before = c.take_seat-seat.ensures.view in
+    moved (λ v w. KeepsNotes (link v c.args.frame) (link w c.args.frame)) (view_in c.args.badge.now.views) (view_in c.return_seat.new.badge.views) c.take_seat-seat.result.me.0 c.flush_frame-answer.new.seat.me.0 before c.return_seat.ensures.view c.flush_frame-answer.ensures.notes
 
 pub returns-clause-unlocked : goal.returns-clause-unlocked
 returns-clause-unlocked g c = moved_one (λ (w : View). (link w c.args.frame).content ≡ Unlocked) (view_in c.return_seat.new.badge.views) c.flush_frame-answer.new.seat.me.0 c.return_seat.ensures.view c.flush_frame-answer.ensures.unlocked

@@ -65,7 +65,7 @@ returns-clause-met g c =
 pub returns-clause-calls : goal.returns-clause-calls
 returns-clause-calls g c =
     let before = c.take_seat-seat.ensures.view in
-    moved (λ v w. ReadCalls (frames_of c.args.manager.now.table) c.args.tag.now c.args.held.now (is_some c.args.ring.now) c.read_block-answer.new.sought.hint (lane_number c.args.tag.now (lanes_in c.args.manager.now.table)) v w c.read_block-answer.result)
+    moved (λ v w. ReadCalls (frames_of c.args.manager.now.table) c.args.tag.now c.args.held.now (is_some c.args.ring.now) c.read_block-answer.new.sought.hint c.args.queue.now c.read_block-answer.new.queue (lane_number c.args.tag.now (lanes_in c.args.manager.now.table)) v w c.read_block-answer.result)
     (view_in c.args.badge.now.views) (view_in c.return_seat.new.badge.views) c.take_seat-seat.result.me.0 c.read_block-answer.new.seat.me.0 before c.return_seat.ensures.view c.read_block-answer.ensures.calls
 
 pub returns-clause-locks : goal.returns-clause-locks

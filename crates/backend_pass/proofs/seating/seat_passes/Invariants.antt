@@ -1,6 +1,7 @@
-use Rattle.std.proofs.Common.{◌≡◌, ◌≤◌, ◌+◌, vec_len}
+use Rattle.std.proofs.Common.{◌≡◌, ◌≤◌, ◌+◌, [], vec_len}
 use Rattle.std.specs.Prelude.{vec_capacity}
 use Rattle.clock_sweep.specs.CensusList.{new_census}
+use Rattle.clock_sweep.specs.FreeLists.{IsFreeList}
 use Rattle.frame_table.specs.Seats.{frames_of}
 use Rattle.held_pins.specs.Tokens.{no_tokens}
 use Rattle.buffer_frames.specs.declared.hinting.HintSeen.TheVariants.{Unused}
@@ -18,6 +19,10 @@ invariant-loop-number g l = record {
   tokens : l.first.tokens ≡ no_tokens;
   census : l.first.census ≡ new_census (frames_of l.fn.manager.table);
   hint : l.first.hint ≡ Unused;
+  list : IsFreeList {L = g.row.L.Denot} {G = g.row.G.Denot} l.fn.manager.table l.fn.manager.sweep l.first.queue;
+  parts : l.first.queue.known.parts + l.number ≡ 65;
+  pushed : l.first.queue.known.pushed ≡ [];
+  taken : l.first.queue.known.taken ≡ [];
   counted : vec_len l.passes + 1 ≡ l.number;
   each : OthersAreNew {L = g.row.L.Denot} {G = g.row.G.Denot} g.L.BlockLane.contents l.fn.manager l.fn.count l.passes.items;
   wide : l.fn.count ≤ vec_capacity l.passes;

@@ -29,6 +29,9 @@ returns-in-Err-clause-rounds g c =
 pub returns-in-Err-clause-cause : goal.returns-in-Err-clause-cause
 returns-in-Err-clause-cause g c = refuses_going {L = g.row.L.Denot} {G = g.row.G.Denot} g.L.BlockLane.contents c.args.manager.now c.args.pass.now c.loop-looked.pass c.sync_one.new.self c.hand-hand.result c.loop-looked.looked c.loop-looked.written c.frame_past-frame.result c.in-Err.why c.loop-looked.invariant.going c.in-Err.ensures.syncs c.in-Err.ensures.ended c.in-Err.ensures.met
 
+pub returns-in-Err-clause-short : goal.returns-in-Err-clause-short
+returns-in-Err-clause-short g c n = c.in-Err.ensures.short record { up = n.up; met = n.met ∙ sym c.loop-looked.invariant.going.met }
+
 pub returns-in-Err-clause-complete : goal.returns-in-Err-clause-complete
 returns-in-Err-clause-complete g c n = c.in-Err.ensures.complete (nothing_fails {L = g.row.L.Denot} {G = g.row.G.Denot} g.L.BlockLane.contents c.args.manager.now c.args.pass.now c.loop-looked.pass c.sync_one.new.self c.hand-hand.result c.loop-looked.looked c.loop-looked.written c.loop-looked.invariant.going n)
 

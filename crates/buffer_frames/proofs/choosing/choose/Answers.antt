@@ -1,4 +1,5 @@
 use Rattle.frame_table.proofs.Told.{grows_on}
+use Rattle.buffer_frames.proofs.Bringing.{chooses_unpushed, leaves_unpushed}
 use Rattle.buffer_frames.proofs.Heading.{victim_pinned}
 use Rattle.buffer_frames.proofs.Outside.{shape_keeping}
 use Rattle.held_pins.proofs.Keeping.{same_locks_looked}
@@ -23,3 +24,12 @@ returns-in-Ok-clause-locks g c = let v = c.in-Ok.ensures in let p = c.victim_pin
 
 pub returns-in-Err-clause-locks : goal.returns-in-Err-clause-locks
 returns-in-Err-clause-locks g c = same_locks_looked c.args.seat.now.me.0 c.victim.new.seat.me.0 c.in-Err.ensures.left.links
+
+pub returns-in-Err-clause-cause : goal.returns-in-Err-clause-cause
+returns-in-Err-clause-cause g c = let e = c.in-Err.ensures in record { queue = c.args.queue.now; popped = c.victim.new.queue; cause = e.cause; counted = e.counted; pinned = e.pinned }
+
+pub returns-in-Ok-clause-unpushed : goal.returns-in-Ok-clause-unpushed
+returns-in-Ok-clause-unpushed g c = chooses_unpushed _ _ _ _ _ _ _ c.in-Ok.ensures.did
+
+pub returns-in-Err-clause-unpushed : goal.returns-in-Err-clause-unpushed
+returns-in-Err-clause-unpushed g c = leaves_unpushed _ _ _ _ _ c.in-Err.ensures.cause.free

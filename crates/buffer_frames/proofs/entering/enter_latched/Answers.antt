@@ -1,9 +1,14 @@
-use Rattle.std.proofs.Common.{ℕ, sym, subst}
-use Rattle.block_tag.specs.Names.{partition_number}
+use Rattle.std.proofs.Common.{ℕ, Some, true, refl, sym, ap, subst, ◌∙◌}
+use Rattle.block_tag.specs.Names.{packed_tag, partition_number}
+use Rattle.pin_core.specs.Kinds as kinds
+use Rattle.frame_table.specs.Kinds.{pins}
+use Rattle.frame_table.specs.FrameSteps.{Tried}
+use Rattle.map_partitions.specs.Partition.{entries_seen}
+use Rattle.buffer_frames.specs.Bringing.{enters, pins_other}
 use Rattle.frame_table.proofs.Told.{grows_on}
 use Rattle.buffer_frames.specs.Stages.{HasVictim}
 use Rattle.buffer_frames.proofs.Calm.{victim_worked}
-use Rattle.buffer_frames.proofs.Outside.{links_worked}
+use Rattle.buffer_frames.proofs.Outside.{grows_outside, links_worked}
 use Rattle.held_pins.proofs.Keeping.{latch_same, same_locks_on}
 use Rattle.buffer_frames.proofs.SameLocks.{same_locks_mapped}
 use Rattle.buffer_frames.proofs.entering.enter_latched.Goals as goal
@@ -28,3 +33,20 @@ returns-clause-grows g c = grows_on _ c.store_latched.new.seat.me.0 _ (grows_on 
 
 pub returns-clause-latch : goal.returns-clause-latch
 returns-clause-latch g c = latch_same (partition_number c.args.tag) c.store_latched.new.seat.me.0 c.give_up.new.seat.me.0 c.give_up.ensures.partitions c.store_latched.ensures.latch
+
+pub returns-in-Some-clause-brings : goal.returns-in-Some-clause-brings
+returns-in-Some-clause-brings g c = let p = c.pin_other.ensures in let number = partition_number c.args.tag in pins_other record {
+  entries = entries_seen c.find.new.seat.me.0 number;
+  searched = c.find.new.seat.me.0;
+  did = c.find.ensures.did;
+  gives = sym c.find.ensures.found ∙ c.in-Some.is ∙ ap (λ (f : ℕ). Some f) (sym p.frame);
+  given = p.gave_up.0;
+  gave_up = p.gave_up.1;
+  put_back = p.put_back;
+  pinned = subst (λ (f : ℕ). Tried (pins (kinds.pin_mapped (packed_tag c.args.tag) c.args.ring)) f p.gave_up.0 c.pin_other.new.seat.me.0 true) (sym p.frame) p.gave_up.2;
+}
+
+pub returns-then-store_latched-clause-brings : goal.returns-then-store_latched-clause-brings
+returns-then-store_latched-clause-brings g c = enters refl
+    (record { entries = entries_seen c.find.new.seat.me.0 (partition_number c.args.tag); did = c.find.ensures.did; none = sym c.find.ensures.found ∙ c.in_default.is })
+    (grows_outside c.find.new.seat.me.0 c.store_latched.new.seat.me.0 c.store_latched.ensures.grows c.store_latched.ensures.same) refl

@@ -1,12 +1,14 @@
-use Rattle.std.proofs.Common.{ℕ, subst, ◌∙◌}
+use Rattle.std.proofs.Common.{ℕ, refl, subst, ◌∙◌}
 use Rattle.block_tag.specs.Names.{packed_tag}
 use Rattle.frame_table.specs.Seats.{frames_of}
 use Rattle.map_partitions.specs.Hints.{StoresHint}
 use Rattle.frame_table.proofs.SameSeats.{same_seat_on}
+use Rattle.buffer_frames.specs.Bringing.{Brings}
 use Rattle.held_pins.proofs.Keeping.{latches_same, links_same, same_locks_linked, same_locks_on}
 use Rattle.buffer_frames.proofs.Calm.{none_if, pins_worked}
 use Rattle.buffer_frames.proofs.Hints.{store_links, store_partitions, store_searched}
-use Rattle.buffer_frames.proofs.Latching.{latch_left_as}
+use Rattle.buffer_frames.proofs.Latching.{latch_left_as, under_partition}
+use Rattle.frame_table.proofs.Rising.{rises_none}
 use Rattle.frame_table.proofs.Told.{grows_on}
 use Rattle.buffer_frames.proofs.Locating.{works_none}
 use Rattle.buffer_frames.proofs.Outside.{grows_searched, links_worked, searched_under, stands_searched}
@@ -44,6 +46,13 @@ returns-clause-locks g c = same_locks_on c.args.seat.now.me.0 c.give_turn.new.se
 
 pub returns-clause-stored : goal.returns-clause-stored
 returns-clause-stored g c = let k = c.take_counted.ensures in let u = c.give_turn.ensures in record {
+  victim = c.args.victim.frame;
+  chosen = c.args.seat.now.me.0;
+  popped = c.args.queue.now;
+  before = rises_none c.args.seat.now.me.0;
+  holds = c.requires.victim.role;
+  unpushed = refl;
+  brings = under_partition c.args.tag _ (λ a b. Brings c.args.tag c.args.ring c.args.victim.frame c.in_ok-pin.pin.frame a c.args.queue.now b c.enter_latched-entered.new.queue) _ _ _ _ c.partition-partition.ensures.value k.did c.in_ok-pin.ensures.brings u.did;
   pinned = c.give_turn.new.seat.me.0;
   since = grows_searched c.args.seat.now.me.0 c.give_turn.new.seat.me.0
       (grows_on _ c.enter_latched-entered.new.seat.me.0 _ (grows_on _ c.take_counted.new.seat.me.0 _ k.grows c.enter_latched-entered.ensures.grows) u.grows)
@@ -53,3 +62,6 @@ returns-clause-stored g c = let k = c.take_counted.ensures in let u = c.give_tur
   stores = stored g c;
   works = works_none c.in_ok-pin.pin.frame c.store_hint.new.seat.me.0;
 }
+
+pub returns-in_err-pin-clause-unpushed : goal.returns-in_err-pin-clause-unpushed
+returns-in_err-pin-clause-unpushed g c = none_if c.from_residual.result c.in_err-pin.ensures.unpushed

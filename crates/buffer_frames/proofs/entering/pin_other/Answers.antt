@@ -1,5 +1,6 @@
 use Rattle.block_tag.specs.Names.{packed_tag}
 use Rattle.frame_table.proofs.Told.{grows_on}
+use Rattle.buffer_frames.proofs.Bringing.{put_back}
 use Rattle.buffer_frames.proofs.Latching.{finds_same}
 use Rattle.held_pins.proofs.Keeping.{same_locks_on}
 use Rattle.buffer_frames.proofs.entering.pin_other.Goals as goal
@@ -15,3 +16,9 @@ pin_found-requires-clause-remembers g c = c.give_up.ensures.remembers (packed_ta
 
 pub returns-clause-locks : goal.returns-clause-locks
 returns-clause-locks g c = same_locks_on c.args.seat.now.me.0 c.give_up.new.seat.me.0 c.pin_found.new.seat.me.0 c.give_up.ensures.locks c.pin_found.ensures.locks
+
+pub returns-clause-gave_up : goal.returns-clause-gave_up
+returns-clause-gave_up g c = (c.give_up.new.seat.me.0, c.give_up.ensures.did, c.pin_found.ensures.did)
+
+pub returns-clause-put_back : goal.returns-clause-put_back
+returns-clause-put_back g c = put_back c.args.victim.frame _ c.args.queue.now c.free.new.pass c.free.result c.frame-given.ensures c.free.ensures.pushed c.free.ensures.full

@@ -1,5 +1,5 @@
-use Rattle.std.proofs.Common.{◌≡◌, Bool, [], Option, None, refl, inl, subst, ap, ◌∙◌}
-use Rattle.std.specs.Prelude.{IfNone, MatchOption, option_map}
+use Rattle.std.proofs.Common.{◌≡◌, Bool, [], Option, None, refl, inl, subst, sym, ap, ◌∙◌}
+use Rattle.std.specs.Prelude.{IfNone, IfOk, MatchOption, option_map}
 use Rattle.block_tag.specs.Names.{packed_tag}
 use Rattle.pin_core.specs.declared.view.FailedCalls.{FailedCalls}
 use Rattle.frame_table.specs.declared.pin.Pin.{Pin}
@@ -7,11 +7,11 @@ use Rattle.frame_table.specs.Seats.{frames_of}
 use Rattle.frame_table.proofs.Rising.{rises_on}
 use Rattle.held_pins.specs.Rests.{LinksRest}
 use Rattle.held_pins.proofs.Keeping.{same_locks_on}
-use Rattle.buffer_frames.specs.Hinting.{NotesUnlessHad}
+use Rattle.buffer_frames.specs.Hinting.{LeavesHint}
 use Rattle.buffer_frames.specs.Lookups.{LooksUp}
-use Rattle.buffer_frames.specs.Reads.{Locates, PinAnswer}
+use Rattle.buffer_frames.specs.Reads.{Locates, PinAnswer, PinsAndStores}
 use Rattle.buffer_frames.specs.Victims.{met_claimed}
-use Rattle.buffer_frames.proofs.Locating.{answers_missed, locates_now, misses_then, notes_then, turns_then}
+use Rattle.buffer_frames.proofs.Locating.{answers_missed, locates_now, notes_then, turns_then}
 use Rattle.buffer_frames.proofs.Noting.{census_claimed, claim_from}
 use Rattle.buffer_frames.proofs.Outside.{grows_searched, met_searched}
 use Rattle.buffer_frames.proofs.reading.pin_block.Given.{Over}
@@ -24,12 +24,12 @@ returns-in-Some-clause-advances g c = grows_searched c.args.seat.now.me.0 c.look
 pub returns-in-Some-clause-calls : goal.returns-in-Some-clause-calls
 returns-in-Some-clause-calls g c = let u = c.look_up-found in
     let looks = subst (λ (o : Option Pin). LooksUp (frames_of c.args.table.now) c.args.tag.now c.args.held.now c.is_some-ringed.result c.args.seat.now.me.0 u.new.seat.me.0 u.result.1 (option_map Pin.frame o)) c.in-Some.is u.ensures.did in
-    subst (λ (b : Bool). Locates (frames_of c.args.table.now) c.args.tag.now c.args.held.now b u.result.1 c.in-Some.pin.frame [] c.args.seat.now.me.0 u.new.seat.me.0) c.is_some-ringed.ensures
-    (locates_now _ _ _ _ _ c.in-Some.pin.frame c.args.seat.now.me.0 u.new.seat.me.0 looks u.ensures.same)
+    subst (λ (b : Bool). Locates (frames_of c.args.table.now) c.args.tag.now c.args.held.now b u.result.1 c.args.queue.now c.args.queue.now c.in-Some.pin.frame [] c.args.seat.now.me.0 u.new.seat.me.0) c.is_some-ringed.ensures
+    (locates_now _ _ _ _ _ _ c.in-Some.pin.frame c.args.seat.now.me.0 u.new.seat.me.0 looks u.ensures.same)
 
 pub returns-in-Some-clause-hints : goal.returns-in-Some-clause-hints
 returns-in-Some-clause-hints g c = let u = c.look_up-found in
-    subst (λ (o : Option Pin). MatchOption o (u.new.seat.me.0.hints ≡ c.args.seat.now.me.0.hints) (λ p. NotesUnlessHad (frames_of c.args.table.now) c.args.tag.now p.frame u.result.1 c.args.seat.now.me.0.hints u.new.seat.me.0.hints)) c.in-Some.is u.ensures.hints
+    subst (λ (o : Option Pin). MatchOption o (u.new.seat.me.0.hints ≡ c.args.seat.now.me.0.hints) (λ p. LeavesHint (frames_of c.args.table.now) c.args.tag.now p.frame u.result.1 c.args.seat.now.me.0.hints u.new.seat.me.0.hints)) c.in-Some.is u.ensures.hints
 
 pub returns-in-Some-clause-census : goal.returns-in-Some-clause-census
 returns-in-Some-clause-census g c = inl refl
@@ -40,7 +40,7 @@ module _ (g : Over) (c : goal.After-claim g) where
   looks = subst (λ (o : Option Pin). LooksUp (frames_of c.args.table.now) c.args.tag.now c.args.held.now c.is_some-ringed.result c.args.seat.now.me.0 c.look_up-found.new.seat.me.0 c.look_up-found.result.1 (option_map Pin.frame o)) c.in_default.is c.look_up-found.ensures.did
 
   same_hints : c.look_up-found.new.seat.me.0.hints ≡ c.args.seat.now.me.0.hints
-  same_hints = subst (λ (o : Option Pin). MatchOption o (c.look_up-found.new.seat.me.0.hints ≡ c.args.seat.now.me.0.hints) (λ p. NotesUnlessHad (frames_of c.args.table.now) c.args.tag.now p.frame c.look_up-found.result.1 c.args.seat.now.me.0.hints c.look_up-found.new.seat.me.0.hints)) c.in_default.is c.look_up-found.ensures.hints
+  same_hints = subst (λ (o : Option Pin). MatchOption o (c.look_up-found.new.seat.me.0.hints ≡ c.args.seat.now.me.0.hints) (λ p. LeavesHint (frames_of c.args.table.now) c.args.tag.now p.frame c.look_up-found.result.1 c.args.seat.now.me.0.hints c.look_up-found.new.seat.me.0.hints)) c.in_default.is c.look_up-found.ensures.hints
 
 pub returns-clause-advances : goal.returns-clause-advances
 returns-clause-advances g c = rises_on _ c.look_up-found.new.seat.me.0 _ (grows_searched c.args.seat.now.me.0 c.look_up-found.new.seat.me.0 c.look_up-found.ensures.grows c.look_up-found.ensures.same) c.claim.ensures.advances
@@ -53,8 +53,9 @@ returns-clause-met g c = c.claim.ensures.met ∙ ap (λ (m : FailedCalls). met_c
 
 pub returns-clause-calls : goal.returns-clause-calls
 returns-clause-calls g c = let u = c.look_up-found in
-    subst (λ (b : Bool). PinAnswer (frames_of c.args.table.now) c.args.tag.now c.args.held.now b u.result.1 c.args.seat.now.me.0 c.claim.new.seat.me.0 c.claim.result) c.is_some-ringed.ensures
-    (answers_missed _ _ _ _ _ c.args.seat.now.me.0 u.new.seat.me.0 c.claim.new.seat.me.0 c.claim.result (misses_then _ _ _ _ c.args.seat.now.me.0 u.new.seat.me.0 c.claim.new.seat.me.0 _ (looks g c) u.ensures.same c.claim.ensures.advances c.claim.ensures.calls) (grows_searched c.args.seat.now.me.0 u.new.seat.me.0 u.ensures.grows u.ensures.same) c.claim.ensures.stored)
+    let claimed = subst (λ (b : Bool). IfOk c.claim.result (λ p. PinsAndStores (frames_of c.args.table.now) c.args.tag.now c.args.held.now b p.frame u.new.seat.me.0 c.args.queue.now c.claim.new.seat.me.0 c.claim.new.queue)) (sym c.is_some-ringed.ensures) c.claim.ensures.stored in
+    subst (λ (b : Bool). PinAnswer (frames_of c.args.table.now) c.args.tag.now c.args.held.now b u.result.1 c.args.queue.now c.claim.new.queue c.args.seat.now.me.0 c.claim.new.seat.me.0 c.claim.result) c.is_some-ringed.ensures
+    (answers_missed _ _ _ _ _ _ _ c.args.seat.now.me.0 u.new.seat.me.0 c.claim.new.seat.me.0 c.claim.result (looks g c) u.ensures.same c.claim.ensures.advances c.claim.ensures.calls claimed c.claim.ensures.unpushed)
 
 pub returns-clause-turns : goal.returns-clause-turns
 returns-clause-turns g c = turns_then _ _ _ _ c.args.seat.now.me.0 c.look_up-found.new.seat.me.0 c.claim.new.seat.me.0 _ (looks g c) c.look_up-found.ensures.turns c.claim.ensures.turns

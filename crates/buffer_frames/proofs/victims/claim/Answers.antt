@@ -1,4 +1,7 @@
-use Rattle.std.proofs.Common.{◌∙◌, arith}
+use Rattle.std.proofs.Common.{◌∙◌, Bool, ap, subst, arith}
+use Rattle.frame_table.specs.Seats.{frames_of}
+use Rattle.clock_sweep.specs.FreeFrames.{QueueState}
+use Rattle.buffer_frames.specs.Reads.{PinsAndStores}
 use Rattle.frame_table.proofs.Rising.{rises_on}
 use Rattle.frame_table.proofs.SameSeats.{same_seat_on}
 use Rattle.held_pins.proofs.Keeping.{same_locks_on}
@@ -14,6 +17,9 @@ pub loop-preserved-in_default : goal.loop-preserved-in_default
 loop-preserved-in_default g c = let i = c.loop.invariant in let m = c.make_victim.ensures in let e = c.enter_or_pin.ensures in record {
   seat = same_seat_on _ _ _ (same_seat_on _ _ _ i.seat m.seat) e.seat;
   stands = e.stands;
+  queue = e.queue;
+  lasts = e.lasts ∙ m.lasts ∙ i.lasts;
+  unpushed = ap (λ (x : QueueState). x.known.pushed) c.in_default.ensures.unpushed ∙ m.unpushed ∙ i.unpushed;
   rests = c.in_default.ensures.rests;
   latches = e.latches;
   room = m.room ∙ i.room;
@@ -48,6 +54,9 @@ pub loop-preserved : goal.loop-preserved
 loop-preserved g c = let i = c.loop.invariant in let m = c.make_victim.ensures in record {
   seat = same_seat_on _ _ _ i.seat m.seat;
   stands = m.stands;
+  queue = m.queue;
+  lasts = m.lasts ∙ i.lasts;
+  unpushed = m.unpushed ∙ i.unpushed;
   rests = c.in-Again.ensures.answer;
   latches = m.latches;
   counted = m.counted;
@@ -63,4 +72,8 @@ loop-preserved g c = let i = c.loop.invariant in let m = c.make_victim.ensures i
 }
 
 pub returns-in-Some-enter_or_pin-clause-stored : goal.returns-in-Some-enter_or_pin-clause-stored
-returns-in-Some-enter_or_pin-clause-stored g c = stores_since _ _ _ _ _ c.make_victim.new.seat.me.0 _ (rises_on _ c.loop.seat.me.0 _ c.loop.invariant.advances c.make_victim.ensures.advances) c.in-Some-enter_or_pin.ensures.stored
+returns-in-Some-enter_or_pin-clause-stored g c = subst (λ (b : Bool). PinsAndStores (frames_of c.args.table.now) c.args.tag c.args.held.now b c.in-Some-enter_or_pin.pin.frame c.args.seat.now.me.0 c.args.queue.now c.enter_or_pin.new.seat.me.0 c.enter_or_pin.new.queue) c.is_some-ringed.ensures
+    (stores_since _ _ _ _ _ _ c.make_victim.new.seat.me.0 _ _ c.make_victim.new.queue _ (rises_on _ c.loop.seat.me.0 _ c.loop.invariant.advances c.make_victim.ensures.advances) (c.make_victim.ensures.unpushed ∙ c.loop.invariant.unpushed) c.in-Some-enter_or_pin.ensures.stored)
+
+pub returns-in-Refused-clause-unpushed : goal.returns-in-Refused-clause-unpushed
+returns-in-Refused-clause-unpushed g c = c.make_victim.ensures.unpushed ∙ c.loop.invariant.unpushed

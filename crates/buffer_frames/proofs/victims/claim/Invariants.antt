@@ -2,6 +2,9 @@ use Rattle.std.proofs.Common.{◌≡◌, ◌≤◌}
 use Rattle.frame_table.specs.Seats.{OnlyRises, SameSeat, frames_of}
 use Rattle.held_pins.specs.Rests.{HasNoLatch, LinksRest, Stands, SameLocks}
 use Rattle.buffer_frames.specs.Outside.{kept_by_block_reads, ring_shape, shown_count}
+use Rattle.clock_sweep.specs.FreeFrames.{SameQueue}
+use Rattle.clock_sweep.specs.FreeLists.{IsFreeList}
+use Rattle.buffer_frames.specs.Bringing.{PushesNone}
 use Rattle.buffer_frames.specs.Working.{Calls, IsFlushCall}
 use Rattle.buffer_frames.proofs.victims.claim.Given as goal
 
@@ -9,6 +12,9 @@ abbrev pub invariant-loop : goal.invariant-loop
 invariant-loop g l = record {
   seat : SameSeat l.fn.seat l.seat;
   stands : Stands l.fn.table l.seat;
+  queue : IsFreeList l.fn.table l.fn.sweep l.queue;
+  lasts : SameQueue l.fn.queue l.queue;
+  unpushed : PushesNone l.fn.queue l.queue;
   rests : LinksRest l.fn.held l.seat.me.0;
   latches : HasNoLatch l.seat.me.0;
   room : l.census.frames ≡ frames_of l.fn.table;

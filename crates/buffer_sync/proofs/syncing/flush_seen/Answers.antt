@@ -55,6 +55,8 @@ returns-clause-flushes g c =
     let w = c.flush_pinned-flushed.new.seat.me.0 in
     let k = touches_on c.args.frame v u x c.look.ensures.touches e.touches in
     let n = notes_on (link v c.args.frame) (link u c.args.frame) (link x c.args.frame) (notes_looked (link v c.args.frame) (link u c.args.frame) c.look.ensures.link) (notes_by (link u c.args.frame) (link x c.args.frame) (ap (λ (l : Link). l.visited) e.read) (ap (λ (l : Link). l.left_to_write) e.read)) in
-    let one = flushes_flushed {L = g.row.L.Denot} {G = g.row.G.Denot} g.L.BlockLane.contents c.args.table.now c.args.frame c.tag_shown-tag.result x w c.flush_pinned-flushed.result e.named e.listed f.works f.notes f.answer f.met f.ended f.written in
+    let l = left_looked (link v c.args.frame) (link u c.args.frame) c.look.ensures.link c.requires.calm c.requires.unlocked in
+    let has = e.remembered (λ none. c.requires.pinned (sym l.role ∙ none)) in
+    let one = flushes_flushed {L = g.row.L.Denot} {G = g.row.G.Denot} g.L.BlockLane.contents c.args.table.now c.args.frame c.tag_shown-tag.result x w c.flush_pinned-flushed.result e.named e.listed has f.works f.notes f.answer f.met f.ended f.written in
     subst (λ (r : Result Synced FrameFlushError). FlushesPinned {L = g.row.L.Denot} {G = g.row.G.Denot} g.L.BlockLane.contents c.args.table.now c.args.frame v w r) (sym c.synced_by.ensures)
     (flushes_on {L = g.row.L.Denot} {G = g.row.G.Denot} g.L.BlockLane.contents c.args.table.now c.args.frame v x w _ k (e.marks ∙ c.look.ensures.marks) n one)

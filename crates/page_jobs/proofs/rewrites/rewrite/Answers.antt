@@ -4,7 +4,7 @@ use Rattle.backend_pass.specs.Passes.{PassState}
 use Rattle.page_jobs.specs.Jobs.{HaveNoTokens, workers_in}
 use Rattle.page_jobs.specs.RewriteJobs.{RewriteParts, RewritesFork}
 use Rattle.page_jobs.proofs.BesideWork.{ends_rewrite, job_met, last_stays, rewrites_met}
-use Rattle.page_jobs.proofs.Completing.{rewrite_complete}
+use Rattle.page_jobs.proofs.Completing.{rewrite_complete, rewrite_short}
 use Rattle.page_jobs.proofs.Deals.{free_back, free_front, workers_before}
 use Rattle.page_jobs.proofs.rewrites.rewrite.Goals as goal
 
@@ -48,6 +48,12 @@ pub returns-clause-cause : goal.returns-clause-cause
 returns-clause-cause g c =
     ends_rewrite {L = g.row.L.Denot} {G = g.row.G.Denot} g.L.BlockLane.contents c.args.manager.now c.args.passes.items c.push_reserved.new.self.items c.take_last-last.new.self.items c.rewrite_passes-end.new.passes.items c.take_last-last.result c.rewrite_passes-end.new.last c.take_last-last.ensures.items c.push_reserved.ensures.items c.rewrite_passes-end.ensures.passes.counted
     c.args.rel.0 c.args.fork c.rewrite_passes-end.result c.rewrite_passes-end.ensures.cause
+
+pub returns-clause-short : goal.returns-clause-short
+returns-clause-short g c =
+    rewrite_short {L = g.row.L.Denot} {G = g.row.G.Denot} g.L.BlockLane.contents c.args.manager.now c.args.rel.0 c.args.fork c.args.passes.items c.push_reserved.new.self.items c.rewrite_passes-end.result
+    (ends_rewrite {L = g.row.L.Denot} {G = g.row.G.Denot} g.L.BlockLane.contents c.args.manager.now c.args.passes.items c.push_reserved.new.self.items c.take_last-last.new.self.items c.rewrite_passes-end.new.passes.items c.take_last-last.result c.rewrite_passes-end.new.last c.take_last-last.ensures.items c.push_reserved.ensures.items c.rewrite_passes-end.ensures.passes.counted
+    c.args.rel.0 c.args.fork c.rewrite_passes-end.result c.rewrite_passes-end.ensures.cause)
 
 pub returns-clause-complete : goal.returns-clause-complete
 returns-clause-complete g c =

@@ -4,7 +4,7 @@ use Rattle.backend_pass.specs.Passes.{PassState}
 use Rattle.frame_table.specs.Seats.{base_of}
 use Rattle.page_jobs.specs.Jobs.{AllAtBase, HaveNoTokens, ReadParts, ReadsAll, workers_in}
 use Rattle.page_jobs.proofs.BesideWork.{ends_job, job_met, last_stays, reads_met}
-use Rattle.page_jobs.proofs.Completing.{job_complete}
+use Rattle.page_jobs.proofs.Completing.{job_complete, job_short}
 use Rattle.page_jobs.proofs.Deals.{free_back, free_front, workers_before}
 use Rattle.page_jobs.proofs.scans.run_job.Goals as goal
 
@@ -53,6 +53,12 @@ pub returns-clause-cause : goal.returns-clause-cause
 returns-clause-cause g c =
     ends_job {L = g.row.L.Denot} {G = g.row.G.Denot} g.L.BlockLane.contents c.args.manager.now c.args.passes.items c.push_reserved.new.self.items c.take_last-last.new.self.items c.work_passes-end.new.passes.items c.take_last-last.result c.work_passes-end.new.last c.take_last-last.ensures.items c.push_reserved.ensures.items c.work_passes-end.ensures.passes.counted
     c.args.job.rel.0 c.args.job.fork (g.O.Sink.faults c.args.out.now) (g.O.Sink.faults c.work_passes-end.new.out) c.work_passes-end.result c.work_passes-end.ensures.cause
+
+pub returns-clause-short : goal.returns-clause-short
+returns-clause-short g c =
+    job_short {L = g.row.L.Denot} {G = g.row.G.Denot} g.L.BlockLane.contents c.args.manager.now c.args.job.rel.0 c.args.job.fork c.args.passes.items c.push_reserved.new.self.items (g.O.Sink.faults c.args.out.now) (g.O.Sink.faults c.work_passes-end.new.out) c.work_passes-end.result
+    (ends_job {L = g.row.L.Denot} {G = g.row.G.Denot} g.L.BlockLane.contents c.args.manager.now c.args.passes.items c.push_reserved.new.self.items c.take_last-last.new.self.items c.work_passes-end.new.passes.items c.take_last-last.result c.work_passes-end.new.last c.take_last-last.ensures.items c.push_reserved.ensures.items c.work_passes-end.ensures.passes.counted
+    c.args.job.rel.0 c.args.job.fork (g.O.Sink.faults c.args.out.now) (g.O.Sink.faults c.work_passes-end.new.out) c.work_passes-end.result c.work_passes-end.ensures.cause)
 
 pub returns-clause-complete : goal.returns-clause-complete
 returns-clause-complete g c =

@@ -12,11 +12,12 @@ use Rattle.buffer_frames.specs.declared.flushing.FlushedPage.TheVariants.{Writte
 use Rattle.buffer_frames.specs.Flushing.{EndedInError, EndedWritten, FlushAnswer, met_flushing}
 use Rattle.buffer_frames.proofs.SameLocks.{same_locks_worked}
 use Rattle.buffer_frames.specs.Outside.{shown_count}
+use Rattle.buffer_frames.specs.Working.{KeepsNotes}
 use Rattle.backend_pass.specs.Managers.{Belongs}
 use Rattle.backend_pass.specs.Passes.{IsNumbered, IsShown, PassState, SamePass, view_in}
 use Rattle.backend_pass.specs.FrameFlushes.{frame_refusal, shown_unflushed}
 use Rattle.backend_pass.proofs.BlockReads.{numbered_kept, same_kept, shown_met}
-use Rattle.backend_pass.proofs.Flushed.{flush_complete, shown_not_flushed}
+use Rattle.backend_pass.proofs.Flushed.{flush_complete, flush_short, shown_not_flushed}
 use Rattle.backend_pass.proofs.Releasing.{belongs_held}
 use Rattle.backend_pass.proofs.pass.Pass.flush_frame.Goals as goal
 
@@ -72,6 +73,10 @@ pub returns-in-Err-clause-met : goal.returns-in-Err-clause-met
 returns-in-Err-clause-met g c =
     let e = c.in-Err.ensures in
     e.met ∙ ap (λ (y : frames.FrameFlushError). met_flushing {A = Bool} (Err y) (view_in c.self.inside.seat.views).met) (sym c.refused-why.ensures) ∙ ap (λ (p : PassState). met_flushing {A = Bool} (Err (frame_refusal c.refused-why.result)) p.view.met) c.self.view_is
+
+pub returns-in-Err-clause-short : goal.returns-in-Err-clause-short
+returns-in-Err-clause-short g c n =
+    flush_short {L = g.row.L.Denot} {G = g.row.G.Denot} g.L.BlockLane.contents c.args.manager.now.table (lane_number c.args.pinned.now.tag (lanes_in c.args.manager.now.table)) c.args.pinned.now.tag c.args.pinned.now.frame _ _ (Err c.refused-why.result) (returns-in-Err-clause-answer g c) (returns-in-Err-clause-met g c) n.up n.met
 
 pub returns-in-Err-clause-complete : goal.returns-in-Err-clause-complete
 returns-in-Err-clause-complete g c =
@@ -157,3 +162,12 @@ returns-in-Ok-Written-clause-others g c = subst (λ (p : PassState). (h : ℕ) �
 
 pub returns-in-Ok-Clean-clause-others : goal.returns-in-Ok-Clean-clause-others
 returns-in-Ok-Clean-clause-others g c = subst (λ (p : PassState). (h : ℕ) → h ≢ c.args.pinned.now.frame → link (view_in c.flush_seated.new.badge.views) h ≡ link p.view h) c.self.view_is c.in-Ok-Clean.ensures.works.others
+
+pub returns-in-Err-clause-notes : goal.returns-in-Err-clause-notes
+returns-in-Err-clause-notes g c = subst (λ (p : PassState). KeepsNotes (link p.view c.args.pinned.now.frame) (link (view_in c.flush_seated.new.badge.views) c.args.pinned.now.frame)) c.self.view_is c.in-Err.ensures.notes
+
+pub returns-in-Ok-Written-clause-notes : goal.returns-in-Ok-Written-clause-notes
+returns-in-Ok-Written-clause-notes g c = subst (λ (p : PassState). KeepsNotes (link p.view c.args.pinned.now.frame) (link (view_in c.flush_seated.new.badge.views) c.args.pinned.now.frame)) c.self.view_is c.in-Ok-Written.ensures.notes
+
+pub returns-in-Ok-Clean-clause-notes : goal.returns-in-Ok-Clean-clause-notes
+returns-in-Ok-Clean-clause-notes g c = subst (λ (p : PassState). KeepsNotes (link p.view c.args.pinned.now.frame) (link (view_in c.flush_seated.new.badge.views) c.args.pinned.now.frame)) c.self.view_is c.in-Ok-Clean.ensures.notes

@@ -1,9 +1,9 @@
 use Rattle.std.proofs.Common.{◌≡◌, ◌∙◌, ℕ, inl, Ok, true, ap, refl, sym, subst, ◌<◌, arith}
-use Rattle.std.specs.Prelude.{IfOk, is_some}
+use Rattle.std.specs.Prelude.{is_some}
 use Rattle.held_pins.specs.Tokens.{IsNew, IsPinnedFor, Tokens, count_of, tokens_more}
 use Rattle.held_pins.specs.Rests.{OnlyTokens, SameLocks}
 use Rattle.buffer_frames.specs.declared.hinting.HintSeen.TheVariants.{Unused}
-use Rattle.buffer_frames.specs.Hinting.{NotesUnlessHad, TakesTurns}
+use Rattle.buffer_frames.specs.Hinting.{TakesTurns}
 use Rattle.backend_pass.specs.Managers.{Belongs}
 use Rattle.backend_pass.specs.Passes.{KeepsCalls, PassState, view_in}
 use Rattle.backend_pass.specs.Reading.{ReadsBlock, met_reading}
@@ -12,7 +12,7 @@ use Rattle.held_pins.proofs.HeldLists.{above_one}
 use Rattle.frame_table.specs.Seats.{frames_of, relations_of}
 use Rattle.frame_table.proofs.Rising.{rises_none}
 use Rattle.held_pins.proofs.Keeping.{same_locks_none}
-use Rattle.backend_pass.proofs.Complete.{at_once_none, not_at_once, read_complete, unsound_was}
+use Rattle.backend_pass.proofs.Complete.{at_once_none, not_at_once, read_complete, read_short, unsound_was}
 use Rattle.backend_pass.specs.HintsSeen.{StoresHints}
 use Rattle.backend_pass.proofs.HintsSeen.{shows_hint, turns_counted, turns_risen, turns_told}
 use Rattle.backend_pass.proofs.Releasing.{AreHeld, belongs_held, held_again}
@@ -68,6 +68,10 @@ returns-clause-pinned g c = subst (IsPinnedFor c.args.tag c.in-Some.frame) (sym 
 
 pub returns-clause-locks : goal.returns-clause-locks
 returns-clause-locks g c = subst (λ (p : PassState). SameLocks p.view (view_in c.self.inside.seat.views)) c.self.view_is (same_locks_none (view_in c.self.inside.seat.views))
+
+pub returns-in_default-clause-short : goal.returns-in_default-clause-short
+returns-in_default-clause-short g c none quiet =
+    read_short {L = g.row.L.Denot} {G = g.row.G.Denot} g.L.BlockLane.contents c.args.manager.now.table c.args.tag _ _ c.read_new.new.self c.read_new.result (met g c) (reads g c) quiet
 
 pub returns-in_default-clause-complete : goal.returns-in_default-clause-complete
 returns-in_default-clause-complete g c none nothing =

@@ -4,17 +4,17 @@ use Rattle.crossbeam_utils.specs.Padded.{padded_value}
 use Rattle.block_tag.specs.Names.{packed_tag}
 use Rattle.pin_core.specs.declared.view.View.{View}
 use Rattle.frame_table.specs.Seats.{frames_of}
-use Rattle.buffer_frames.specs.Hinting.{NotesUnlessHad, TakesTurns}
+use Rattle.buffer_frames.specs.Hinting.{LeavesHint, TakesTurns}
 use Rattle.buffer_frames.specs.Reads.{KeptOrEmptied}
 use Rattle.held_pins.specs.Tokens.{IsNew, Tokens, tokens_less}
 use Rattle.held_pins.specs.Rests.{OnlyTokens, SameLocks}
 use Rattle.backend_pass.specs.declared.errors.ReadError.{ReadError}
-use Rattle.backend_pass.specs.HintsSeen.{LeavesHint, StoresHints}
+use Rattle.backend_pass.specs.HintsSeen.{StoresHints}
 use Rattle.backend_pass.specs.Managers.{Belongs}
 use Rattle.backend_pass.specs.Passes.{IsNumbered, IsShown, PassState, view_in}
 use Rattle.backend_pass.specs.Reading.{ReadingCensus, met_read_refused, shown_after}
-use Rattle.backend_pass.proofs.BlockReads.{belongs_with, census_of_refusal, links_refused, met_of_refusal, numbered_kept, refused_reads, rests_pinned, shown_met, shown_refused}
-use Rattle.backend_pass.proofs.HintsSeen.{leaves, stores_refused}
+use Rattle.backend_pass.proofs.BlockReads.{belongs_with, census_of_refusal, first_reads, links_refused, met_of_refusal, numbered_kept, refused_reads, rests_pinned, shown_met, shown_refused}
+use Rattle.backend_pass.proofs.HintsSeen.{stores_refused}
 use Rattle.backend_pass.proofs.Releasing.{belongs_held}
 use Rattle.backend_pass.proofs.pass.Pass.read_new.Goals as goal
 
@@ -51,15 +51,20 @@ invariant_of-self-in-Err g c =
 pub returns-in-Ok-clause-belongs : goal.returns-in-Ok-clause-belongs
 returns-in-Ok-clause-belongs g c =
     let e = c.in-Ok.ensures in
-    belongs_with {L = g.row.L.Denot} {G = g.row.G.Denot} g.L.BlockLane.contents c.args.manager.now _ _ c.args.tag.now c.in-Ok.field-0.pin.frame e.badge.table e.room (ap (λ (x : View). x.calls) e.kept) (ap (λ (x : View). x.front) e.kept) e.advances.end_seen c.add_pin.ensures.tokens e.answer.1.new e.answer.0 c.requires.tag c.requires.block
+    belongs_with {L = g.row.L.Denot} {G = g.row.G.Denot} g.L.BlockLane.contents c.args.manager.now _ _ c.args.tag.now c.in-Ok.field-0.pin.frame e.badge.table (λ i. record { frames = e.room i; queue = e.lasts i }) (ap (λ (x : View). x.calls) e.kept) (ap (λ (x : View). x.front) e.kept) e.advances.end_seen c.add_pin.ensures.tokens e.answer.1.new e.answer.0 c.requires.tag c.requires.block
     (subst (λ (p : PassState). IsNew c.args.tag.now p.tokens) (sym c.self.view_is) c.requires.new) e.answer.3
     (subst (Belongs {L = g.row.L.Denot} {G = g.row.G.Denot} g.L.BlockLane.contents c.args.manager.now) (sym c.self.view_is) c.requires.belongs)
 
 pub returns-in-Err-clause-belongs : goal.returns-in-Err-clause-belongs
 returns-in-Err-clause-belongs g c =
     let e = c.in-Err.ensures in
-    belongs_held {L = g.row.L.Denot} {G = g.row.G.Denot} g.L.BlockLane.contents c.args.manager.now _ _ e.badge.table e.room (ap (λ (x : View). x.calls) e.kept) (ap (λ (x : View). x.front) e.kept) e.advances.end_seen (λ f h at. (h, at, refl))
+    belongs_held {L = g.row.L.Denot} {G = g.row.G.Denot} g.L.BlockLane.contents c.args.manager.now _ _ e.badge.table (λ i. record { frames = e.room i; queue = e.lasts i }) (ap (λ (x : View). x.calls) e.kept) (ap (λ (x : View). x.front) e.kept) e.advances.end_seen (λ f h at. (h, at, refl))
     (subst (Belongs {L = g.row.L.Denot} {G = g.row.G.Denot} g.L.BlockLane.contents c.args.manager.now) (sym c.self.view_is) c.requires.belongs)
+
+pub returns-in-Ok-clause-answer : goal.returns-in-Ok-clause-answer
+returns-in-Ok-clause-answer g c =
+    let e = c.in-Ok.ensures in
+    first_reads {L = g.row.L.Denot} {G = g.row.G.Denot} g.L.BlockLane.contents c.args.manager.now.table c.args.tag.now _ _ _ _ c.in-Ok.field-0 c.frame-frame.result c.self.view_is c.frame-frame.ensures c.add_pin.ensures.tokens e.answer e.calls
 
 pub returns-in-Err-clause-answer : goal.returns-in-Err-clause-answer
 returns-in-Err-clause-answer g c =
@@ -101,8 +106,7 @@ returns-in-Ok-clause-hints g c =
     let old = (view_in c.self.inside.seat.views) in
     let new = (view_in c.read_seated.new.badge.views) in
     subst (λ (p : PassState). LeavesHint n c.args.tag.now c.frame-frame.result c.read_seated.new.sought.hint p.view.hints new.hints) c.self.view_is
-    (leaves n c.args.tag.now c.frame-frame.result c.read_seated.new.sought.hint old.turns new.turns old.hints new.hints c.in-Ok.ensures.turns
-    (subst (λ (f : ℕ). NotesUnlessHad n c.args.tag.now f c.read_seated.new.sought.hint old.hints new.hints) (sym c.frame-frame.ensures) c.in-Ok.ensures.hints))
+    (subst (λ (f : ℕ). LeavesHint n c.args.tag.now f c.read_seated.new.sought.hint old.hints new.hints) (sym c.frame-frame.ensures) c.in-Ok.ensures.hints)
 
 pub returns-in-Err-clause-hints : goal.returns-in-Err-clause-hints
 returns-in-Err-clause-hints g c =
@@ -111,4 +115,4 @@ returns-in-Err-clause-hints g c =
     let new = (view_in c.read_seated.new.badge.views) in
     subst (λ (p : PassState). StoresHints n c.args.tag.now c.read_seated.new.sought.hint p.view.hints new.hints (Err c.refused-why.result)) c.self.view_is
     (subst (λ (y : ReadError). StoresHints n c.args.tag.now c.read_seated.new.sought.hint old.hints new.hints (Err y)) (sym c.refused-why.ensures)
-    (stores_refused n c.args.tag.now c.read_seated.new.sought.hint old.turns new.turns old.hints new.hints c.in-Err.cause c.in-Err.ensures.turns c.in-Err.ensures.hints))
+    (stores_refused n c.args.tag.now c.read_seated.new.sought.hint old.hints new.hints c.in-Err.cause c.in-Err.ensures.hints))

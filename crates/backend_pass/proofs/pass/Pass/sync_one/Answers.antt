@@ -19,7 +19,7 @@ use Rattle.buffer_sync.specs.Syncs.{EndsSync, SyncsFrame}
 use Rattle.buffer_sync.proofs.Passing.{pins_rest}
 use Rattle.backend_pass.specs.FrameFlushes.{frame_answer}
 use Rattle.backend_pass.specs.PassSyncs.{shown_synced}
-use Rattle.backend_pass.proofs.PassSyncing.{callers_from, callers_kept, pass_alone, shown_sync, sync_complete}
+use Rattle.backend_pass.proofs.PassSyncing.{callers_from, callers_kept, pass_alone, shown_sync, sync_complete, sync_short}
 use Rattle.held_pins.specs.Rests.{HasNoDevice, LinksRest}
 use Rattle.pin_core.specs.declared.view.Content.TheVariants.{Unlocked}
 use Rattle.buffer_sync.specs.Syncs.{SyncsOne}
@@ -107,6 +107,10 @@ pub returns-clause-not_left_to_write : goal.returns-clause-not_left_to_write
 returns-clause-not_left_to_write g c =
     let e = frame_worked {L = g.row.L.Denot} {G = g.row.G.Denot} c.self.inside.held _ _ _ _ c.take_seat-seat.ensures c.sync_one-frames_answer.ensures.seat c.return_seat.ensures c.self.invariant.1 (λ v w. SyncsOne {L = g.row.L.Denot} {G = g.row.G.Denot} g.L.BlockLane.contents c.args.manager.now.table c.args.only c.args.frame v w c.sync_one-frames_answer.result) c.sync_one-frames_answer.ensures.stands.quiet c.sync_one-frames_answer.ensures.rests c.sync_one-frames_answer.ensures.one.works.partitions c.sync_one-frames_answer.ensures.one in
     λ skipped needed. e.did.not_left_to_write (sym c.told-answer.ensures ∙ ap frame_answer skipped) needed
+
+pub returns-clause-short : goal.returns-clause-short
+returns-clause-short g c =
+    sync_short {L = g.row.L.Denot} {G = g.row.G.Denot} g.L.BlockLane.contents c.args.manager.now.table c.args.only c.args.frame _ _ c.told-answer.result (returns-clause-syncs g c) (returns-clause-met g c)
 
 pub returns-clause-complete : goal.returns-clause-complete
 returns-clause-complete g c =
