@@ -1,6 +1,7 @@
 -- A pass reads a block.
 use Rattle.std.proofs.Common.{◌≡◌, ◌≢◌, ◌<◌, ◌≤◌, ◌+◌, ℕ, Bool, List, Option, Some, None, Result, Ok, Err, refl, sym, ap, ◌∙◌, subst, true, arith}
-use Rattle.std.specs.Prelude.{IfOk, option_map}
+use Rattle.std.specs.Prelude.{IfOk, is_some, option_map}
+use Rattle.access_rings.specs.RingState.{RingState}
 use Rattle.std.proofs.lemmas.Option.{none-some, same_Some}
 use mathlib.Core.Logic.{dite}
 use native.Mathlib.Decide.{ℕ_discrete}
@@ -31,7 +32,7 @@ use Rattle.buffer_frames.specs.declared.reading.BlockError.{BlockError}
 use Rattle.buffer_frames.specs.declared.reading.BlockError.TheVariants as block
 use Rattle.buffer_frames.specs.Reads.{CensusRead, ReadAnswer, ReadCalls, met_read_block}
 use Rattle.buffer_frames.specs.Stages.{Pins}
-use Rattle.clock_sweep.specs.FreeFrames.{QueueState}
+use Rattle.buffer_frames.specs.VictimChoices.{ChoiceState, choice_state}
 use Rattle.clock_sweep.proofs.FreeLists.{list_same}
 use Rattle.backend_pass.specs.declared.errors.ReadError.{ReadError}
 use Rattle.backend_pass.specs.declared.errors.ReadError.TheVariants.{PastEnd, PinsFull, NoUnpinned, ReadFault, WriteFault, LogFault, LogDown, LogShort, Unsound}
@@ -42,7 +43,9 @@ use Rattle.backend_pass.specs.Managers.{Belongs}
 use Rattle.backend_pass.proofs.Fronts.{front_kept}
 use Rattle.buffer_frames.specs.Outside.{shown_count}
 use Rattle.backend_pass.specs.Passes.{IsNumbered, IsShown, KeepsCalls, PassState, SamePass, PassOwn, own_of}
-use Rattle.backend_pass.specs.Reading.{ReadingCalls, ReadingCensus, ReadingRefused, ReadsBlock, met_read_refused, read_refusal, shown_after}
+use Rattle.buffer_frames.specs.declared.victims.VictimError.{VictimError}
+use Rattle.buffer_frames.specs.Victims.{VictimRefused}
+use Rattle.backend_pass.specs.Reading.{LacksFrame, ReadingCalls, ReadingCensus, ReadingRefused, ReadsBlock, met_read_refused, read_refusal, shown_after}
 
 -- the number, and what is shown
 pub numbered_kept : (number id : ℕ) (v w : View) → w.number ≡ v.number → IsNumbered number id v → IsNumbered number id w
@@ -107,15 +110,15 @@ census_of_refusal n c d (block.ReadFault tag) e = e
 census_of_refusal n c d (block.Unsound tag) e = e
 
 -- and so are its calls
-module _ (n : ℕ) (tag : Tag) (held : Tokens) (ring : Bool) (seen : HintSeen) (q r : QueueState) (lane : ℕ) (v w : View) where
-  pub calls_of_refusal : (why : BlockError) → ReadCalls n tag held ring seen q r lane v w (Err why) → ReadingCalls n tag held ring seen q r lane v w (Err (read_refusal why))
-  calls_of_refusal (block.NoFrame (victim.NoUnpinned frames)) c = c
-  calls_of_refusal (block.NoFrame (victim.Flush (flush.WriteFault failed))) c = c
-  calls_of_refusal (block.NoFrame (victim.Flush (flush.Log log.LogFault))) c = c
-  calls_of_refusal (block.NoFrame (victim.Flush (flush.Log (log.LogDown at)))) c = c
-  calls_of_refusal (block.NoFrame (victim.Flush (flush.Log (log.LogShort lsn end)))) c = c
-  calls_of_refusal (block.ReadFault failed) c = c
-  calls_of_refusal (block.Unsound failed) c = c
+module _ {L G : Type 0} (contents : L → Option Pages) (t : FrameTable L G) (tag : Tag) (held : Tokens) (ring : Bool) (seen : HintSeen) (c d : ChoiceState) (lane : ℕ) (v w : View) where
+  pub calls_of_refusal : (why : BlockError) → ReadCalls contents t tag held ring seen c d lane v w (Err why) → ReadingCalls contents t tag held ring seen c d lane v w (Err (read_refusal why))
+  calls_of_refusal (block.NoFrame (victim.NoUnpinned frames)) x = x
+  calls_of_refusal (block.NoFrame (victim.Flush (flush.WriteFault failed))) x = x
+  calls_of_refusal (block.NoFrame (victim.Flush (flush.Log log.LogFault))) x = x
+  calls_of_refusal (block.NoFrame (victim.Flush (flush.Log (log.LogDown at)))) x = x
+  calls_of_refusal (block.NoFrame (victim.Flush (flush.Log (log.LogShort lsn end)))) x = x
+  calls_of_refusal (block.ReadFault failed) x = x
+  calls_of_refusal (block.Unsound failed) x = x
 
 -- what rests after a read
 pub rests_pinned : (tag f : ℕ) (t : Tokens) (w : View) → HasNoDevice w → HasNoLatch w → Pins tag f t w → (link w f).seen_valid ≡ true → OnlyTokens (tokens_with f tag t) w
@@ -174,54 +177,61 @@ pub pinned_first : (tag : Tag) (f : ℕ) (t : Tokens) → held_at t f ≡ None �
 pinned_first tag f t none = let h : HeldFrame = record { frame = f; tag = packed_tag tag; tokens = 1 } in record { held = h; there = with_here t h f refl none; same = refl }
 
 module _ {L G : Type 0} (contents : L → Option Pages) (t : FrameTable L G) where
-  -- why a block was not read
-  refused_as : (tag : Tag) (held : Tokens) (words : List ℕ) (p q : PassState) (why : BlockError) → words ≡ q.census.words → ReadAnswer contents t tag held words p.view q.view (Err why) → LinksRest held q.view × ReadingRefused contents t tag p q (read_refusal why)
-  refused_as tag held words p q (block.NoFrame (victim.NoUnpinned frames)) e a = subst (λ (ws : List ℕ). ReadAnswer contents t tag held ws p.view q.view (Err (block.NoFrame (victim.NoUnpinned frames)))) e a
-  refused_as tag held words p q (block.NoFrame (victim.Flush (flush.WriteFault failed))) e a = a
-  refused_as tag held words p q (block.NoFrame (victim.Flush (flush.Log log.LogFault))) e a = a
-  refused_as tag held words p q (block.NoFrame (victim.Flush (flush.Log (log.LogDown at)))) e a = a
-  refused_as tag held words p q (block.NoFrame (victim.Flush (flush.Log (log.LogShort lsn end)))) e a = a
-  refused_as tag held words p q (block.ReadFault failed) e a = a
-  refused_as tag held words p q (block.Unsound failed) e a = (a.0, (a.1, a.2))
+  freed_none : (ring after : Option RingState) (p q : PassState) (why : VictimError) (missed : View) → VictimRefused contents t p.view missed (choice_state p.queue ring p.census) q.view (choice_state q.queue after q.census) why → LacksFrame contents t p q why
+  freed_none ring after p q why missed x = record { missed = missed; before = choice_state p.queue ring p.census; after = choice_state q.queue after q.census; census = refl; refused = x }
 
-  pub refused_reads : (tag : Tag) (ring : Bool) (a p q : PassState) (why : BlockError) (answer : ReadError) → a ≡ p → answer ≡ read_refusal why → q.tokens ≡ a.tokens → ReadAnswer contents t tag a.tokens q.census.words a.view q.view (Err why)
-      → ReadCalls (frames_of t) tag a.tokens ring q.hint a.queue q.queue (lane_number tag (lanes_in t)) a.view q.view (Err why) → ReadsBlock contents t tag ring p q (Err answer)
-  refused_reads tag ring a p q why answer same is tokens r calls = subst (λ (x : PassState). ReadsBlock contents t tag ring x q (Err answer)) same (subst (λ (y : ReadError). ReadsBlock contents t tag ring a q (Err y)) (sym is) record {
-    answer = (tokens, (refused_as tag a.tokens q.census.words a q why refl r).1);
-    calls = calls_of_refusal (frames_of t) tag a.tokens ring q.hint a.queue q.queue (lane_number tag (lanes_in t)) a.view q.view why calls;
+  -- why a block was not read
+  refused_as : (tag : Tag) (ring after : Option RingState) (p q : PassState) (why : BlockError) → ReadAnswer contents t tag p.tokens p.view q.view (Err why)
+      → ReadCalls contents t tag p.tokens (is_some ring) q.hint (choice_state p.queue ring p.census) (choice_state q.queue after q.census) (lane_number tag (lanes_in t)) p.view q.view (Err why) → ReadingRefused contents t tag p q (read_refusal why)
+  refused_as tag ring after p q (block.NoFrame (victim.NoUnpinned frames)) a x = freed_none ring after p q (victim.NoUnpinned frames) x.0.searched x.2
+  refused_as tag ring after p q (block.NoFrame (victim.Flush (flush.WriteFault failed))) a x = freed_none ring after p q (victim.Flush (flush.WriteFault failed)) x.0.searched x.2
+  refused_as tag ring after p q (block.NoFrame (victim.Flush (flush.Log log.LogFault))) a x = freed_none ring after p q (victim.Flush (flush.Log log.LogFault)) x.0.searched x.2
+  refused_as tag ring after p q (block.NoFrame (victim.Flush (flush.Log (log.LogDown at)))) a x = freed_none ring after p q (victim.Flush (flush.Log (log.LogDown at))) x.0.searched x.2
+  refused_as tag ring after p q (block.NoFrame (victim.Flush (flush.Log (log.LogShort lsn end)))) a x = freed_none ring after p q (victim.Flush (flush.Log (log.LogShort lsn end))) x.0.searched x.2
+  refused_as tag ring after p q (block.ReadFault failed) a x = a.1
+  refused_as tag ring after p q (block.Unsound failed) a x = (a.1, a.2)
+
+  pub refused_reads : (tag : Tag) (ring after : Option RingState) (a p q : PassState) (why : BlockError) (answer : ReadError) → a ≡ p → answer ≡ read_refusal why → q.tokens ≡ a.tokens → ReadAnswer contents t tag a.tokens a.view q.view (Err why)
+      → ReadCalls contents t tag a.tokens (is_some ring) q.hint (choice_state a.queue ring a.census) (choice_state q.queue after q.census) (lane_number tag (lanes_in t)) a.view q.view (Err why) → ReadsBlock contents t tag ring after p q (Err answer)
+  refused_reads tag ring after a p q why answer same is tokens r calls = subst (λ (x : PassState). ReadsBlock contents t tag ring after x q (Err answer)) same (subst (λ (y : ReadError). ReadsBlock contents t tag ring after a q (Err y)) (sym is) record {
+    answer = (tokens, refused_as tag ring after a q why r calls);
+    calls = calls_of_refusal contents t tag a.tokens (is_some ring) q.hint _ _ (lane_number tag (lanes_in t)) a.view q.view why calls;
   })
 
   -- and a block that was pinned
-  pub first_reads : (tag : Tag) (ring : Bool) (a p q : PassState) (block : PinnedBlock) (frame : ℕ) → a ≡ p → frame ≡ block.pin.frame → q.tokens ≡ tokens_with block.pin.frame (packed_tag tag) a.tokens → ReadAnswer contents t tag a.tokens q.census.words a.view q.view (Ok block)
-      → ReadCalls (frames_of t) tag a.tokens ring q.hint a.queue q.queue (lane_number tag (lanes_in t)) a.view q.view (Ok block) → ReadsBlock contents t tag ring p q (Ok (record { frame = frame; tag = tag; hit = block.hit }))
-  first_reads tag ring a p q block frame same is tokens r calls = subst (λ (x : PassState). ReadsBlock contents t tag ring x q (Ok (record { frame = frame; tag = tag; hit = block.hit }))) same (subst (λ (f : ℕ). ReadsBlock contents t tag ring a q (Ok (record { frame = f; tag = tag; hit = block.hit }))) (sym is) record {
+  pub first_reads : (tag : Tag) (ring after : Option RingState) (a p q : PassState) (block : PinnedBlock) (frame : ℕ) → a ≡ p → frame ≡ block.pin.frame → q.tokens ≡ tokens_with block.pin.frame (packed_tag tag) a.tokens → ReadAnswer contents t tag a.tokens a.view q.view (Ok block)
+      → ReadCalls contents t tag a.tokens (is_some ring) q.hint (choice_state a.queue ring a.census) (choice_state q.queue after q.census) (lane_number tag (lanes_in t)) a.view q.view (Ok block) → ReadsBlock contents t tag ring after p q (Ok (record { frame = frame; tag = tag; hit = block.hit }))
+  first_reads tag ring after a p q block frame same is tokens r calls = subst (λ (x : PassState). ReadsBlock contents t tag ring after x q (Ok (record { frame = frame; tag = tag; hit = block.hit }))) same (subst (λ (f : ℕ). ReadsBlock contents t tag ring after a q (Ok (record { frame = f; tag = tag; hit = block.hit }))) (sym is) record {
     answer = record { named = refl; tokens = tokens; new = r.1.new; inside = r.0; seen = r.2; unlocked = r.1.unlocked; sound = r.3 };
     calls = calls;
   })
 
   -- what is told of a read is no matter of the hint that the pass had
+  freed_hinted : (p q : PassState) (seen : HintSeen) (why : VictimError) → LacksFrame contents t (record p { hint = seen }) q why → LacksFrame contents t p q why
+  freed_hinted p q seen why x = record { missed = x.missed; before = x.before; after = x.after; census = x.census; refused = x.refused }
+
   refused_hinted : (tag : Tag) (p q : PassState) (seen : HintSeen) (why : ReadError) → ReadingRefused contents t tag (record p { hint = seen }) q why → ReadingRefused contents t tag p q why
   refused_hinted tag p q seen (PastEnd block blocks) r = r
   refused_hinted tag p q seen PinsFull r = r
-  refused_hinted tag p q seen (NoUnpinned frames) r = r
+  refused_hinted tag p q seen (NoUnpinned frames) r = freed_hinted p q seen (victim.NoUnpinned frames) r
   refused_hinted tag p q seen (ReadFault failed) r = r
-  refused_hinted tag p q seen (WriteFault failed) r = r
-  refused_hinted tag p q seen LogFault r = r
-  refused_hinted tag p q seen (LogDown at) r = r
-  refused_hinted tag p q seen (LogShort lsn end) r = r
+  refused_hinted tag p q seen (WriteFault failed) r = freed_hinted p q seen (victim.Flush (flush.WriteFault failed)) r
+  refused_hinted tag p q seen LogFault r = freed_hinted p q seen (victim.Flush (flush.Log log.LogFault)) r
+  refused_hinted tag p q seen (LogDown at) r = freed_hinted p q seen (victim.Flush (flush.Log (log.LogDown at))) r
+  refused_hinted tag p q seen (LogShort lsn end) r = freed_hinted p q seen (victim.Flush (flush.Log (log.LogShort lsn end))) r
   refused_hinted tag p q seen (Unsound failed) r = r
 
-  pub reads_hinted : (tag : Tag) (ring : Bool) (p q : PassState) (seen : HintSeen) (r : Result Pinned ReadError) → ReadsBlock contents t tag ring (record p { hint = seen }) q r → ReadsBlock contents t tag ring p q r
-  reads_hinted tag ring p q seen (Ok pinned) b = let a = b.answer in record {
+  pub reads_hinted : (tag : Tag) (ring after : Option RingState) (p q : PassState) (seen : HintSeen) (r : Result Pinned ReadError) → ReadsBlock contents t tag ring after (record p { hint = seen }) q r → ReadsBlock contents t tag ring after p q r
+  reads_hinted tag ring after p q seen (Ok pinned) b = let a = b.answer in record {
     answer = record { named = a.named; tokens = a.tokens; new = a.new; inside = a.inside; seen = a.seen; unlocked = a.unlocked; sound = a.sound };
     calls = b.calls;
   }
-  reads_hinted tag ring p q seen (Err why) b = record { answer = (b.answer.0, refused_hinted tag p q seen why b.answer.1); calls = b.calls }
+  reads_hinted tag ring after p q seen (Err why) b = record { answer = (b.answer.0, refused_hinted tag p q seen why b.answer.1); calls = b.calls }
 
-  pub links_refused : (tag : Tag) (held : Tokens) (words : List ℕ) (v w : View) (why : BlockError) → ReadAnswer contents t tag held words v w (Err why) → LinksRest held w
-  links_refused tag held words v w (block.NoFrame why) a = a.0
-  links_refused tag held words v w (block.ReadFault failed) a = a.0
-  links_refused tag held words v w (block.Unsound failed) a = a.0
+  pub links_refused : (tag : Tag) (held : Tokens) (v w : View) (why : BlockError) → ReadAnswer contents t tag held v w (Err why) → LinksRest held w
+  links_refused tag held v w (block.NoFrame why) a = a
+  links_refused tag held v w (block.ReadFault failed) a = a.0
+  links_refused tag held v w (block.Unsound failed) a = a.0
 
 module _ {L G : Type 0} (contents : L → Option Pages) (m : Manager L G) where
   -- one token more, of a block that was sound
@@ -280,10 +290,10 @@ pinned_more tag f t pinned = more (held_at t f) (held_at (tokens_more f t) f) re
     more o (Some h) x y same = record { held = h; there = y; same = same_Some h.tag (packed_tag tag) (same ∙ ap (option_map HeldFrame.tag) (sym x ∙ pinned.there) ∙ ap Some pinned.same) }
     more o None x y same = absurd (none-some pinned.held.tag (same ∙ ap (option_map HeldFrame.tag) (sym x ∙ pinned.there)))
 
-pub pinned_read : {L G : Type 0} (contents : L → Option Pages) (t : FrameTable L G) (tag : Tag) (ring : Bool) (p q : PassState) (r : Result Pinned ReadError) → ReadsBlock contents t tag ring p q r → IfOk r (λ pinned. IsPinnedFor tag pinned.frame q.tokens)
-pinned_read contents t tag ring p q (Ok pinned) b = subst (IsPinnedFor tag pinned.frame) (sym b.answer.tokens) (pinned_first tag pinned.frame p.tokens b.answer.new)
-pinned_read contents t tag ring p q (Err why) b = tt
+pub pinned_read : {L G : Type 0} (contents : L → Option Pages) (t : FrameTable L G) (tag : Tag) (ring after : Option RingState) (p q : PassState) (r : Result Pinned ReadError) → ReadsBlock contents t tag ring after p q r → IfOk r (λ pinned. IsPinnedFor tag pinned.frame q.tokens)
+pinned_read contents t tag ring after p q (Ok pinned) b = subst (IsPinnedFor tag pinned.frame) (sym b.answer.tokens) (pinned_first tag pinned.frame p.tokens b.answer.new)
+pinned_read contents t tag ring after p q (Err why) b = tt
 
-pub unlocked_read : {L G : Type 0} (contents : L → Option Pages) (t : FrameTable L G) (tag : Tag) (ring : Bool) (p q : PassState) (r : Result Pinned ReadError) → ReadsBlock contents t tag ring p q r → IfOk r (λ pinned. tokens_of (held_at q.tokens pinned.frame) ≡ 1 → (link q.view pinned.frame).content ≡ Unlocked)
-unlocked_read contents t tag ring p q (Ok pinned) b = λ one. b.answer.unlocked
-unlocked_read contents t tag ring p q (Err why) b = tt
+pub unlocked_read : {L G : Type 0} (contents : L → Option Pages) (t : FrameTable L G) (tag : Tag) (ring after : Option RingState) (p q : PassState) (r : Result Pinned ReadError) → ReadsBlock contents t tag ring after p q r → IfOk r (λ pinned. tokens_of (held_at q.tokens pinned.frame) ≡ 1 → (link q.view pinned.frame).content ≡ Unlocked)
+unlocked_read contents t tag ring after p q (Ok pinned) b = λ one. b.answer.unlocked
+unlocked_read contents t tag ring after p q (Err why) b = tt

@@ -26,7 +26,8 @@ use Rattle.history_core.specs.History.{IsHistory}
 use Rattle.history_core.specs.Laws.{Laws}
 use Rattle.history_core.specs.Swept.{has_swept}
 use Rattle.history_core.proofs.History.{ends_in_history}
-use Rattle.history_core.proofs.Promises.{sweeps}
+use Rattle.history_core.proofs.Histories.{loaded_flushed}
+use Rattle.history_core.proofs.Promises.{seen_durable, sweeps}
 use Rattle.history_core.proofs.Rest.{whole}
 use Rattle.table_rule.specs.declared.opening.Opening.{Opening}
 use Rattle.table_rule.specs.Shows.{Devices}
@@ -88,6 +89,7 @@ met_split (x ∷ xs) (suc k) s = ap (sum_of_met x.view.met) (met_split xs k (at_
 pub record TookIn (u w : View) : Type 0 where
   pub front : u.front ≤ w.front
   pub seen : u.end_seen ≤ w.end_seen
+  pub flushed : u.flushed ≤ w.flushed
   pub down : u.saw_down ≡ true → w.saw_down ≡ true
   pub output : u.had_output ≡ true → w.had_output ≡ true
   pub kept : (k : ℕ) × (get_elem? w.joined_checkpoints k ≡ some (kept_checkpoint u))
@@ -101,6 +103,7 @@ took_in v [] j p e = absurd (some-ne-none p (sym e))
 took_in v (x ∷ xs) zero p e = let r = joins (joined_view v x.view) xs in let same = ap (λ (y : PassState). y.view) (some-injective x p e) in subst (λ (u : View). TookIn u (joined_views v (x ∷ xs))) same record {
   front = let a = r.front in omega arith;
   seen = let a = r.seen in omega arith;
+  flushed = let a = r.flushed in omega arith;
   down = λ d. r.down (or_right v.saw_down x.view.saw_down d);
   output = λ d. r.output (or_right v.had_output x.view.had_output d);
   kept = r.kept (length v.joined_checkpoints) (kept_checkpoint x.view) (at_last v.joined_checkpoints (kept_checkpoint x.view) x.view.joined_checkpoints);
@@ -154,6 +157,8 @@ module _ (s : State) (h : Laws s) (w : View) (there : get_elem? s.pool.core.view
     front = front;
     within = let a = t.front in let b = within in omega arith;
     seen = let a = t.seen in let b = h.ends 0 w there in omega arith;
+    flushed = let a = t.flushed in let b = loaded_flushed s h.invariant 0 w there in omega arith;
+    durable = seen_durable s h.invariant 0 p.view.flushed w there t.flushed;
     down = λ e. saw (t.down e);
     swept = λ upto c. sweeps s h.invariant h.debts h.swept 0 upto w there
         (inr (t.kept.0, kept_checkpoint p.view, t.kept.1, λ n inside. subst (λ (x : ℕ). upto ≤ x) (sym (kept_swept p.view n)) (c n inside)));
@@ -165,6 +170,8 @@ module _ (s : State) (h : Laws s) (w : View) (there : get_elem? s.pool.core.view
     front = front;
     within = let a = j.front in let b = within in omega arith;
     seen = let a = j.seen in let b = h.ends 0 w there in omega arith;
+    flushed = let a = j.flushed in let b = loaded_flushed s h.invariant 0 w there in omega arith;
+    durable = seen_durable s h.invariant 0 p.view.flushed w there j.flushed;
     down = λ e. saw (j.down e);
     swept = λ upto c. sweeps s h.invariant h.debts h.swept 0 upto w there
         (inl (λ n inside. subst (λ (x : ℕ). upto ≤ x) (sym (ap (λ (l : List LaneHold). (get_or l n no_lane).swept) j.lanes)) (c n inside)));

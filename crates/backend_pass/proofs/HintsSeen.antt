@@ -1,6 +1,7 @@
 -- What a read tells of its block's hint.
 use Rattle.std.proofs.Common.{◌≡◌, ◌≢◌, ◌<◌, ◌≤◌, ◌+◌, ℕ, Bool, true, false, List, Option, Some, Result, Ok, Err, refl, sym, ap, subst, arith}
-use Rattle.std.specs.Prelude.{◌↔◌}
+use Rattle.std.specs.Prelude.{◌↔◌, is_some}
+use Rattle.access_rings.specs.RingState.{RingState}
 use Rattle.segment_store.specs.Contents.{Pages}
 use Rattle.block_tag.specs.declared.tag.Tag.{Tag}
 use Rattle.block_tag.specs.Names.{packed_tag, partition_number}
@@ -25,7 +26,7 @@ use Rattle.frame_table.proofs.Rising.{rises_none, rises_on, rises_self, rises_ti
 use Rattle.frame_table.proofs.Told.{grows, looks_touch, self_after}
 use Rattle.map_partitions.specs.Hints.{StoresHint, hint_number}
 use Rattle.map_partitions.specs.Partition.{WentAndCame}
-use Rattle.clock_sweep.specs.FreeFrames.{QueueState}
+use Rattle.buffer_frames.specs.VictimChoices.{ChoiceState}
 use Rattle.held_pins.specs.Tokens.{Tokens}
 use Rattle.buffer_frames.specs.declared.hinting.HintSeen.{HintSeen}
 use Rattle.buffer_frames.specs.declared.hinting.HintSeen.TheVariants.{Unused, Had}
@@ -39,7 +40,7 @@ use Rattle.buffer_frames.specs.declared.reading.BlockError.TheVariants as block
 use Rattle.buffer_frames.specs.declared.victims.VictimError.TheVariants as victim
 use Rattle.buffer_frames.specs.Reads.{Locates, Misses, ReadNotes, looked_up, missed}
 use Rattle.backend_pass.specs.declared.errors.ReadError.{ReadError}
-use Rattle.backend_pass.specs.declared.errors.ReadError.TheVariants.{ReadFault, Unsound}
+use Rattle.backend_pass.specs.declared.errors.ReadError.TheVariants.{PastEnd, PinsFull, NoUnpinned, ReadFault, WriteFault, LogFault, LogDown, LogShort, Unsound}
 use Rattle.backend_pass.specs.declared.pinned.Pinned.{Pinned}
 use Rattle.backend_pass.specs.HintsSeen.{IsUnusedOrHad, ShowsHint, StoresHints}
 use Rattle.backend_pass.specs.Passes.{PassState}
@@ -91,15 +92,22 @@ module _ (n : ℕ) (tag : Tag) (held : Tokens) (ring : Bool) where
   looks_up seen f v u w (by_map hinted mapped hint under stores) rises = sees v hinted w seen hint
       (rises_on hinted mapped w (rises_under tag (SeesAndPins tag f ring) hinted mapped (rises_pinned tag f ring) under) (rises_on mapped u w (rises_stores n tag f mapped u stores) rises))
 
-  locates : (seen : HintSeen) (p q : QueueState) (f : ℕ) (last : List DeviceCall) (v w : View) → Locates n tag held ring seen p q f last v w → ShowsHint n tag held ring v w seen
-  locates seen p q f last v w (looked_up pinned looks works made same) = looks_up seen f v pinned w looks works.advances
-  locates seen p q f last v w (missed m s) = misses seen last v w m
+module _ {L G : Type 0} (contents : L → Option Pages) (t : FrameTable L G) where
+  locates : (tag : Tag) (held : Tokens) (ring : Bool) (seen : HintSeen) (c d : ChoiceState) (f : ℕ) (last : List DeviceCall) (v w : View) → Locates contents t tag held ring seen c d f last v w → ShowsHint (frames_of t) tag held ring v w seen
+  locates tag held ring seen c d f last v w (looked_up pinned looks works made ticks same) = looks_up (frames_of t) tag held ring seen f v pinned w looks works.advances
+  locates tag held ring seen c d f last v w (missed m s) = misses (frames_of t) tag held ring seen last v w m
 
-pub shows_hint : {L G : Type 0} (contents : L → Option Pages) (t : FrameTable L G) (tag : Tag) (ring : Bool) (p q : PassState) (r : Result Pinned ReadError) → ReadsBlock contents t tag ring p q r → ShowsHint (frames_of t) tag p.tokens ring p.view q.view q.hint
-shows_hint contents t tag ring p q (Ok pinned) b = locates (frames_of t) tag p.tokens ring q.hint p.queue q.queue pinned.frame _ p.view q.view b.calls
-shows_hint contents t tag ring p q (Err (ReadFault failed)) b = locates (frames_of t) tag p.tokens ring q.hint p.queue q.queue b.calls.0 _ p.view q.view b.calls.1
-shows_hint contents t tag ring p q (Err (Unsound failed)) b = locates (frames_of t) tag p.tokens ring q.hint p.queue q.queue b.calls.0 _ p.view q.view b.calls.1
-shows_hint contents t tag ring p q (Err _) b = misses (frames_of t) tag p.tokens ring q.hint _ p.view q.view b.calls.0
+  pub shows_hint : (tag : Tag) (ring after : Option RingState) (p q : PassState) (r : Result Pinned ReadError) → ReadsBlock contents t tag ring after p q r → ShowsHint (frames_of t) tag p.tokens (is_some ring) p.view q.view q.hint
+  shows_hint tag ring after p q (Ok pinned) b = locates tag p.tokens (is_some ring) q.hint _ _ pinned.frame _ p.view q.view b.calls
+  shows_hint tag ring after p q (Err (PastEnd block blocks)) b = absurd b.calls
+  shows_hint tag ring after p q (Err PinsFull) b = absurd b.calls
+  shows_hint tag ring after p q (Err (ReadFault failed)) b = locates tag p.tokens (is_some ring) q.hint _ _ b.calls.0 _ p.view q.view b.calls.1.0
+  shows_hint tag ring after p q (Err (Unsound failed)) b = locates tag p.tokens (is_some ring) q.hint _ _ b.calls.0 _ p.view q.view b.calls.1.0
+  shows_hint tag ring after p q (Err (NoUnpinned frames)) b = misses (frames_of t) tag p.tokens (is_some ring) q.hint _ p.view q.view b.calls.0
+  shows_hint tag ring after p q (Err (WriteFault failed)) b = misses (frames_of t) tag p.tokens (is_some ring) q.hint _ p.view q.view b.calls.0
+  shows_hint tag ring after p q (Err LogFault) b = misses (frames_of t) tag p.tokens (is_some ring) q.hint _ p.view q.view b.calls.0
+  shows_hint tag ring after p q (Err (LogDown at)) b = misses (frames_of t) tag p.tokens (is_some ring) q.hint _ p.view q.view b.calls.0
+  shows_hint tag ring after p q (Err (LogShort lsn end)) b = misses (frames_of t) tag p.tokens (is_some ring) q.hint _ p.view q.view b.calls.0
 
 -- How many latches of partitions were taken is as before exactly where the hint was not loaded, or gave the frame
 taken : (a b : ℕ) → a < b → b ≡ a → ⊥

@@ -82,6 +82,7 @@ pub record Joins (v w : View) (ps : List PassState) : Type 0 where
   pub met : w.met ≡ sum_of_met v.met (met_by_passes ps)
   pub front : v.front ≤ w.front
   pub seen : v.end_seen ≤ w.end_seen
+  pub flushed : v.flushed ≤ w.flushed
   pub down : v.saw_down ≡ true → w.saw_down ≡ true
   pub output : v.had_output ≡ true → w.had_output ≡ true
   pub kept : (k : ℕ) (c : JoinedCheckpoint) → get_elem? v.joined_checkpoints k ≡ some c → (j : ℕ) × (get_elem? w.joined_checkpoints j ≡ some c)
@@ -111,6 +112,7 @@ joins v [] = record {
   met = met_none v.met;
   front = omega arith;
   seen = omega arith;
+  flushed = omega arith;
   down = λ e. e;
   output = λ e. e;
   kept = λ k c e. (k, e);
@@ -127,6 +129,7 @@ joins v (p ∷ ps) = let r = joins (joined_view v p.view) ps in record {
   met = r.met ∙ met_sum v.met p.view.met (met_by_passes ps);
   front = let a = r.front in omega arith;
   seen = let a = r.seen in omega arith;
+  flushed = let a = r.flushed in omega arith;
   down = λ e. r.down (or_left v.saw_down p.view.saw_down e);
   output = λ e. r.output (or_left v.had_output p.view.had_output e);
   kept = λ k c e. r.kept k c (at_longer v.joined_checkpoints _ k c e);

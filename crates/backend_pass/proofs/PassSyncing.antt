@@ -45,7 +45,7 @@ callers_kept p q table id tokens census hint e rises locks = record {
   locks = locks;
   census = ap (λ (x : CensusList × QueueState). x.0) census;
   calls = calls_kept p q e;
-  sought = record { hint = hint; turns = ap (λ (x : View). x.turns) e; stores = ap (λ (x : View). x.hints) e; queue = ap (λ (x : CensusList × QueueState). x.1) census };
+  sought = record { hint = hint; turns = ap (λ (x : View). x.turns) e; stores = ap (λ (x : View). x.hints) e; queue = ap (λ (x : CensusList × QueueState). x.1) census; ticks = ap (λ (x : View). x.ticks) e };
 }
 
 pub callers_from : (a p q : PassState) → p ≡ a → KeepsCallers p q → KeepsCallers a q
@@ -60,7 +60,7 @@ rises_begun upto v w e = subst (OnlyRises v) (sym e) (rises_by v (view_of begin_
 
 pub callers_begun : (upto : ℕ) (p q : PassState) → q.table ≡ p.table → q.id ≡ p.id → q.tokens ≡ p.tokens → beside_of q ≡ beside_of p → q.hint ≡ p.hint → q.view ≡ view_of begin_checkpoint upto p.view → SameLocks p.view q.view → KeepsCallers p q
 callers_begun upto p q table id tokens census hint e locks = record {
-  sought = record { hint = hint; turns = ap (λ (x : View). x.turns) e; stores = ap (λ (x : View). x.hints) e; queue = ap (λ (x : CensusList × QueueState). x.1) census };
+  sought = record { hint = hint; turns = ap (λ (x : View). x.turns) e; stores = ap (λ (x : View). x.hints) e; queue = ap (λ (x : CensusList × QueueState). x.1) census; ticks = ap (λ (x : View). x.ticks) e };
   keeps = record {
     table = table;
     id = id;
@@ -113,7 +113,7 @@ kept_synced lane done v w e = ap kept_by_calls e
 
 pub callers_synced : (lane : ℕ) (done : Bool) (p q : PassState) → q.table ≡ p.table → q.id ≡ p.id → q.tokens ≡ p.tokens → beside_of q ≡ beside_of p → q.hint ≡ p.hint → work_of q.view ≡ synced_work lane done p.view → OnlyRises p.view q.view → SameLocks p.view q.view → KeepsCallers p q
 callers_synced lane done p q table id tokens census hint e rises locks = record {
-  sought = record { hint = hint; turns = ap (λ (x : View). x.turns) e; stores = ap (λ (x : View). x.hints) e; queue = ap (λ (x : CensusList × QueueState). x.1) census };
+  sought = record { hint = hint; turns = ap (λ (x : View). x.turns) e; stores = ap (λ (x : View). x.hints) e; queue = ap (λ (x : CensusList × QueueState). x.1) census; ticks = ap (λ (x : View). x.ticks) e };
   keeps = record {
     table = table;
     id = id;

@@ -13,7 +13,7 @@ use Rattle.history_core.specs.State.{State, stored_upto, synced_upto, failed}
 use Rattle.history_core.specs.Device.{HasRisen}
 use Rattle.history_core.specs.History.{IsHistory}
 use Rattle.history_core.specs.Laws.{Laws}
-use Rattle.history_core.specs.Promises.{AreStored, AreSynced}
+use Rattle.history_core.specs.Promises.{AreDurable, AreStored, AreSynced}
 use Rattle.block_tag.specs.declared.tag.Tag.{Tag}
 use Rattle.table_rule.specs.declared.opening.Opening.{Opening}
 use Rattle.table_rule.specs.Shows.{Devices, IsPlaced, IsLane, IsLog, KeepsOpening}
@@ -69,6 +69,9 @@ pub record ClosesPass (s : State) (p : PassState) : Type 0 where
   pub within : p.view.front ≤ s.end
   -- and no log end that it saw is beyond the log's end
   pub seen : p.view.end_seen ≤ s.end
+  -- what it saw flushed is flushed, and is durable in the log
+  pub flushed : p.view.flushed ≤ s.flushed
+  pub durable : AreDurable s p.view.flushed
   -- where it was told that the log is down, the log's count of faults rose since the start
   pub down : p.view.saw_down ≡ true → HasRisen s.log_faults s.device.faults
   -- what it swept is still stored, and synced

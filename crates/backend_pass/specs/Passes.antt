@@ -86,12 +86,13 @@ pub record KeepsCalls (p q : PassState) : Type 0 where
   pub front : q.view.front ≡ p.view.front
   pub place_loads : q.view.place_loads ≡ p.view.place_loads
 
--- It looked up no block: what was seen of a hint, how many latches of partitions it took, the hints that it stored, and what it took from the free list and pushed there are as they were
+-- It looked up no block: what was seen of a hint, how many latches of partitions it took, the hints that it stored, what it took from the free list and pushed there, and how often it moved the hand of the clock are as they were
 pub record KeepsSought (p q : PassState) : Type 0 where
   pub hint : q.hint ≡ p.hint
   pub turns : q.view.turns ≡ p.view.turns
   pub stores : q.view.hints ≡ p.view.hints
   pub queue : q.queue ≡ p.queue
+  pub ticks : q.view.ticks ≡ p.view.ticks
 
 -- What its callers have of it is as it was: their tokens and content locks, the census, and what the pass read and put; and it looked up no block
 pub record KeepsCallers (p q : PassState) : Type 0 where

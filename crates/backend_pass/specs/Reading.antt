@@ -1,5 +1,5 @@
 -- How a pass reads a block, and what it is refused for.
-use Rattle.std.specs.Prelude.{◌≡◌, ℕ, ◌+◌, ◌<◌, nat_lt, nat_eq, Bool, true, false, List, [], ◌∷◌, Option, Some, None, Result, Ok, Err, if◌then◌else◌}
+use Rattle.std.specs.Prelude.{◌≡◌, ℕ, ◌+◌, ◌<◌, nat_lt, nat_eq, Bool, true, false, List, [], ◌∷◌, Option, Some, None, Result, Ok, Err, if◌then◌else◌, is_some}
 use Rattle.block_tag.specs.declared.catalogue.RelEntry.{RelEntry}
 use Rattle.block_tag.specs.declared.tag.Tag.{Tag}
 use Rattle.block_tag.specs.Catalogue.{blocks_at}
@@ -19,14 +19,16 @@ use Rattle.wal_flush.specs.declared.flushes.FlushLog.TheVariants as log
 use Rattle.held_pins.specs.Tokens.{Tokens, count_of, held_at, tokens_with}
 use Rattle.buffer_frames.specs.declared.flushing.FrameFlushError.TheVariants as flush
 use Rattle.buffer_frames.specs.declared.hinting.HintSeen.{HintSeen}
+use Rattle.buffer_frames.specs.declared.victims.VictimError.{VictimError}
 use Rattle.buffer_frames.specs.declared.victims.VictimError.TheVariants as victim
 use Rattle.buffer_frames.specs.declared.reading.BlockError.{BlockError}
 use Rattle.buffer_frames.specs.declared.reading.BlockError.TheVariants as block
+use Rattle.buffer_frames.specs.declared.loading.LoadError.TheVariants as load
 use Rattle.buffer_frames.specs.Loading.{WasUnsoundAtOpening, loaded_by, loading_calls}
-use Rattle.clock_sweep.specs.FreeFrames.{QueueState}
-use Rattle.buffer_frames.specs.Bringing.{PushesNone}
-use Rattle.buffer_frames.specs.Reads.{KeptOrEmptied, Locates, Misses}
-use Rattle.buffer_frames.specs.Victims.{FindsAllPinned, LeavesDirty}
+use Rattle.access_rings.specs.RingState.{RingState}
+use Rattle.buffer_frames.specs.Reads.{GetsNoVictim, KeptOrEmptied, Locates, LocatesUnread}
+use Rattle.buffer_frames.specs.VictimChoices.{ChoiceState, choice_state}
+use Rattle.buffer_frames.specs.Victims.{VictimRefused}
 use Rattle.buffer_frames.specs.Working.{met_log, met_read, met_write}
 use Rattle.backend_pass.specs.declared.errors.ReadError.{ReadError}
 use Rattle.backend_pass.specs.declared.errors.ReadError.TheVariants.{PastEnd, PinsFull, NoUnpinned, ReadFault, WriteFault, LogFault, LogDown, LogShort, Unsound}
@@ -103,17 +105,6 @@ ReadingCensus n c d (Err (LogDown at)) = d ≡ new_census n
 ReadingCensus n c d (Err (LogShort lsn end)) = d ≡ new_census n
 ReadingCensus n c d (Err (Unsound failed)) = KeptOrEmptied n c d
 
--- In a table of n frames, by a pass that has these tokens, saw this of the block's hint, and whose pass of the free list was q and is r: the lane was read for the block where the answer says so, and no lane else. Where neither the hint nor the map gave a frame for it at first, all else was done after that
-module _ (n : ℕ) (tag : Tag) (held : Tokens) (ring : Bool) (seen : HintSeen) (q r : QueueState) where
-  abbrev pub ReadingCalls : ℕ → View → View → Result Pinned ReadError → Type 0
-  ReadingCalls lane v w (Ok pinned) = Locates n tag held ring seen q r pinned.frame
-      (loading_calls lane (packed_tag tag) (Ok (loaded_by pinned.hit))) v w
-  ReadingCalls lane v w (Err (ReadFault failed)) = (f : ℕ)
-      × Locates n tag held ring seen q r f (LaneRead lane (packed_tag tag) false ∷ []) v w
-  ReadingCalls lane v w (Err (Unsound failed)) = (f : ℕ)
-      × Locates n tag held ring seen q r f (LaneRead lane (packed_tag tag) true ∷ []) v w
-  ReadingCalls lane v w (Err why) = Misses n tag held ring seen [] v w × PushesNone q r
-
 -- The block is pinned, or its page isn't sound, or all frames are pinned
 abbrev pub IsReadUnsoundOrAllPinned : Result Pinned ReadError → Type 0
 IsReadUnsoundOrAllPinned (Ok pinned) = Unit {0}
@@ -133,16 +124,49 @@ module _ {L G : Type 0} (contents : L → Option Pages) (t : FrameTable L G) whe
     pub within : (other : Tag) → names_block other ≡ true → has_block (relations_of t) other ≡ true → WasWithin contents t other p.view.end_seen
     pub devices : NoDeviceFails p q
 
+  -- By a pass that has these tokens, and saw this of the block's hint, where the choice's state was c, and is d: the lane was read for the block where the answer says so, and no lane else. Where neither the hint nor the map gave a frame for it at first, all else was done after that.
+  module _ (tag : Tag) (held : Tokens) (ring : Bool) (seen : HintSeen) (c d : ChoiceState) where
+    abbrev pub ReadingCalls : ℕ → View → View → Result Pinned ReadError → Type 0
+    ReadingCalls lane v w (Ok pinned) = Locates contents t tag held ring seen c d pinned.frame
+        (loading_calls lane (packed_tag tag) (Ok (loaded_by pinned.hit))) v w
+    ReadingCalls lane v w (Err (PastEnd block blocks)) = ⊥
+    ReadingCalls lane v w (Err PinsFull) = ⊥
+    ReadingCalls lane v w (Err (ReadFault failed)) = (f : ℕ)
+        × LocatesUnread contents t tag held ring seen c d load.ReadFault
+        (LaneRead lane (packed_tag tag) false ∷ []) v w f
+    ReadingCalls lane v w (Err (Unsound failed)) = (f : ℕ)
+        × LocatesUnread contents t tag held ring seen c d load.Unsound
+        (LaneRead lane (packed_tag tag) true ∷ []) v w f
+    ReadingCalls lane v w (Err (NoUnpinned frames)) = GetsNoVictim contents t tag held ring seen c d
+        (victim.NoUnpinned frames) v w
+    ReadingCalls lane v w (Err (WriteFault failed)) = GetsNoVictim contents t tag held ring seen c d
+        (victim.Flush (flush.WriteFault failed)) v w
+    ReadingCalls lane v w (Err LogFault) = GetsNoVictim contents t tag held ring seen c d
+        (victim.Flush (flush.Log log.LogFault)) v w
+    ReadingCalls lane v w (Err (LogDown at)) = GetsNoVictim contents t tag held ring seen c d
+        (victim.Flush (flush.Log (log.LogDown at))) v w
+    ReadingCalls lane v w (Err (LogShort lsn end)) = GetsNoVictim contents t tag held ring seen c d
+        (victim.Flush (flush.Log (log.LogShort lsn end))) v w
+
+  -- No frame was freed for a block, for this reason, once neither its hint nor the map gave one
+  pub record LacksFrame (p q : PassState) (why : VictimError) : Type 0 where
+    pub missed : View
+    pub before : ChoiceState
+    pub after : ChoiceState
+    pub census : after.census ≡ q.census
+    pub refused : VictimRefused contents t p.view missed before q.view after why
+
   -- why a block was not read that was looked up: all frames were pinned; a victim's page was not written; or the block's own page was not read, or isn't sound, and wasn't as the table was opened, where that is known
   abbrev pub ReadingRefused : Tag → PassState → PassState → ReadError → Type 0
   ReadingRefused tag p q (PastEnd block blocks) = ⊥
   ReadingRefused tag p q PinsFull = ⊥
-  ReadingRefused tag p q (NoUnpinned frames) = (frames ≡ frames_of t) × FindsAllPinned (frames_of t) p.view q.view q.census.words
+  ReadingRefused tag p q (NoUnpinned frames) = LacksFrame p q (victim.NoUnpinned frames)
   ReadingRefused tag p q (ReadFault failed) = failed ≡ tag
-  ReadingRefused tag p q (WriteFault failed) = LeavesDirty contents t (flush.WriteFault failed) p.view q.view
-  ReadingRefused tag p q LogFault = LeavesDirty contents t (flush.Log log.LogFault) p.view q.view
-  ReadingRefused tag p q (LogDown at) = LeavesDirty contents t (flush.Log (log.LogDown at)) p.view q.view
-  ReadingRefused tag p q (LogShort lsn end) = LeavesDirty contents t (flush.Log (log.LogShort lsn end)) p.view q.view
+  ReadingRefused tag p q (WriteFault failed) = LacksFrame p q (victim.Flush (flush.WriteFault failed))
+  ReadingRefused tag p q LogFault = LacksFrame p q (victim.Flush (flush.Log log.LogFault))
+  ReadingRefused tag p q (LogDown at) = LacksFrame p q (victim.Flush (flush.Log (log.LogDown at)))
+  ReadingRefused tag p q (LogShort lsn end) = LacksFrame p q
+      (victim.Flush (flush.Log (log.LogShort lsn end)))
   ReadingRefused tag p q (Unsound failed) = (failed ≡ tag) × WasUnsoundAtOpening contents t tag
 
   -- The block is pinned with its first token, BM_VALID was seen, no content lock is held there, and the block was sound as the table was opened, where that is known
@@ -160,8 +184,9 @@ module _ {L G : Type 0} (contents : L → Option Pages) (t : FrameTable L G) whe
   ReadingAnswer tag p q (Ok pinned) = PinsFirst tag p q pinned
   ReadingAnswer tag p q (Err why) = (q.tokens ≡ p.tokens) × ReadingRefused tag p q why
 
-  -- A block was looked up, with this answer and these calls of devices
-  pub record ReadsBlock (tag : Tag) (ring : Bool) (p q : PassState) (r : Result Pinned ReadError) : Type 0 where
+  -- A block was looked up, with this answer and these calls of devices, by a ring, if there was one, that is the other now
+  pub record ReadsBlock (tag : Tag) (ring after : Option RingState) (p q : PassState)
+      (r : Result Pinned ReadError) : Type 0 where
     pub answer : ReadingAnswer tag p q r
-    pub calls : ReadingCalls (frames_of t) tag p.tokens ring q.hint p.queue q.queue
-        (lane_number tag (lanes_in t)) p.view q.view r
+    pub calls : ReadingCalls tag p.tokens (is_some ring) q.hint (choice_state p.queue ring p.census)
+        (choice_state q.queue after q.census) (lane_number tag (lanes_in t)) p.view q.view r

@@ -18,7 +18,7 @@ impl Pass {
     ghost use Rattle.page_core.specs.Kinds as kinds;
     ghost use Rattle.frame_table.specs.FrameSteps.{Did};
     ghost use Rattle.frame_table.specs.Kinds.{pages};
-    ghost use Rattle.content_locks.specs.Locks.{LocksContent, RefusesLock, ShowsExclusive, ShowsLock};
+    ghost use Rattle.content_locks.specs.Locks.{LocksAtOnce, LocksContent, RefusesLock, ShowsExclusive, ShowsLock};
     ghost use Rattle.held_pins.specs.Tokens.{IsPinnedFor};
     ghost use Rattle.backend_pass.specs.Locks.{ChangesLock, HasLock};
     ghost use Rattle.backend_pass.specs.Managers.{Belongs};
@@ -99,7 +99,7 @@ impl Pass {
         ensures devices { KeepsDevices self.old self.new }
         ensures token { IfOk result (λ taken. taken.pinned ≡ pinned) }
         ensures lock { IfOk result (λ _. ChangesLock lock.Shared pinned.frame self.old self.new) }
-        ensures did { IfOk result (λ _. LocksContent kinds.share pinned.frame self.old.view self.new.view) }
+        ensures did { IfOk result (λ _. LocksAtOnce kinds.share pinned.frame self.old.view self.new.view) }
         ensures back { IfErr result (λ refused. refused.pinned ≡ pinned) }
         ensures kept { IfErr result (λ _. KeepsLocks self.old self.new) }
         ensures others { (g : ℕ) → g ≢ pinned.frame → link self.new.view g ≡ link self.old.view g }
@@ -133,7 +133,7 @@ impl Pass {
         ensures devices { KeepsDevices self.old self.new }
         ensures token { IfOk result (λ taken. taken.pinned ≡ pinned) }
         ensures lock { IfOk result (λ _. ChangesLock lock.Exclusive pinned.frame self.old self.new) }
-        ensures did { IfOk result (λ _. LocksContent kinds.exclude pinned.frame self.old.view self.new.view) }
+        ensures did { IfOk result (λ _. LocksAtOnce kinds.exclude pinned.frame self.old.view self.new.view) }
         ensures back { IfErr result (λ refused. refused.pinned ≡ pinned) }
         ensures kept { IfErr result (λ _. KeepsLocks self.old self.new) }
         ensures others { (g : ℕ) → g ≢ pinned.frame → link self.new.view g ≡ link self.old.view g }

@@ -10,6 +10,7 @@ ghost use Rattle.held_pins.specs.Tokens.{IsNew};
 ghost use Rattle.buffer_frames.specs.Hinting.{TakesTurns};
 ghost use Rattle.buffer_frames.specs.Outside.{kept_by_block_reads, ring_shape, shown_count};
 ghost use Rattle.buffer_frames.specs.Reads.{CensusRead, ReadAnswer, ReadCalls, ReadNotes, met_read_block};
+ghost use Rattle.buffer_frames.specs.VictimChoices.{choice_state};
 ghost use Rattle.backend_pass.specs.Passes.{view_in};
 ghost use Rattle.backend_pass.specs.Seats.{IsSeated, SameBadge};
 ghost use Rattle.backend_pass.specs.Reading.{read_refusal, shown_after};
@@ -135,11 +136,13 @@ fn read_seated<L: BlockLane, G: LogDevice, R: Wait>(
         (view_in badge.old.views).hints (view_in badge.new.views).hints result }
     ensures advances { OnlyRises (view_in badge.old.views) (view_in badge.new.views) }
     ensures locks { SameLocks (view_in badge.old.views) (view_in badge.new.views) }
-    ensures answer { ReadAnswer L.contents manager.now.table tag.now held.now census.new.words (view_in badge.old.views) (view_in badge.new.views) result }
+    ensures answer { ReadAnswer L.contents manager.now.table tag.now held.now
+        (view_in badge.old.views) (view_in badge.new.views) result }
     ensures census { CensusRead (frames_of manager.now.table) census.old census.new result }
     ensures met { (view_in badge.new.views).met ≡ met_read_block result (view_in badge.old.views).met }
-    ensures calls { ReadCalls (frames_of manager.now.table) tag.now held.now (is_some ring.old)
-        sought.new.hint queue.old queue.new (lane_number tag.now (lanes_in manager.now.table))
+    ensures calls { ReadCalls L.contents manager.now.table tag.now held.now (is_some ring.old)
+        sought.new.hint (choice_state queue.old ring.old census.old)
+        (choice_state queue.new ring.new census.new) (lane_number tag.now (lanes_in manager.now.table))
         (view_in badge.old.views) (view_in badge.new.views) result }
 {
     let mut seat = take_seat::<L, G>(badge);
@@ -201,7 +204,7 @@ impl Pass {
         ensures mark { KeepsMark self.old self.new }
         ensures locks { KeepsLocks self.old self.new }
         ensures ring { ring_shape ring.new ≡ ring_shape ring.old }
-        ensures answer { ReadsBlock L.contents manager.now.table tag.now (is_some ring.old) self.old self.new result }
+        ensures answer { ReadsBlock L.contents manager.now.table tag.now ring.old ring.new self.old self.new result }
         ensures census { ReadingCensus (frames_of manager.now.table) self.old.census self.new.census result }
         ensures met { self.new.view.met ≡ met_reading result self.old.view.met }
         ensures turns { TakesTurns self.new.hint self.old.view.turns self.new.view.turns }
@@ -268,7 +271,9 @@ impl Pass {
             × (ring.new ≡ ring.old) }
 
         // Any other block is looked up.
-        ensures new { refused_at_once (relations_of manager.now.table) self.old.tokens tag ≡ None → IsNew tag self.old.tokens → ReadsBlock L.contents manager.now.table tag (is_some ring.old) self.old self.new result }
+        ensures new { refused_at_once (relations_of manager.now.table) self.old.tokens tag ≡ None
+            → IsNew tag self.old.tokens
+            → ReadsBlock L.contents manager.now.table tag ring.old ring.new self.old self.new result }
 
         // What is told of the hint was seen in this call.
         ensures hint { ShowsHint (frames_of manager.now.table) tag self.old.tokens

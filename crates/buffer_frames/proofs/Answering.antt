@@ -1,8 +1,12 @@
 -- What came of a write of a frame's page, with other steps before it and after it.
 use Rattle.std.proofs.Common.{◌≡◌, ℕ, ◌≤◌, Bool, true, false, Option, Some, None, [], ◌∷◌, ◌++◌, ◌||◌, ◌&&◌, Result, Ok, Err, sym, refl, ap, ◌∙◌, subst, arith}
-use Rattle.std.specs.Prelude.{IfErr, IfOk}
+use Rattle.std.specs.Prelude.{IfErr, IfOk, ◌≢◌, not}
 use Rattle.std.proofs.lemmas.List.Elements.{All-cons, All-nil}
 use Rattle.std.specs.List.{All}
+use denote.Enum.Bare.{sameb}
+use Rattle.access_rings.specs.contracts.ring.RingKind.{the_type}
+use Rattle.access_rings.specs.declared.ring.RingKind.{RingKind}
+use Rattle.access_rings.specs.declared.ring.RingKind.TheVariants.{BulkRead}
 use Rattle.access_rings.specs.RingState.{RingState}
 use Rattle.block_tag.specs.declared.tag.Tag.{Tag}
 use Rattle.block_tag.specs.Names.{packed_tag}
@@ -24,7 +28,9 @@ use Rattle.frame_table.specs.declared.table.FrameTable.{FrameTable}
 use Rattle.frame_table.specs.Seats.{OnlyRises, SameMarks, SameSelf, ViewMarks, loaded_link}
 use Rattle.frame_table.specs.WordSteps.{DidWord, load_flushed}
 use Rattle.content_locks.specs.Io.{EndsIo, FindsNothing}
-use Rattle.content_locks.specs.Locks.{Copies}
+use Rattle.content_locks.specs.Locks.{Copies, LocksAtOnce}
+use Rattle.frame_table.specs.FrameSteps.{Did, looking}
+use Rattle.page_core.specs.Kinds.{share}
 use Rattle.wal_flush.specs.declared.flushes.FlushLog.{FlushLog}
 use Rattle.wal_flush.specs.declared.flushes.FlushLog.TheVariants.{LogShort, LogDown, LogFault}
 use Rattle.wal_flush.specs.Flushes.{FlushRefused}
@@ -36,9 +42,9 @@ use Rattle.buffer_frames.specs.declared.flushing.FrameFlushError.{FrameFlushErro
 use Rattle.buffer_frames.specs.declared.flushing.FrameFlushError.TheVariants.{Log, WriteFault}
 use Rattle.buffer_frames.specs.declared.flushing.FlushedPage.{FlushedPage}
 use Rattle.buffer_frames.specs.declared.flushing.FlushedPage.TheVariants.{Written, Clean}
-use Rattle.buffer_frames.specs.Flushing.{ClearsJust, CopiesAnd, EndedInError, EndedWritten, EndsWrite, FlushAnswer, LogRefuses, LogShows, RejectsVictim, WriteAnswer, WentToLane, log_syncs, syncs_refused}
+use Rattle.buffer_frames.specs.Flushing.{ClearsJust, CopiesAnd, EndedInError, EndedWritten, FlushAnswer, LogRefuses, LogShows, RejectsVictim, SharesDirty, WriteAnswer, WentToLane, log_syncs, syncs_refused}
 use Rattle.buffer_frames.specs.Stages.{HasVictim, IsPinned}
-use Rattle.buffer_frames.specs.Working.{Calls, IsFlushCall, Made, WorksAt}
+use Rattle.buffer_frames.specs.Working.{Calls, EndsWork, IsFlushCall, Made, WorksAt}
 use Rattle.buffer_frames.proofs.WorkSteps.{made_after, made_before, made_none, made_on, within_all, within_on}
 
 pub had_output_marked : (v w : View) → SameMarks v w → w.had_output ≡ v.had_output
@@ -48,7 +54,7 @@ had_output_marked v w m = ap (λ (x : ViewMarks). x.had_output) m
 pub ended_in_error : (f : ℕ) (v u w : View) → OnlyRises v u → EndsIo Bad f u w → (link u f).io ≡ Output → u.had_output ≡ true → EndedInError f v w
 ended_in_error f v u w rises e right had = let dirty = e.shows.output right in let stored = unlocked_fields (io_ended_fields Bad (fields e.word)) in let notes = ap (λ (x : ViewMarks). x.last_ended) e.marks in record {
   stored = stored;
-  ends = within_on (EndsWrite Bad f stored) v u w w rises (within_all (EndsWrite Bad f stored) u w record { right = right; ends = e; notes = notes }) (rises_none w);
+  ends = within_on (EndsWork Output Bad f stored) v u w w rises (within_all (EndsWork Output Bad f stored) u w record { had = right; ends = e; notes = notes }) (rises_none w);
   last = notes;
   valid = e.shows.dirty dirty;
   dirty = dirty;
@@ -64,7 +70,7 @@ both_left false b e = e
 pub ended_written : (f : ℕ) (v u w : View) → OnlyRises v u → EndsIo WriteOk f u w → (link u f).io ≡ Output → u.had_output ≡ true → EndedWritten f v w
 ended_written f v u w rises e right had = let stored = unlocked_fields (io_ended_fields WriteOk (fields e.word)) in let notes = ap (λ (x : ViewMarks). x.last_ended) e.marks in record {
   stored = stored;
-  ends = within_on (EndsWrite WriteOk f stored) v u w w rises (within_all (EndsWrite WriteOk f stored) u w record { right = right; ends = e; notes = notes }) (rises_none w);
+  ends = within_on (EndsWork Output WriteOk f stored) v u w w rises (within_all (EndsWork Output WriteOk f stored) u w record { had = right; ends = e; notes = notes }) (rises_none w);
   last = notes;
   valid = e.shows.dirty (e.shows.output right);
   done = refl;
@@ -76,7 +82,7 @@ ended_written f v u w rises e right had = let stored = unlocked_fields (io_ended
 pub error_between : (f : ℕ) (v u x w : View) → OnlyRises v u → EndedInError f u x → SameMarks x w → OnlyRises x w → EndedInError f v w
 error_between f v u x w before e m after = record {
   stored = e.stored;
-  ends = within_on (EndsWrite Bad f e.stored) v u x w before e.ends after;
+  ends = within_on (EndsWork Output Bad f e.stored) v u x w before e.ends after;
   last = ap (λ (y : ViewMarks). y.last_ended) m ∙ e.last;
   valid = e.valid;
   dirty = e.dirty;
@@ -87,7 +93,7 @@ error_between f v u x w before e m after = record {
 pub written_between : (f : ℕ) (v u x w : View) → OnlyRises v u → EndedWritten f u x → SameMarks x w → OnlyRises x w → EndedWritten f v w
 written_between f v u x w before e m after = record {
   stored = e.stored;
-  ends = within_on (EndsWrite WriteOk f e.stored) v u x w before e.ends after;
+  ends = within_on (EndsWork Output WriteOk f e.stored) v u x w before e.ends after;
   last = ap (λ (y : ViewMarks). y.last_ended) m ∙ e.last;
   valid = e.valid;
   done = e.done;
@@ -225,6 +231,17 @@ rejects_between f from_ring before after v u x w a r b = record {
   loads = within_on (λ y z. DidWord load_flushed y z r.flushed) v u x w a r.loads b;
   unflushed = r.unflushed;
 }
+
+-- a ring that was seen to be of another kind
+pub not_bulk_read : (kind : RingKind) (ne : Bool) → ne ≡ not (sameb the_type kind BulkRead) → ne ≡ true → kind ≢ BulkRead
+not_bulk_read kind ne is other e = let no : true ≡ false = sym other ∙ is ∙ ap (λ (k : RingKind). not (sameb the_type k BulkRead)) e in absurd (cc)
+
+-- its content lock was shared at once
+pub shares_dirty : (f word : ℕ) (v u w : View) → Did looking f v u word → (fields word).dirty ≡ true → LocksAtOnce share f u w → SharesDirty f v w
+shares_dirty f word v u w looks dirty shares = record { seen = u; sees = record { word = word; looks = looks; dirty = dirty }; shares = shares }
+
+pub same_page : (r : Result FlushedPage FrameFlushError) (p q : FlushedPage) → r ≡ Ok p → r ≡ Ok q → p ≡ q
+same_page r p q a b = cc
 
 pub flush_calls_after : (v u w : View) → u.device_calls ≡ v.device_calls → Calls IsFlushCall u w → Calls IsFlushCall v w
 flush_calls_after v u w e c = record { made = c.made; calls = made_before c.made v u w e c.calls; each = c.each }

@@ -25,10 +25,11 @@ use Rattle.table_rule.specs.LaneCalls.{LaneDevices, LaneDid, NotesRead, NotesWri
 use Rattle.table_rule.specs.TakenLanes.{IsBlockOf, page_held, taken_lane}
 use Rattle.frame_table.specs.Latches.{DidTurn, IsTurned, SameWork}
 use Rattle.frame_table.specs.LaneWork.{IsNoted, IsTakenLane, LaneStep, MayNote, MayNoteRead, MayNoteWrite, MayReturn, back_lane, back_view, is_sync, lane_device_calls, lane_read_link, met_of, out_lane, out_view, swept_lane, unwritten_link, written_link}
-use Rattle.frame_table.specs.Seats.{OnlyRises, SameMarks, view_marks}
+use Rattle.frame_table.specs.Seats.{ListsOnly, OnlyRises, SameMarks, view_marks}
 use Rattle.held_pins.specs.Rests.{HasNoDevice, kept_by_calls}
 use Rattle.frame_table.proofs.Rising.{rises_back, rises_on, rises_out, rises_turned}
 use Rattle.frame_table.proofs.LogWork.{met_none}
+use Rattle.frame_table.proofs.Told.{lists_same}
 use Rattle.buffer_frames.specs.Flushing.{CallsLane, met_lane_write}
 use Rattle.buffer_frames.specs.Loading.{met_lane_read}
 use Rattle.buffer_frames.specs.Stages.{IsReading}
@@ -68,6 +69,11 @@ module _ {L : Type 0} (d : LaneDevices L) (q : ℕ) (after : L) (call : LaneCall
   pub trip_advances : OnlyRises v w
   trip_advances = rises_on v u w (rises_turned true (Lane q) v u took turned takes) (rises_on u x w (rises_out q taken u x out went) (rises_on x y w (rises_back d q after call x y back came) (rises_turned false (Lane q) y w left free leaves)))
 
+  trip_lists : (f : ℕ) → ListsOnly f v w
+  trip_lists f = lists_same f v w
+      (ap (λ (z : View). z.loads) left ∙ ap (λ (z : View). z.loads) back ∙ ap (λ (z : View). z.loads) out ∙ ap (λ (z : View). z.loads) took)
+      (ap (λ (z : View). z.changes) left ∙ ap (λ (z : View). z.changes) back ∙ ap (λ (z : View). z.changes) out ∙ ap (λ (z : View). z.changes) took)
+
   pub trip_quiet : HasNoDevice v → HasNoDevice w
   trip_quiet n = record {
     live = ap (λ (z : View). z.emptied) left ∙ ap (λ (z : View). z.emptied) back ∙ ap (λ (z : View). z.emptied) out ∙ ap (λ (z : View). z.emptied) took ∙ n.live;
@@ -91,6 +97,7 @@ module _ {L : Type 0} (d : LaneDevices L) (q : ℕ) (after : L) (call : LaneCall
   trip_works f others = record {
     kept = trip_kept;
     advances = trip_advances;
+    lists = trip_lists f;
     partitions = free.2 ∙ came.partitions ∙ went.partitions ∙ turned.2;
     others = λ g n. trip_left g ∙ others g n ∙ trip_went g;
   }

@@ -11,7 +11,9 @@ pub mod Notes
 pub mod Written
 pub mod Answering
 pub mod Noting
+pub mod Trying
 pub mod Locating
+pub mod Unread
 pub mod PageReading
 pub mod PagePuts
 pub mod Hints

@@ -7,32 +7,47 @@ use Rattle.frame_table.specs.declared.table.FrameTable.{FrameTable}
 use Rattle.frame_table.specs.Seats.{Grows, OnlyRises, SameMarks, SameSeat, SameSelf}
 use Rattle.frame_table.specs.Latches.{SameWork, view_counted}
 use Rattle.frame_table.proofs.Rising.{rises_by}
+use Rattle.frame_table.proofs.Told.{grows_on}
 use Rattle.table_rule.specs.declared.turn.Turn.TheVariants.{Partition}
 use Rattle.clock_sweep.specs.Keeping.{SameAside}
 use Rattle.held_pins.specs.Rests.{Stands, kept_by_calls}
 use Rattle.held_pins.proofs.Keeping.{devices_same, stands_on}
 use Rattle.access_rings.specs.RingState.{RingState, ring_after_keep, ring_after_rejection}
 use Rattle.clock_sweep.specs.Choosing.{ring_gone_on, ring_keeping}
-use Rattle.buffer_frames.specs.Outside.{RingShape, kept_by_block_reads, outside_of, ring_shape, searched_of, shape_of, shown_count}
+use Rattle.buffer_frames.specs.Outside.{RingShape, chosen_of, kept_by_block_reads, outside_of, ring_shape, searched_of, shape_of, shown_count}
 
 -- The equations of the layers below, as this one
 pub outside_step : (v w : View) → SameSelf v w → SameMarks v w → outside_of w ≡ outside_of v
-outside_step v w self marks = λ i. record (self i) { ticks = 0; dirtied_or_synced = (marks i).dirtied_or_synced; had_output = (marks i).had_output; last_ended = (marks i).last_ended }
+outside_step v w self marks = λ i. record (self i) { dirtied_or_synced = (marks i).dirtied_or_synced; had_output = (marks i).had_output; last_ended = (marks i).last_ended }
 
-pub outside_aside : (v w : View) → SameAside v w → outside_of w ≡ outside_of v
-outside_aside v w aside = λ i. record (aside i) { partitions = []; unentered = []; residents = [] }
+pub chosen_aside : (v w : View) → SameAside v w → chosen_of w ≡ chosen_of v
+chosen_aside v w aside = λ i. record (aside i) { partitions = []; unentered = []; residents = [] }
 
 pub outside_worked : (v w : View) → SameWork v w → w.lanes ≡ v.lanes → w.log ≡ v.log → outside_of w ≡ outside_of v
-outside_worked v w work lanes log = λ i. record (work i) { links = []; ticks = 0; loads = []; changes = []; unentered = []; residents = []; lanes = lanes i; log = log i }
+outside_worked v w work lanes log = λ i. record (work i) { links = []; loads = []; changes = []; unentered = []; residents = []; lanes = lanes i; log = log i }
 
 pub links_worked : (v w : View) → SameWork v w → w.links ≡ v.links
 links_worked v w work = ap (λ (x : View). x.links) work
 
 -- a latch was taken, and counted
 pub searched_counted : (p : ℕ) (v w : View) → SameWork (view_counted true (Partition p) v) w → w.lanes ≡ v.lanes → w.log ≡ v.log → searched_of w ≡ searched_of v
-searched_counted p v w work lanes log = λ i. record (work i) { links = []; ticks = 0; loads = []; changes = []; unentered = []; residents = []; turns = 0; hints = []; lanes = lanes i; log = log i }
+searched_counted p v w work lanes log = λ i. record (work i) { links = []; loads = []; changes = []; unentered = []; residents = []; turns = 0; hints = []; lanes = lanes i; log = log i }
 
--- What follows of it, also where latches of partitions were taken, and hints stored
+-- What follows of it where a victim was chosen
+pub kept_chosen : (v w : View) → chosen_of w ≡ chosen_of v → kept_by_block_reads w ≡ kept_by_block_reads v
+kept_chosen v w e = ap kept_by_block_reads e
+
+pub calls_chosen : (v w : View) → chosen_of w ≡ chosen_of v → w.device_calls ≡ v.device_calls
+calls_chosen v w e = ap (λ (x : View). x.device_calls) e
+
+pub grows_chosen : (v w : View) → Grows v w → chosen_of w ≡ chosen_of v → OnlyRises v w
+grows_chosen v w g e = rises_by v w g (ap (λ (x : View). x.lanes) e)
+    (let a = ap (λ (x : View). x.end_seen) e in omega arith) (let a = ap (λ (x : View). x.flushed) e in omega arith) (λ d. ap (λ (x : View). x.saw_down) e ∙ d)
+
+pub stands_chosen : {L G : Type 0} (t : FrameTable L G) (s s' : Seat (Value L G) View) → SameSeat s s' → chosen_of s'.me.0 ≡ chosen_of s.me.0 → Stands t s → Stands t s'
+stands_chosen t s s' same e k = stands_on t s s' same (devices_same s.me.0 s'.me.0 (ap (λ (x : View). x.emptied) e) (ap (λ (x : View). x.lanes) e) (ap (λ (x : View). x.log) e) k.quiet) k
+
+-- and also where latches of partitions were taken, and hints stored
 pub outside_searched : (v w : View) → outside_of w ≡ outside_of v → searched_of w ≡ searched_of v
 outside_searched v w e = ap searched_of e
 
@@ -51,6 +66,16 @@ stands_searched t s s' same e k = stands_on t s s' same (devices_same s.me.0 s'.
 pub grows_searched : (v w : View) → Grows v w → searched_of w ≡ searched_of v → OnlyRises v w
 grows_searched v w g e = rises_by v w g (ap (λ (x : View). x.lanes) e)
     (let a = ap (λ (x : View). x.end_seen) e in omega arith) (let a = ap (λ (x : View). x.flushed) e in omega arith) (λ d. ap (λ (x : View). x.saw_down) e ∙ d)
+
+pub rises_counted : (p : ℕ) (v w : View) → SameWork (view_counted true (Partition p) v) w → w.lanes ≡ v.lanes → w.log ≡ v.log → Grows v w → OnlyRises v w
+rises_counted p v w work lanes log g = grows_searched v w g (searched_counted p v w work lanes log)
+
+pub outside_chosen : (v w : View) → outside_of w ≡ outside_of v → chosen_of w ≡ chosen_of v
+outside_chosen v w e = ap chosen_of e
+
+-- a choice, and then a step at the frame
+pub rises_tagged : (v u w : View) → Grows v u → chosen_of u ≡ chosen_of v → Grows u w → outside_of w ≡ outside_of u → OnlyRises v w
+rises_tagged v u w a same b kept = grows_chosen v w (grows_on v u w a b) (outside_chosen u w kept ∙ same)
 
 pub kept_outside : (v w : View) → outside_of w ≡ outside_of v → kept_by_calls w ≡ kept_by_calls v
 kept_outside v w e = ap kept_by_calls e

@@ -13,11 +13,12 @@ use Rattle.frame_table.specs.Seats.{MarksBegun, MarksEnded, OnlyRises, SameMarks
 use Rattle.held_pins.specs.Rests.{HasNoDevice, HasNoLatch, LinksRestBeside}
 use Rattle.held_pins.specs.Tokens.{Tokens}
 use Rattle.frame_table.proofs.Rising.{rises_none, rises_on, rises_touched}
+use Rattle.frame_table.proofs.Told.{lists_on}
 use Rattle.held_pins.proofs.Keeping.{kept_self, latches_same}
 use Rattle.buffer_frames.specs.Working.{Made, Within, WorksAt}
 
 pub works_touched : (f : ℕ) (v w : View) → Touches f v w → w.dirtied_or_synced ≡ v.dirtied_or_synced → WorksAt f v w
-works_touched f v w t m = record { kept = kept_self v w t.self m; advances = rises_touched f v w t; partitions = t.partitions; others = t.others }
+works_touched f v w t m = record { kept = kept_self v w t.self m; advances = rises_touched f v w t; lists = t.lists; partitions = t.partitions; others = t.others }
 
 pub works_marked : (f : ℕ) (v w : View) → Touches f v w → SameMarks v w → WorksAt f v w
 works_marked f v w t m = works_touched f v w t (ap (λ (x : ViewMarks). x.dirtied_or_synced) m)
@@ -29,7 +30,7 @@ pub works_ended : (stored : StateWord) (f : ℕ) (v w : View) → Touches f v w 
 works_ended stored f v w t m = works_touched f v w t (ap (λ (x : ViewMarks). x.dirtied_or_synced) m)
 
 pub works_on : (f : ℕ) (v u w : View) → WorksAt f v u → WorksAt f u w → WorksAt f v w
-works_on f v u w a b = record { kept = b.kept ∙ a.kept; advances = rises_on v u w a.advances b.advances; partitions = b.partitions ∙ a.partitions; others = λ g n. b.others g n ∙ a.others g n }
+works_on f v u w a b = record { kept = b.kept ∙ a.kept; advances = rises_on v u w a.advances b.advances; lists = lists_on f v u w a.lists b.lists; partitions = b.partitions ∙ a.partitions; others = λ g n. b.others g n ∙ a.others g n }
 
 -- what is not held before such work isn't after it
 pub latches_worked : (f : ℕ) (v w : View) → WorksAt f v w → HasNoLatch v → HasNoLatch w

@@ -10,7 +10,7 @@ use Rattle.pin_core.specs.State.{Page, link}
 use Rattle.table_rule.specs.declared.value.Value.{Value}
 use Rattle.frame_table.specs.declared.table.FrameTable.{FrameTable}
 use Rattle.frame_table.specs.WordSteps.{DidWord, load_flushed}
-use Rattle.frame_table.specs.Seats.{OnlyRises, SameMarks, SameSeat, frames_of, view_marks}
+use Rattle.frame_table.specs.Seats.{ListsOnly, OnlyRises, SameMarks, SameSeat, Touches, frames_of, view_marks}
 use Rattle.wal_flush.specs.declared.flushes.FlushedBy.{FlushedBy}
 use Rattle.wal_flush.specs.declared.flushes.FlushedBy.TheVariants.{NoSync, OneSync}
 use Rattle.wal_flush.specs.declared.flushes.FlushLog.{FlushLog}
@@ -18,19 +18,23 @@ use Rattle.wal_flush.specs.declared.flushes.FlushLog.TheVariants.{LogShort, LogD
 use Rattle.wal_flush.specs.Flushes.{FlushRefused, FlushSeesEnd, ShortOf, as_looked, flushed_view, unflushed_view}
 use Rattle.wal_flush.specs.Latched.{KeepsWork}
 use Rattle.wal_flush.specs.Latched.{kept_of as log_kept}
+use Rattle.wal_flush.proofs.Listing.{flushed_lists}
 use Rattle.wal_flush.proofs.Rising.{flushed_rises}
 use Rattle.held_pins.specs.Rests.{Stands, kept_by_calls}
 use Rattle.held_pins.proofs.Keeping.{devices_same, stands_on}
 use Rattle.buffer_frames.specs.Flushing.{CallsLane, LogRefuses, LogShows, WentToLane, met_refused, log_syncs, syncs_refused}
 use Rattle.buffer_frames.specs.declared.flushing.FrameFlushError.TheVariants.{Log}
-use Rattle.buffer_frames.specs.Working.{Made, WorksAt}
-use Rattle.buffer_frames.proofs.WorkSteps.{made_none, within_all}
+use Rattle.buffer_frames.specs.Working.{Made, Within, WorksAt}
+use Rattle.frame_table.proofs.Rising.{rises_none, rises_touched}
+use Rattle.content_locks.specs.Locks.{Copies}
+use Rattle.buffer_frames.proofs.WorkSteps.{made_none, within_all, within_on}
 
 -- what a flush of the log leaves
-pub works_flushed : (f : ℕ) (v w : View) → KeepsWork v w → OnlyRises v w → WorksAt f v w
-works_flushed f v w e rises = record {
+pub works_flushed : (f : ℕ) (v w : View) → KeepsWork v w → OnlyRises v w → ListsOnly f v w → WorksAt f v w
+works_flushed f v w e rises lists = record {
   kept = ap kept_by_calls e;
   advances = rises;
+  lists = lists;
   partitions = ap (λ (x : View). x.partitions) e;
   others = λ h n. ap (λ (x : View). link x h) e;
 }
@@ -101,5 +105,12 @@ module _ {L G : Type 0} (contents : L → Option Pages) (t : FrameTable L G) whe
 pub loaded_work : (found : ℕ) (v w : View) → DidWord load_flushed v w found → KeepsWork v w
 loaded_work found v w d = ap log_kept d.after
 
+-- after a page was copied
+pub copied_then_loaded : (f : ℕ) (page : Page) (found : ℕ) (v u w : View) → Touches f v u → Copies f page v u → DidWord load_flushed u w found → Within (Copies f page) v w × Within (λ a b. DidWord load_flushed a b found) v w
+copied_then_loaded f page found v u w touches copies loads = (
+  within_on (Copies f page) v v u w (rises_none v) (within_all (Copies f page) v u copies) (flushed_rises found u w loads),
+  within_on (λ a b. DidWord load_flushed a b found) v u w w (rises_touched f v u touches) (within_all (λ a b. DidWord load_flushed a b found) u w loads) (rises_none w),
+)
+
 pub works_loaded : (f found : ℕ) (v w : View) → DidWord load_flushed v w found → WorksAt f v w
-works_loaded f found v w d = works_flushed f v w (loaded_work found v w d) (flushed_rises found v w d)
+works_loaded f found v w d = works_flushed f v w (loaded_work found v w d) (flushed_rises found v w d) (flushed_lists f found v w d)

@@ -1,12 +1,12 @@
 -- How the page of a frame goes to its lane, and why not.
-use Rattle.std.specs.Prelude.{◌≡◌, ℕ, ◌<◌, ◌≤◌, Bool, true, false, List, [], ◌∷◌, Option, Some, Result, Ok, Err}
+use Rattle.std.specs.Prelude.{◌≡◌, ◌≢◌, ℕ, ◌<◌, ◌≤◌, Bool, true, false, List, [], ◌∷◌, Option, Some, None, Result, Ok, Err}
+use Rattle.access_rings.specs.declared.ring.RingKind.TheVariants.{BulkRead}
 use Rattle.access_rings.specs.RingState.{RingState, Rejects, ring_after_rejection}
 use Rattle.block_tag.specs.declared.tag.Tag.{Tag}
 use Rattle.block_tag.specs.Names.{packed_tag}
 use Rattle.page_layout.specs.Fields.{lsn_of}
 use Rattle.page_layout.specs.Soundness.{is_sound_page}
 use Rattle.segment_store.specs.Contents.{Pages}
-use Rattle.state_word.specs.declared.word.IoEnd.{IoEnd}
 use Rattle.state_word.specs.declared.word.IoEnd.TheVariants.{Bad, WriteOk}
 use Rattle.state_word.specs.declared.word.StateWord.{StateWord}
 use Rattle.state_word.specs.Fields.{fields}
@@ -15,16 +15,16 @@ use Rattle.pin_core.specs.declared.view.DeviceCall.TheVariants.{LaneWrite, LogSy
 use Rattle.pin_core.specs.declared.view.Io.TheVariants.{Output}
 use Rattle.pin_core.specs.declared.view.FailedCalls.{FailedCalls}
 use Rattle.pin_core.specs.declared.view.View.{View}
-use Rattle.pin_core.specs.State.{Page, link}
+use Rattle.pin_core.specs.State.{Page}
 use Rattle.frame_table.specs.declared.table.FrameTable.{FrameTable}
-use Rattle.page_core.specs.Kinds.{clear_just_dirtied}
+use Rattle.page_core.specs.Kinds.{clear_just_dirtied, share}
 use Rattle.frame_table.specs.FrameSteps.{Did, looking}
 use Rattle.frame_table.specs.Kinds.{pages}
 use Rattle.frame_table.specs.Opened.{WasAtOpening}
 use Rattle.frame_table.specs.WordSteps.{DidWord, load_flushed}
-use Rattle.content_locks.specs.Io.{EndsIo, FindsNothing}
+use Rattle.content_locks.specs.Io.{FindsNothing}
 use Rattle.content_locks.specs.declared.locks.TryLock.{TryLock}
-use Rattle.content_locks.specs.Locks.{Copies, RefusesLock, ShowsExclusive}
+use Rattle.content_locks.specs.Locks.{Copies, LocksAtOnce, RefusesLock, ShowsExclusive}
 use Rattle.wal_flush.specs.declared.flushes.FlushLog.{FlushLog}
 use Rattle.wal_flush.specs.declared.flushes.FlushLog.TheVariants.{LogShort, LogDown, LogFault}
 use Rattle.wal_flush.specs.Flushes.{FlushRefused}
@@ -33,9 +33,10 @@ use Rattle.buffer_frames.specs.declared.flushing.FrameFlushError.{FrameFlushErro
 use Rattle.buffer_frames.specs.declared.flushing.FrameFlushError.TheVariants.{Log, WriteFault}
 use Rattle.buffer_frames.specs.declared.flushing.FlushedPage.{FlushedPage}
 use Rattle.buffer_frames.specs.declared.flushing.FlushedPage.TheVariants as flush
+use Rattle.buffer_frames.specs.declared.flushing.FlushedPage.TheVariants.{Written}
 use Rattle.buffer_frames.specs.declared.flushing.VictimPage.{VictimPage}
 use Rattle.buffer_frames.specs.declared.flushing.VictimPage.TheVariants.{Clean, Spared}
-use Rattle.buffer_frames.specs.Working.{Made, Within, met_log, met_write}
+use Rattle.buffer_frames.specs.Working.{EndsWork, Made, Within, met_log, met_write}
 
 -- the faults that were met by a write of a lane that was done, or wasn't
 abbrev pub met_lane_write : Bool → FailedCalls → FailedCalls
@@ -78,16 +79,10 @@ pub record FindsClean (f : ℕ) (v w : View) : Type 0 where
   pub finds : Within (FindsNothing false f) v w
   pub calls : w.device_calls ≡ v.device_calls
 
--- A write of the frame f ended so, and the view notes the state word that this stored (`TerminateBufferIO`)
-pub record EndsWrite (end : IoEnd) (f : ℕ) (stored : StateWord) (v w : View) : Type 0 where
-  pub right : (link v f).io ≡ Output
-  pub ends : EndsIo end f v w
-  pub notes : w.last_ended ≡ Some stored
-
 -- In this call a write of the frame f ended with an error, and no read or write ended after it. The state word that it stored is valid and dirty, and has BM_IO_ERROR
 pub record EndedInError (f : ℕ) (v w : View) : Type 0 where
   pub stored : StateWord
-  pub ends : Within (EndsWrite Bad f stored) v w
+  pub ends : Within (EndsWork Output Bad f stored) v w
   pub last : w.last_ended ≡ Some stored
   pub valid : stored.valid ≡ true
   pub dirty : stored.dirty ≡ true
@@ -97,7 +92,7 @@ pub record EndedInError (f : ℕ) (v w : View) : Type 0 where
 -- In this call a write of the frame f ended without one, and no read or write ended after it. The state word that it stored is valid and has no BM_IO_ERROR. It is dirty only where it has BM_JUST_DIRTIED: the frame was dirtied again
 pub record EndedWritten (f : ℕ) (v w : View) : Type 0 where
   pub stored : StateWord
-  pub ends : Within (EndsWrite WriteOk f stored) v w
+  pub ends : Within (EndsWork Output WriteOk f stored) v w
   pub last : w.last_ended ≡ Some stored
   pub valid : stored.valid ≡ true
   pub done : stored.failed ≡ false
@@ -142,6 +137,27 @@ pub record RejectsVictim (f : ℕ) (from_ring : Bool) (before after : Option Rin
   pub loads : Within (λ a b. DidWord load_flushed a b flushed) v w
   pub unflushed : flushed < lsn_of page
 
+-- The ring keeps a dirty frame f: there is no ring, or the frame didn't come from its current place; or the ring isn't for bulk reads; or the log needn't be flushed for the frame's page, as that was copied in this call and the flushed position loaded
+pub data IsNotRejected (f : ℕ) (from_ring : Bool) (ring : Option RingState) (v w : View) : Type 0 where
+  no_ring : ring ≡ None → IsNotRejected f from_ring ring v w
+  elsewhere : from_ring ≡ false → IsNotRejected f from_ring ring v w
+  other_kind : (r : RingState) → ring ≡ Some r → r.kind ≢ BulkRead → IsNotRejected f from_ring ring v w
+  covered : (page : Page) (flushed : ℕ) → Within (Copies f page) v w
+      → Within (λ a b. DidWord load_flushed a b flushed) v w → lsn_of page ≤ flushed
+      → IsNotRejected f from_ring ring v w
+
+-- The state word of the frame f was loaded, which is dirty
+pub record SeesDirty (f : ℕ) (v w : View) : Type 0 where
+  pub word : ℕ
+  pub looks : Did looking f v w word
+  pub dirty : (fields word).dirty ≡ true
+
+-- So it was, and then the content lock was shared, without a wait (`LWLockConditionalAcquire`)
+pub record SharesDirty (f : ℕ) (v w : View) : Type 0 where
+  pub seen : View
+  pub sees : SeesDirty f v seen
+  pub shares : LocksAtOnce share f seen w
+
 module _ {L G : Type 0} (contents : L → Option Pages) (t : FrameTable L G) where
   -- What a refusal of the log shows, of the page that was to be written: the log ended before its position, which is that of the page that the block's lane held as the table was opened, where that is known; or the log is down, and that was seen. The end that is named was seen, and isn't before one that was seen at first
   abbrev pub LogShows : FlushLog → Tag → Page → View → View → Type 0
@@ -167,18 +183,40 @@ module _ {L G : Type 0} (contents : L → Option Pages) (t : FrameTable L G) whe
   FlushAnswer q tag f v w (Ok flush.Clean) = FindsClean f v w
   FlushAnswer q tag f v w (Err why) = CopiesAnd (λ page a b. WriteAnswer q tag page a b (Err why)) f v w
 
-  -- A victim may be taken: it was clean by a word that was loaded in this call, or it was flushed
-  pub data FreesVictim (q : ℕ) (tag : Tag) (f : ℕ) (v w : View) : Type 0 where
-    clean : (word : ℕ) → Within (λ a b. Did looking f a b word) v w → (fields word).dirty ≡ false → Made [] v w → FreesVictim q tag f v w
-    flushed : (page : FlushedPage) → FlushAnswer q tag f v w (Ok page) → FreesVictim q tag f v w
+  -- A dirty victim was flushed, with this answer: its content lock was shared, the ring didn't reject the frame, and no device was called before the flush
+  pub record FlushesVictim (q : ℕ) (tag : Tag) (f : ℕ) (from_ring : Bool) (ring : Option RingState)
+      (v w : View) (answer : Result FlushedPage FrameFlushError) : Type 0 where
+    pub shared : View
+    pub kept : View
+    pub shares : SharesDirty f v shared
+    pub keeps : IsNotRejected f from_ring ring shared kept
+    pub since : OnlyRises v kept
+    pub calls : Made [] v kept
+    pub flush : FlushAnswer q tag f kept w answer
+    pub written : answer ≡ Ok Written → EndedWritten f kept w
 
-  -- It is spared: its content lock was refused, or the ring gave it up
-  pub data SparesVictim (f : ℕ) (from_ring : Bool) (before after : Option RingState) (v w : View) : Type 0 where
-    locked : (why : TryLock) → Within (λ a b. RefusesLock ShowsExclusive f a b why) v w → after ≡ before → Made [] v w → SparesVictim f from_ring before after v w
-    rejected : RejectsVictim f from_ring before after v w → Made [] v w → SparesVictim f from_ring before after v w
+  -- A victim may be taken: it was clean by the word that was loaded, or it was flushed
+  pub data FreesVictim (q : ℕ) (tag : Tag) (f : ℕ) (from_ring : Bool) (ring : Option RingState)
+      (v w : View) : Type 0 where
+    clean : (word : ℕ) → Did looking f v w word → (fields word).dirty ≡ false
+        → FreesVictim q tag f from_ring ring v w
+    flushed : (page : FlushedPage) → FlushesVictim q tag f from_ring ring v w (Ok page)
+        → FreesVictim q tag f from_ring ring v w
 
-  -- what came of a dirty victim
-  abbrev pub VictimAnswer : ℕ → Tag → ℕ → Bool → Option RingState → Option RingState → View → View → Result VictimPage FrameFlushError → Type 0
-  VictimAnswer q tag f from_ring before after v w (Ok Clean) = (after ≡ before) × FreesVictim q tag f v w
-  VictimAnswer q tag f from_ring before after v w (Ok Spared) = SparesVictim f from_ring before after v w
-  VictimAnswer q tag f from_ring before after v w (Err why) = (after ≡ before) × FlushAnswer q tag f v w (Err why)
+  -- It is spared, as it is dirty, and its content lock was refused, or the ring gave it up
+  pub data SparesVictim (f : ℕ) (from_ring : Bool) (before after : Option RingState)
+      (v w : View) : Type 0 where
+    locked : {u : View} (why : TryLock) → SeesDirty f v u → RefusesLock ShowsExclusive f u w why
+        → after ≡ before → Made [] v w → SparesVictim f from_ring before after v w
+    rejected : {u : View} → SharesDirty f v u → RejectsVictim f from_ring before after u w
+        → Made [] v w → SparesVictim f from_ring before after v w
+
+  -- what came of a victim that has this tag
+  abbrev pub VictimAnswer : ℕ → Tag → ℕ → Bool → Option RingState → Option RingState
+      → View → View → Result VictimPage FrameFlushError → Type 0
+  VictimAnswer q tag f from_ring before after v w (Ok Clean) = (after ≡ before)
+      × FreesVictim q tag f from_ring before v w
+  VictimAnswer q tag f from_ring before after v w (Ok Spared)
+      = SparesVictim f from_ring before after v w
+  VictimAnswer q tag f from_ring before after v w (Err why) = (after ≡ before)
+      × FlushesVictim q tag f from_ring before v w (Err why)

@@ -5,8 +5,9 @@ pub mod Flushing
 pub mod Outside
 pub mod Hinting
 pub mod Lookups
-pub mod Victims
+pub mod VictimChoices
 pub mod Bringing
+pub mod Victims
 pub mod Reads
 pub mod PageReads
 pub mod Puts

@@ -1,19 +1,26 @@
 -- How a page comes from its lane into a frame.
-use Rattle.std.specs.Prelude.{◌≡◌, ℕ, Bool, true, false, List, [], ◌∷◌, Option, Result, Ok, Err}
+use Rattle.std.specs.Prelude.{◌≡◌, ℕ, Bool, true, false, List, [], ◌∷◌, Option, Some, Result, Ok, Err}
 use Rattle.block_tag.specs.declared.tag.Tag.{Tag}
+use Rattle.block_tag.specs.Names.{packed_tag}
 use Rattle.page_layout.specs.Soundness.{is_sound_page}
 use Rattle.segment_store.specs.Contents.{Pages}
+use Rattle.state_word.specs.declared.word.IoEnd.TheVariants.{Bad}
+use Rattle.state_word.specs.declared.word.StateWord.{StateWord}
 use Rattle.pin_core.specs.declared.view.DeviceCall.{DeviceCall}
 use Rattle.pin_core.specs.declared.view.DeviceCall.TheVariants.{LaneRead}
 use Rattle.pin_core.specs.declared.view.FailedCalls.{FailedCalls}
-use Rattle.pin_core.specs.State.{Page}
+use Rattle.pin_core.specs.declared.view.Io.TheVariants.{Input}
+use Rattle.pin_core.specs.declared.view.View.{View}
+use Rattle.pin_core.specs.State.{Page, link}
 use Rattle.frame_table.specs.declared.table.FrameTable.{FrameTable}
 use Rattle.frame_table.specs.Opened.{WasAtOpening, WasSoundAtOpening}
+use Rattle.frame_table.specs.Seats.{OnlyRises}
+use Rattle.cleanup_lock.specs.Waking.{Woken}
 use Rattle.buffer_frames.specs.declared.loading.LoadError.{LoadError}
 use Rattle.buffer_frames.specs.declared.loading.LoadError.TheVariants.{ReadFault, Unsound}
 use Rattle.buffer_frames.specs.declared.loading.Loaded.{Loaded}
 use Rattle.buffer_frames.specs.declared.loading.Loaded.TheVariants.{Hit, Read}
-use Rattle.buffer_frames.specs.Working.{met_read}
+use Rattle.buffer_frames.specs.Working.{EndsWork, met_read}
 
 -- the faults that were met by a read of a lane that was done, or wasn't
 abbrev pub met_lane_read : Bool → FailedCalls → FailedCalls
@@ -43,6 +50,31 @@ abbrev pub met_loading : {A : Type 0} → Result A LoadError → FailedCalls →
 met_loading (Ok done) m = m
 met_loading (Err Unsound) m = m
 met_loading (Err ReadFault) m = met_read m
+
+-- In the view the page is noted that a lane gave for the frame f, and isn't sound
+pub record NotesUnsound (f : ℕ) (v : View) : Type 0 where
+  pub page : Page
+  pub read : (link v f).read ≡ Some page
+  pub unsound : is_sound_page page ≡ false
+
+-- A read of the tag's block into the frame f ended with an error, for this reason, as the last step. The state word that it stored has BM_TAG_VALID and BM_IO_ERROR, and not BM_VALID
+pub record EndsUnread (why : LoadError) (tag : Tag) (f : ℕ) (v w : View) : Type 0 where
+  pub begun : View
+  pub stored : StateWord
+  pub since : OnlyRises v begun
+  pub remembered : (link begun f).tag ≡ Some (packed_tag tag)
+  pub unsound : why ≡ Unsound → NotesUnsound f begun
+  pub ends : EndsWork Input Bad f stored begun w
+  pub tagged : stored.tag_valid ≡ true
+  pub invalid : stored.valid ≡ false
+  pub failed : stored.failed ≡ true
+
+-- It ended so, and then the pin was given up, and nothing else was done: the frame keeps the tag
+pub record FailsRead (why : LoadError) (tag : Tag) (f : ℕ) (v w : View) : Type 0 where
+  pub ended : View
+  pub unread : EndsUnread why tag f v ended
+  pub gives_up : Woken f ended w
+  pub last : w.last_ended ≡ Some unread.stored
 
 module _ {L G : Type 0} (contents : L → Option Pages) (t : FrameTable L G) where
   -- The page of the tag's block was this one as the table was opened, where that is known, and it isn't sound

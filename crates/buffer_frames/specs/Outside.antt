@@ -6,17 +6,21 @@ use Rattle.held_pins.specs.Rests.{kept_by_calls}
 use Rattle.access_rings.specs.declared.ring.RingKind.{RingKind}
 use Rattle.access_rings.specs.RingState.{RingState}
 
--- What a call that works at frames and maps, and calls no device, leaves of a view: all but what it has of them, and what it lists and counts of loads, changed words, steps and moves of the hand
+-- What a call that works at frames and maps, and calls no device, leaves of a view: all but what it has of them, and what it lists and counts of loads, changed words and steps
 abbrev pub outside_of : View → View
-outside_of v = record v { links = []; partitions = []; steps = 0; ticks = 0; loads = []; changes = []; unentered = []; residents = [] }
+outside_of v = record v { links = []; partitions = []; steps = 0; loads = []; changes = []; unentered = []; residents = [] }
+
+-- what a choice of a victim leaves: it may move the hand, too
+abbrev pub chosen_of : View → View
+chosen_of v = record (outside_of v) { ticks = 0 }
 
 -- and what one leaves that may take partitions' latches and store hints besides
 abbrev pub searched_of : View → View
 searched_of v = record (outside_of v) { turns = 0; hints = [] }
 
--- What a call keeps of a view that brings a block into a frame: it may do both as well
+-- What a call keeps of a view that brings a block into a frame: it may do all of this
 abbrev pub kept_by_block_reads : View → View
-kept_by_block_reads v = record (kept_by_calls v) { turns = 0; hints = [] }
+kept_by_block_reads v = record (kept_by_calls v) { turns = 0; hints = []; ticks = 0 }
 
 -- a count as it is shown: it stands still at its type's last value
 abbrev pub shown_count : ℕ → ℕ

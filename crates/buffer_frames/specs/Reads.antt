@@ -7,29 +7,28 @@ use Rattle.segment_store.specs.Contents.{Pages}
 use Rattle.pin_core.specs.declared.view.DeviceCall.{DeviceCall}
 use Rattle.pin_core.specs.declared.view.FailedCalls.{FailedCalls}
 use Rattle.pin_core.specs.declared.view.HintStore.{HintStore}
-use Rattle.pin_core.specs.declared.view.Role.TheVariants.{Victim}
 use Rattle.pin_core.specs.declared.view.View.{View}
 use Rattle.pin_core.specs.State.{link}
 use Rattle.clock_sweep.specs.CensusList.{CensusList, new_census}
-use Rattle.clock_sweep.specs.FreeFrames.{QueueState}
 use Rattle.frame_table.specs.declared.pin.Pin.{Pin}
 use Rattle.frame_table.specs.declared.table.FrameTable.{FrameTable}
 use Rattle.frame_table.specs.Opened.{WasSoundAtOpening}
 use Rattle.frame_table.specs.Seats.{OnlyRises, frames_of}
-use Rattle.map_partitions.specs.Hints.{StoresHint}
 use Rattle.held_pins.specs.Rests.{LinksRest}
 use Rattle.held_pins.specs.Tokens.{Tokens}
 use Rattle.buffer_frames.specs.declared.hinting.HintSeen.{HintSeen}
+use Rattle.buffer_frames.specs.declared.loading.LoadError.{LoadError}
 use Rattle.buffer_frames.specs.declared.loading.LoadError.TheVariants as load
 use Rattle.buffer_frames.specs.declared.reading.BlockError.{BlockError}
 use Rattle.buffer_frames.specs.declared.reading.BlockError.TheVariants.{NoFrame, ReadFault, Unsound}
 use Rattle.buffer_frames.specs.declared.reading.PinnedBlock.{PinnedBlock}
 use Rattle.buffer_frames.specs.declared.victims.VictimError.{VictimError}
-use Rattle.buffer_frames.specs.Loading.{WasUnsoundAtOpening, loaded_by, loading_calls}
+use Rattle.buffer_frames.specs.Loading.{FailsRead, WasUnsoundAtOpening, loaded_by, loading_calls}
 use Rattle.buffer_frames.specs.Hinting.{LeavesHint, SeesHint}
 use Rattle.buffer_frames.specs.Lookups.{LooksUp, SeesNone, UnderPartition}
 use Rattle.buffer_frames.specs.Stages.{Pins}
-use Rattle.buffer_frames.specs.Bringing.{Brings, PushesNone}
+use Rattle.buffer_frames.specs.Bringing.{PinsAndStores, PushesNone}
+use Rattle.buffer_frames.specs.VictimChoices.{ChoiceState}
 use Rattle.buffer_frames.specs.Victims.{CensusRefused, VictimRefused, met_victim}
 use Rattle.buffer_frames.specs.Working.{IsFlushCall, Made, WorksAt, met_read}
 
@@ -38,22 +37,6 @@ pub record MadeThen (last : List DeviceCall) (v w : View) : Type 0 where
   pub before : List DeviceCall
   pub calls : w.device_calls ≡ v.device_calls ++ (before ++ last)
   pub each : All IsFlushCall before
-
--- A victim was chosen, and under the latch of the tag's partition the block was brought into a frame, f, which is pinned for it. Then the tag's hint was stored, which names the frame, and after that no work was done at another one
-pub record PinsAndStores (n : ℕ) (tag : Tag) (held : Tokens) (ring : Bool) (f : ℕ) (v : View) (q : QueueState) (w : View) (r : QueueState) : Type 0 where
-  pub victim : ℕ
-  pub chosen : View
-  pub popped : QueueState
-  pub before : OnlyRises v chosen
-  pub holds : (link chosen victim).role ≡ Victim
-  pub unpushed : PushesNone q popped
-  pub pinned : View
-  pub brings : UnderPartition tag (λ a b. Brings tag ring victim f a popped b r) chosen pinned
-  pub since : OnlyRises v pinned
-  pub pins : Pins (packed_tag tag) f held pinned
-  pub noted : View
-  pub stores : StoresHint n tag f pinned noted
-  pub works : WorksAt f noted w
 
 -- In a table of n frames, by a backend whose callers have these pins, and which saw this of the block's hint
 module _ (n : ℕ) (tag : Tag) (held : Tokens) (ring : Bool) (seen : HintSeen) where
@@ -66,28 +49,40 @@ module _ (n : ℕ) (tag : Tag) (held : Tokens) (ring : Bool) (seen : HintSeen) w
     pub until : OnlyRises searched w
     pub calls : MadeThen last v w
 
-  -- where its pass of the free list was q, and is r
-  module _ (q r : QueueState) where
-    -- At first the hint or the map gave the frame f, which was pinned then, for a ring or not; no work was done at another one, these were the calls of devices, and the free list was left alone. Or neither gave one, and after that the block was brought into the frame
+module _ {L G : Type 0} (contents : L → Option Pages) (t : FrameTable L G) where
+  -- By a backend whose callers have these pins, and which saw this of the block's hint, where the choice's state was c, and is d
+  module _ (tag : Tag) (held : Tokens) (ring : Bool) (seen : HintSeen) (c d : ChoiceState) where
+    -- At first the hint or the map gave the frame f, which was pinned then, for a ring or not; no work was done at another one, the hand was not moved, these were the calls of devices, and no victim was chosen. Or neither gave one, and after that the block was brought into the frame
     pub data Locates (f : ℕ) (last : List DeviceCall) (v w : View) : Type 0 where
-      looked_up : (pinned : View) → LooksUp n tag held ring v pinned seen (Some f)
-          → WorksAt f pinned w → Made last v w → r ≡ q → Locates f last v w
-      missed : (m : Misses last v w) → PinsAndStores n tag held ring f m.searched q w r → Locates f last v w
+      looked_up : (pinned : View) → LooksUp (frames_of t) tag held ring v pinned seen (Some f)
+          → WorksAt f pinned w → Made last v w → w.ticks ≡ v.ticks → d ≡ c → Locates f last v w
+      missed : (m : Misses (frames_of t) tag held ring seen last v w)
+          → PinsAndStores contents t tag held ring f last m.searched c w d → Locates f last v w
+
+    -- no frame was freed, for this reason
+    abbrev pub GetsNoVictim : VictimError → View → View → Type 0
+    GetsNoVictim why v w = (m : Misses (frames_of t) tag held ring seen [] v w)
+        × PushesNone c.queue d.queue × VictimRefused contents t v m.searched c w d why
 
     -- how a block was pinned, or wasn't
     abbrev pub PinAnswer : View → View → Result Pin VictimError → Type 0
     PinAnswer v w (Ok pin) = Locates pin.frame [] v w
-    PinAnswer v w (Err why) = Misses [] v w × PushesNone q r
+    PinAnswer v w (Err why) = GetsNoVictim why v w
+
+    -- The frame f was located for the block, whose page didn't come, for this reason, with these calls
+    abbrev pub LocatesUnread : LoadError → List DeviceCall → View → View → ℕ → Type 0
+    LocatesUnread why last v w f = Locates f last v w × FailsRead why tag f v w
 
     -- and read: this lane was read where the answer says so, and no lane else
     abbrev pub ReadCalls : ℕ → View → View → Result PinnedBlock BlockError → Type 0
     ReadCalls lane v w (Ok block) = Locates block.pin.frame
         (loading_calls lane (packed_tag tag) (Ok (loaded_by block.hit))) v w
-    ReadCalls lane v w (Err (NoFrame why)) = Misses [] v w × PushesNone q r
+    ReadCalls lane v w (Err (NoFrame why)) = GetsNoVictim why v w
     ReadCalls lane v w (Err (ReadFault failed)) = (f : ℕ)
-        × Locates f (loading_calls lane (packed_tag tag) (Err load.ReadFault)) v w
+        × LocatesUnread load.ReadFault
+        (loading_calls lane (packed_tag tag) (Err load.ReadFault)) v w f
     ReadCalls lane v w (Err (Unsound failed)) = (f : ℕ)
-        × Locates f (loading_calls lane (packed_tag tag) (Err load.Unsound)) v w
+        × LocatesUnread load.Unsound (loading_calls lane (packed_tag tag) (Err load.Unsound)) v w f
 
 -- What a call that pins a block, and one that reads it, has stored of hints, by the answer: where no frame was freed, nothing
 abbrev pub PinNotes : ℕ → Tag → HintSeen → List HintStore → List HintStore
@@ -126,9 +121,12 @@ CensusRead n c d (Err (ReadFault failed)) = KeptOrEmptied n c d
 CensusRead n c d (Err (Unsound failed)) = KeptOrEmptied n c d
 
 module _ {L G : Type 0} (contents : L → Option Pages) (t : FrameTable L G) where
-  -- What a read answers: the block's frame is pinned, and BM_VALID was seen; or all pins are as before, and this is why. Where the lanes' contents at the opening are known, a block that was unsound then is never read, and only such a one is called so
-  abbrev pub ReadAnswer : Tag → Tokens → List ℕ → View → View → Result PinnedBlock BlockError → Type 0
-  ReadAnswer tag held words v w (Ok block) = (block.pin.frame < frames_of t) × Pins (packed_tag tag) block.pin.frame held w × ((link w block.pin.frame).seen_valid ≡ true) × WasSoundAtOpening contents t tag
-  ReadAnswer tag held words v w (Err (NoFrame why)) = LinksRest held w × VictimRefused contents t words v w why
-  ReadAnswer tag held words v w (Err (ReadFault failed)) = LinksRest held w × (failed ≡ tag)
-  ReadAnswer tag held words v w (Err (Unsound failed)) = LinksRest held w × (failed ≡ tag) × WasUnsoundAtOpening contents t tag
+  -- What a read answers: the block's frame is pinned, and BM_VALID was seen; or all pins are as before, and this is why, but for the causes for which no frame was freed. Where the lanes' contents at the opening are known, a block that was unsound then is never read, and only such a one is called so
+  abbrev pub ReadAnswer : Tag → Tokens → View → View → Result PinnedBlock BlockError → Type 0
+  ReadAnswer tag held v w (Ok block) = (block.pin.frame < frames_of t)
+      × Pins (packed_tag tag) block.pin.frame held w
+      × ((link w block.pin.frame).seen_valid ≡ true) × WasSoundAtOpening contents t tag
+  ReadAnswer tag held v w (Err (NoFrame why)) = LinksRest held w
+  ReadAnswer tag held v w (Err (ReadFault failed)) = LinksRest held w × (failed ≡ tag)
+  ReadAnswer tag held v w (Err (Unsound failed)) = LinksRest held w × (failed ≡ tag)
+      × WasUnsoundAtOpening contents t tag

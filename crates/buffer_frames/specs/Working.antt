@@ -1,19 +1,25 @@
 -- What the work at one frame leaves of a view, and what was done in the course of a call.
-use Rattle.std.specs.Prelude.{◌≡◌, ◌≢◌, ℕ, ◌+◌, ◌++◌, true, false, List}
+use Rattle.std.specs.Prelude.{◌≡◌, ◌≢◌, ℕ, ◌+◌, ◌++◌, true, false, List, Some}
 use Rattle.std.specs.List.{All}
 use Rattle.pin_core.specs.declared.view.DeviceCall.{DeviceCall}
 use Rattle.pin_core.specs.declared.view.DeviceCall.TheVariants.{LaneWrite, LogSync}
+use Rattle.state_word.specs.declared.word.IoEnd.{IoEnd}
+use Rattle.state_word.specs.declared.word.StateWord.{StateWord}
+use Rattle.pin_core.specs.declared.view.Io.{Io}
 use Rattle.pin_core.specs.declared.view.Link.{Link}
 use Rattle.pin_core.specs.declared.view.FailedCalls.{FailedCalls}
 use Rattle.pin_core.specs.declared.view.View.{View}
 use Rattle.pin_core.specs.State.{link}
-use Rattle.frame_table.specs.Seats.{OnlyRises}
+use Rattle.frame_table.specs.Seats.{ListsOnly, OnlyRises}
+use Rattle.content_locks.specs.Io.{EndsIo}
 use Rattle.held_pins.specs.Rests.{kept_by_calls}
 
 -- Work at the frame f, and at devices for its page: the view has at other frames, and at the partitions, what it had
 pub record WorksAt (f : ℕ) (v w : View) : Type 0 where
   pub kept : kept_by_calls w ≡ kept_by_calls v
   pub advances : OnlyRises v w
+  -- the words of frames that it lists are of f
+  pub lists : ListsOnly f v w
   pub partitions : w.partitions ≡ v.partitions
   pub others : (g : ℕ) → g ≢ f → link w g ≡ link v g
 
@@ -29,6 +35,12 @@ pub record Within (Work : View → View → Type 0) (v w : View) : Type 0 where
   pub since : OnlyRises v before
   pub work : Work before after
   pub until : OnlyRises after w
+
+-- A read or a write of the frame f, by the right to it, ended so, and the view notes the state word that this stored (`TerminateBufferIO`)
+pub record EndsWork (right : Io) (end : IoEnd) (f : ℕ) (stored : StateWord) (v w : View) : Type 0 where
+  pub had : (link v f).io ≡ right
+  pub ends : EndsIo end f v w
+  pub notes : w.last_ended ≡ Some stored
 
 -- These calls of devices were made
 abbrev pub Made : List DeviceCall → View → View → Type 0

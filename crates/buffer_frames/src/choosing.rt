@@ -1,15 +1,17 @@
 //! A victim is chosen and pinned.
-ghost use Rattle.std.specs.Prelude.{◌≡◌, ◌<◌, true, IfOk, IfErr, Some};
+ghost use Rattle.std.specs.Prelude.{◌≡◌, ◌<◌, true, IfOk, IfErr, Some, length};
+ghost use Rattle.std.specs.List.{All};
+ghost use Rattle.state_word.specs.Fields.{fields};
 ghost use Rattle.frame_table.specs.Seats.{Grows, SameSeat, frames_of};
 ghost use Rattle.clock_sweep.specs.CensusList.{new_census};
-ghost use Rattle.clock_sweep.specs.Choosing.{frame_at_place, ring_gone_on};
+ghost use Rattle.clock_sweep.specs.Choosing.{FindsNone, frame_at_place, ring_gone_on};
 ghost use Rattle.clock_sweep.specs.FreeFrames.{SameQueue};
 ghost use Rattle.clock_sweep.specs.FreeLists.{IsFreeList};
 ghost use Rattle.held_pins.specs.Rests.{HasNoLatch, LinksRest, SameLocks, Stands};
 ghost use Rattle.buffer_frames.specs.Bringing.{PushesNone};
-ghost use Rattle.buffer_frames.specs.Outside.{outside_of, ring_shape};
+ghost use Rattle.buffer_frames.specs.Outside.{chosen_of, ring_shape};
 ghost use Rattle.buffer_frames.specs.Stages.{HasVictim};
-ghost use Rattle.buffer_frames.specs.Victims.{AllPinned};
+ghost use Rattle.buffer_frames.specs.VictimChoices.{ChoosesVictim, choice_state};
 
 use access_rings::Ring;
 use atomic_table::Seat;
@@ -49,7 +51,7 @@ pub(crate) fn choose<L: BlockLane, G: LogDevice, R: Wait>(
     ensures queue { IsFreeList table.now sweep.now queue.new }
     ensures lasts { SameQueue queue.old queue.new }
     ensures unpushed { PushesNone queue.old queue.new }
-    ensures same { outside_of seat.new.me.0 ≡ outside_of seat.old.me.0 }
+    ensures same { chosen_of seat.new.me.0 ≡ chosen_of seat.old.me.0 }
     ensures grows { Grows seat.old.me.0 seat.new.me.0 }
     ensures locks { SameLocks seat.old.me.0 seat.new.me.0 }
     ensures latches { HasNoLatch seat.new.me.0 }
@@ -61,7 +63,14 @@ pub(crate) fn choose<L: BlockLane, G: LogDevice, R: Wait>(
     ensures no_census { IfOk result (λ _. census.new ≡ new_census (frames_of table.now)) }
     ensures rests { IfErr result (λ _. LinksRest _held.now seat.new.me.0) }
     ensures frames { IfErr result (λ why. why.frames ≡ frames_of table.now) }
-    ensures cause { IfErr result (λ _. AllPinned (frames_of table.now) (frame_at_place (ring_gone_on ring.old)) seat.old.me.0 seat.new.me.0 census.new.words) }
+    ensures did { IfOk result (λ chosen. ChoosesVictim (frames_of table.now) chosen.pin.frame chosen.from_ring
+        seat.old.me.0 (choice_state queue.old ring.old census.old)
+        seat.new.me.0 (choice_state queue.new ring.new census.new)) }
+    ensures cause { IfErr result (λ _. FindsNone (frames_of table.now) (frame_at_place (ring_gone_on ring.old))
+        seat.old.me.0 queue.old seat.new.me.0 queue.new census.new.words) }
+    ensures counted { IfErr result (λ _. length census.new.words ≡ frames_of table.now) }
+    ensures each { IfErr result (λ _. All (λ word. 0 < (fields word).pins) census.new.words) }
+    ensures passed { IfErr result (λ _. ring.new ≡ ring_gone_on ring.old) }
 {
     match victim(table, rt, seat, sweep, queue, census, ring) {
         Ok(held) => {

@@ -1,5 +1,5 @@
 //! A block comes into a victim.
-ghost use Rattle.std.specs.Prelude.{◌≡◌, ◌+◌, ◌<◌, ℕ, true, IfNone, IfSome, MatchOption};
+ghost use Rattle.std.specs.Prelude.{[], ◌≡◌, ◌+◌, ◌<◌, ℕ, true, IfNone, IfSome, MatchOption};
 ghost use Rattle.std.specs.Bool.{OnFalse, OnTrue};
 ghost use Rattle.block_tag.specs.Names.{names_block, packed_tag, partition_number};
 ghost use Rattle.pin_core.specs.declared.view.MapChange.TheVariants.{Stable};
@@ -18,9 +18,10 @@ ghost use Rattle.held_pins.specs.Rests.{HasNoLatch, HasOneLatch, LinksRest, Same
 ghost use Rattle.held_pins.specs.Tokens.{IsNew};
 ghost use Rattle.buffer_frames.specs.Hinting.{NotesHint};
 ghost use Rattle.buffer_frames.specs.Outside.{outside_of, searched_of, shown_count};
-ghost use Rattle.buffer_frames.specs.Bringing.{Brings, PutsBack};
-ghost use Rattle.buffer_frames.specs.Reads.{PinsAndStores};
+ghost use Rattle.buffer_frames.specs.Bringing.{Brings, EntersAndStores, PutsBack};
 ghost use Rattle.buffer_frames.specs.Stages.{HasVictim, Pins};
+ghost use Rattle.buffer_frames.specs.VictimChoices.{FindsInUse, UnpinsVictim, IsAssigned};
+ghost use Rattle.buffer_frames.specs.Working.{Within};
 
 use crate::lookup::{pin_found, take_counted};
 use atomic_table::Seat;
@@ -61,6 +62,7 @@ fn store_latched<L: BlockLane, G: LogDevice, R: Wait>(
     ensures latch { HasOneLatch (partition_number tag) seat.new.me.0 }
     ensures stored { OnTrue result (Pins (packed_tag tag) frame _held.now seat.new.me.0) }
     ensures refused { OnFalse result (HasVictim frame _held.now seat.new.me.0) }
+    ensures in_use { OnFalse result (Within (FindsInUse IsAssigned frame) seat.old.me.0 seat.new.me.0) }
 {
     let word = table.lock_header(rt, seat, frame);
     if pins(word) != 1 || has(word, Flag::TagValid) {
@@ -173,6 +175,9 @@ fn enter_latched<L: BlockLane, G: LogDevice, R: Wait>(
     ensures pinned { IfSome result (λ p. Pins (packed_tag tag) p.frame held.now seat.new.me.0) }
     ensures rests { IfNone result (LinksRest held.now seat.new.me.0) }
     ensures unpushed { IfNone result (queue.new ≡ queue.old) }
+    ensures gave_up { IfNone result ((found : View)
+        × Within (FindsInUse IsAssigned victim.frame) seat.old.me.0 found
+        × Woken victim.frame found seat.new.me.0) }
     ensures brings { IfSome result (λ p. Brings tag ring victim.frame p.frame
         seat.old.me.0 queue.old seat.new.me.0 queue.new) }
 {
@@ -225,8 +230,10 @@ pub(crate) fn enter_or_pin<L: BlockLane, G: LogDevice, R: Wait>(
     ensures turns { seat.new.me.0.turns ≡ seat.old.me.0.turns + 1 }
     ensures hints { MatchOption result (seat.new.me.0.hints ≡ seat.old.me.0.hints)
         (λ p. NotesHint (frames_of table.now) tag p.frame seat.old.me.0.hints seat.new.me.0.hints) }
-    ensures stored { IfSome result (λ p. PinsAndStores (frames_of table.now) tag held.now ring p.frame
-        seat.old.me.0 queue.old seat.new.me.0 queue.new) }
+    ensures stored { IfSome result (λ p. EntersAndStores (frames_of table.now) tag held.now ring
+        victim.frame p.frame [] seat.old.me.0 queue.old seat.new.me.0 queue.new) }
+    ensures gave_up { IfNone result (UnpinsVictim (FindsInUse IsAssigned victim.frame) victim.frame
+        seat.old.me.0 seat.new.me.0) }
     ensures unpushed { IfNone result (queue.new ≡ queue.old) }
 {
     let partition = tag.partition();

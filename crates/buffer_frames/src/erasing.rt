@@ -1,5 +1,6 @@
 //! A victim loses its tag.
 ghost use Rattle.std.specs.Prelude.{◌≡◌, ◌+◌, ◌<◌, Some, true};
+ghost use Rattle.std.specs.Bool.{OnFalse, OnTrue};
 ghost use Rattle.block_tag.specs.Names.{names_block, packed_tag, partition_number};
 ghost use Rattle.pin_core.specs.declared.view.MapChange.TheVariants.{Stable};
 ghost use Rattle.pin_core.specs.State.{link};
@@ -8,6 +9,8 @@ ghost use Rattle.map_partitions.specs.Partition.{HoldsLatch};
 ghost use Rattle.held_pins.specs.Rests.{HasNoLatch, HasOneLatch, SameLocks, Stands};
 ghost use Rattle.buffer_frames.specs.Outside.{outside_of, searched_of, shown_count};
 ghost use Rattle.buffer_frames.specs.Stages.{HasVictim};
+ghost use Rattle.buffer_frames.specs.VictimChoices.{ClearsTag, FindsInUse, IsDirtied};
+ghost use Rattle.buffer_frames.specs.Working.{Within};
 
 use crate::lookup::take_counted;
 use atomic_table::Seat;
@@ -44,6 +47,8 @@ fn erase_latched<L: BlockLane, G: LogDevice, R: Wait>(
     ensures locks { SameLocks seat.old.me.0 seat.new.me.0 }
     ensures latch { HasOneLatch (partition_number tag.now) seat.new.me.0 }
     ensures victim { HasVictim frame _held.now seat.new.me.0 }
+    ensures emptied { OnTrue result (Within (ClearsTag frame) seat.old.me.0 seat.new.me.0) }
+    ensures in_use { OnFalse result (Within (FindsInUse IsDirtied frame) seat.old.me.0 seat.new.me.0) }
 {
     let word = table.lock_header(rt, seat, frame);
     if pins(word) != 1 || has(word, Flag::Dirty) {
@@ -83,6 +88,8 @@ pub(crate) fn erase<L: BlockLane, G: LogDevice, R: Wait>(
     ensures counted { turns.new ≡ shown_count seat.new.me.0.turns }
     ensures turns { seat.new.me.0.turns ≡ seat.old.me.0.turns + 1 }
     ensures hints { seat.new.me.0.hints ≡ seat.old.me.0.hints }
+    ensures emptied { OnTrue result (Within (ClearsTag frame) seat.old.me.0 seat.new.me.0) }
+    ensures in_use { OnFalse result (Within (FindsInUse IsDirtied frame) seat.old.me.0 seat.new.me.0) }
 {
     let partition = tag.partition();
     take_counted(table, rt, seat, partition, turns);

@@ -1,5 +1,5 @@
 //! The page of a frame goes to its lane.
-ghost use Rattle.std.specs.Prelude.{[], ◌≡◌, ◌≢◌, ◌∷◌, ◌<◌, ◌≤◌, Some, true, false, IfErr, IfOk};
+ghost use Rattle.std.specs.Prelude.{[], ◌≡◌, ◌<◌, ◌≤◌, Some, true, false, IfErr, IfOk};
 ghost use Rattle.std.specs.Bool.{OnTrue, OnFalse};
 ghost use Rattle.block_tag.specs.Names.{lane_number, names_block, packed_tag};
 ghost use Rattle.page_layout.specs.Fields.{lsn_of};
@@ -12,7 +12,8 @@ ghost use Rattle.frame_table.specs.Seats.{SameMarks, SameSeat, frames_of, lanes_
 ghost use Rattle.held_pins.specs.Rests.{HasNoLatch, LinksRest, LinksRestBeside, Stands};
 ghost use Rattle.held_pins.specs.Tokens.{IsPinnedFor};
 ghost use Rattle.buffer_frames.specs.declared.flushing.FlushedPage.TheVariants.{Written};
-ghost use Rattle.buffer_frames.specs.Flushing.{CallsLane, CopiesAnd, EndedInError, EndedWritten, FlushAnswer, ClearsJust, RejectsVictim, VictimAnswer, WriteAnswer, met_flushing, met_lane_write};
+ghost use Rattle.clock_sweep.specs.Choosing.{frame_at_place};
+ghost use Rattle.buffer_frames.specs.Flushing.{CallsLane, CopiesAnd, EndedInError, EndedWritten, FlushAnswer, ClearsJust, IsNotRejected, RejectsVictim, VictimAnswer, WriteAnswer, met_flushing, met_lane_write};
 ghost use Rattle.buffer_frames.specs.Stages.{HasVictim, IsPinned, IsSharing};
 ghost use Rattle.buffer_frames.specs.Working.{Calls, IsFlushCall, KeepsNotes, Made, Within, WorksAt};
 
@@ -323,6 +324,7 @@ fn is_rejected<L: BlockLane, G: LogDevice, R: Wait>(
     requires stands { Stands table.now seat.old }
     requires inside { frame < frames_of table.now }
     requires shares { IsSharing Quiet (packed_tag _tag) (link seat.old.me.0 frame) }
+    requires place { from_ring ≡ true → frame_at_place ring.old ≡ Some frame }
     ensures seat { SameSeat seat.old seat.new }
     ensures stands { Stands table.now seat.new }
     ensures works { WorksAt frame seat.old.me.0 seat.new.me.0 }
@@ -332,6 +334,7 @@ fn is_rejected<L: BlockLane, G: LogDevice, R: Wait>(
     ensures met { seat.new.me.0.met ≡ seat.old.me.0.met }
     ensures rejected { OnTrue result (RejectsVictim frame from_ring ring.old ring.new seat.old.me.0 seat.new.me.0) }
     ensures ring { OnFalse result (ring.new ≡ ring.old) }
+    ensures keeps { OnFalse result (IsNotRejected frame from_ring ring.old seat.old.me.0 seat.new.me.0) }
 {
     let Some(ring) = ring else {
         return false;
@@ -346,7 +349,7 @@ fn is_rejected<L: BlockLane, G: LogDevice, R: Wait>(
     ring.reject(frame)
 }
 
-/// Writes a dirty victim, unless its content lock is refused or the ring gives it up.
+/// Writes a dirty victim, unless its content lock is refused or the ring gives it up. `from_ring` says that it stands at the ring's current place.
 pub fn flush_victim<L: BlockLane, G: LogDevice, R: Wait>(
     table: &FrameTable<L, G>,
     rt: &R,
@@ -365,6 +368,7 @@ pub fn flush_victim<L: BlockLane, G: LogDevice, R: Wait>(
     requires tag { names_block tag ≡ true }
     requires block { has_block (relations_of table.now) tag ≡ true }
     requires remembered { (link seat.old.me.0 frame).tag ≡ Some (packed_tag tag) }
+    requires place { from_ring ≡ true → frame_at_place ring.old ≡ Some frame }
     ensures seat { SameSeat seat.old seat.new }
     ensures stands { Stands table.now seat.new }
     ensures latches { HasNoLatch seat.new.me.0 }

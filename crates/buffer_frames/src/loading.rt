@@ -1,5 +1,5 @@
 //! A block's page comes into its frame.
-ghost use Rattle.std.specs.Prelude.{[], ◌≡◌, ◌∷◌, ◌<◌, Some, true, IfOk, OnOk};
+ghost use Rattle.std.specs.Prelude.{[], ◌≡◌, ◌∷◌, ◌<◌, Some, true, IfErr, IfOk};
 ghost use Rattle.std.specs.Bool.{OnTrue};
 ghost use Rattle.block_tag.specs.Names.{lane_number, names_block, packed_tag};
 ghost use Rattle.pin_core.specs.declared.view.DeviceCall.TheVariants.{LaneRead};
@@ -8,7 +8,7 @@ ghost use Rattle.table_rule.specs.Blocks.{has_block};
 ghost use Rattle.frame_table.specs.Opened.{WasSoundAtOpening};
 ghost use Rattle.frame_table.specs.Seats.{Looked, SameSeat, frames_of, lanes_in, relations_of};
 ghost use Rattle.held_pins.specs.Rests.{HasNoLatch, LinksRestBeside, Stands};
-ghost use Rattle.buffer_frames.specs.Loading.{LoadShows, loading_calls, met_lane_read, met_loading, reading_calls};
+ghost use Rattle.buffer_frames.specs.Loading.{EndsUnread, LoadShows, loading_calls, met_lane_read, met_loading, reading_calls};
 ghost use Rattle.buffer_frames.specs.Stages.{IsRead, IsReading, Pins};
 ghost use Rattle.buffer_frames.specs.Working.{Made, WorksAt};
 
@@ -147,6 +147,7 @@ fn read_in<L: BlockLane, G: LogDevice, R: Wait>(
     ensures calls { Made (reading_calls (lane_number tag (lanes_in table.now)) (packed_tag tag) result) seat.old.me.0 seat.new.me.0 }
     ensures met { seat.new.me.0.met ≡ met_loading result seat.old.me.0.met }
     ensures shows { LoadShows L.contents table.now tag result }
+    ensures unread { IfErr result (λ why. EndsUnread why tag right.frame seat.old.me.0 seat.new.me.0) }
 {
     let frame = right.frame();
     if !read_lane(table, rt, seat, frame, tag, page) {
@@ -190,6 +191,7 @@ pub fn load<L: BlockLane, G: LogDevice, R: Wait>(
     ensures calls { Made (loading_calls (lane_number tag.now (lanes_in table.now)) (packed_tag tag.now) result) seat.old.me.0 seat.new.me.0 }
     ensures met { seat.new.me.0.met ≡ met_loading result seat.old.me.0.met }
     ensures shows { LoadShows L.contents table.now tag.now result }
+    ensures unread { IfErr result (λ why. EndsUnread why tag.now frame seat.old.me.0 seat.new.me.0) }
 {
     if has(table.look(seat, frame), Flag::Valid) {
         return Ok(Loaded::Hit);
@@ -198,6 +200,8 @@ pub fn load<L: BlockLane, G: LogDevice, R: Wait>(
         see_page(table, seat, frame, *tag);
         return Ok(Loaded::Hit);
     };
-    read_in(table, rt, seat, held, right, *tag, page)?;
-    Ok(Loaded::Read)
+    match read_in(table, rt, seat, held, right, *tag, page) {
+        Ok(()) => Ok(Loaded::Read),
+        Err(why) => Err(why),
+    }
 }

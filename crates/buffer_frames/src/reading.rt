@@ -10,7 +10,8 @@ ghost use Rattle.held_pins.specs.Tokens.{IsNew};
 ghost use Rattle.buffer_frames.specs.Hinting.{TakesTurns};
 ghost use Rattle.buffer_frames.specs.Outside.{kept_by_block_reads, ring_shape, shown_count};
 ghost use Rattle.buffer_frames.specs.Reads.{CensusPinned, CensusRead, PinAnswer, PinNotes, ReadAnswer, ReadCalls, ReadNotes, met_read_block};
-ghost use Rattle.buffer_frames.specs.Victims.{ClaimAnswer, met_claimed};
+ghost use Rattle.buffer_frames.specs.VictimChoices.{choice_state};
+ghost use Rattle.buffer_frames.specs.Victims.{PinsOrRests, met_claimed};
 
 use crate::hinting::{Sought, give_back};
 use crate::loading::{LoadError, Loaded, load};
@@ -82,11 +83,12 @@ fn pin_block<L: BlockLane, G: LogDevice, R: Wait>(
     ensures kept { kept_by_block_reads seat.new.me.0 ≡ kept_by_block_reads seat.old.me.0 }
     ensures advances { OnlyRises seat.old.me.0 seat.new.me.0 }
     ensures locks { SameLocks seat.old.me.0 seat.new.me.0 }
-    ensures answer { ClaimAnswer L.contents table.now (packed_tag tag.now) held.now census.new.words seat.old.me.0 seat.new.me.0 result }
+    ensures pinned { PinsOrRests (frames_of table.now) (packed_tag tag.now) held.now seat.new.me.0 result }
     ensures census { CensusPinned (frames_of table.now) census.old census.new result }
     ensures met { seat.new.me.0.met ≡ met_claimed result seat.old.me.0.met }
-    ensures calls { PinAnswer (frames_of table.now) tag.now held.now (is_some ring.old)
-        sought.new.hint queue.old queue.new seat.old.me.0 seat.new.me.0 result }
+    ensures calls { PinAnswer L.contents table.now tag.now held.now (is_some ring.old)
+        sought.new.hint (choice_state queue.old ring.old census.old)
+        (choice_state queue.new ring.new census.new) seat.old.me.0 seat.new.me.0 result }
     ensures counted { sought.new.turns ≡ shown_count seat.new.me.0.turns }
     ensures turns { TakesTurns sought.new.hint seat.old.me.0.turns seat.new.me.0.turns }
     ensures hints { PinNotes (frames_of table.now) tag.now sought.new.hint
@@ -146,11 +148,12 @@ pub fn read_block<L: BlockLane, G: LogDevice, R: Wait>(
     ensures kept { kept_by_block_reads seat.new.me.0 ≡ kept_by_block_reads seat.old.me.0 }
     ensures advances { OnlyRises seat.old.me.0 seat.new.me.0 }
     ensures locks { SameLocks seat.old.me.0 seat.new.me.0 }
-    ensures answer { ReadAnswer L.contents table.now tag.now held.now census.new.words seat.old.me.0 seat.new.me.0 result }
+    ensures answer { ReadAnswer L.contents table.now tag.now held.now seat.old.me.0 seat.new.me.0 result }
     ensures census { CensusRead (frames_of table.now) census.old census.new result }
     ensures met { seat.new.me.0.met ≡ met_read_block result seat.old.me.0.met }
-    ensures calls { ReadCalls (frames_of table.now) tag.now held.now (is_some ring.old)
-        sought.new.hint queue.old queue.new (lane_number tag.now (lanes_in table.now))
+    ensures calls { ReadCalls L.contents table.now tag.now held.now (is_some ring.old)
+        sought.new.hint (choice_state queue.old ring.old census.old)
+        (choice_state queue.new ring.new census.new) (lane_number tag.now (lanes_in table.now))
         seat.old.me.0 seat.new.me.0 result }
     ensures counted { sought.new.turns ≡ shown_count seat.new.me.0.turns }
     // Only where the block's hint gave its frame no latch of a partition was taken.

@@ -1,9 +1,12 @@
 //! A frame is freed for a block.
-ghost use Rattle.std.specs.Prelude.{◌≡◌, ◌<◌, ◌≤◌, Some, true, IfErr, IfOk, IfSome, MatchResult, is_some};
+ghost use Rattle.std.specs.Prelude.{◌≡◌, ◌<◌, ◌≤◌, Some, true, IfErr, IfSome, MatchResult, is_some};
 ghost use Rattle.block_tag.specs.Names.{names_block, packed_tag};
+ghost use Rattle.pin_core.specs.Kinds as kinds;
 ghost use Rattle.pin_core.specs.State.{link};
 ghost use Rattle.table_rule.specs.Blocks.{has_block};
-ghost use Rattle.frame_table.specs.Seats.{Grows, OnlyRises, SameSeat, frames_of, relations_of};
+ghost use Rattle.frame_table.specs.FrameSteps.{Did};
+ghost use Rattle.frame_table.specs.Kinds.{pins};
+ghost use Rattle.frame_table.specs.Seats.{Grows, OnlyRises, SameSeat, frames_of, relations_of, tag_word};
 ghost use Rattle.held_pins.specs.Rests.{HasNoLatch, LinksRest, Stands, SameLocks};
 ghost use Rattle.clock_sweep.specs.FreeFrames.{SameQueue};
 ghost use Rattle.clock_sweep.specs.FreeLists.{IsFreeList};
@@ -11,9 +14,9 @@ ghost use Rattle.held_pins.specs.Tokens.{IsNew};
 ghost use Rattle.buffer_frames.specs.Bringing.{PushesNone};
 ghost use Rattle.buffer_frames.specs.Hinting.{NotesHint};
 ghost use Rattle.buffer_frames.specs.Outside.{kept_by_block_reads, outside_of, ring_shape, shown_count};
-ghost use Rattle.buffer_frames.specs.Reads.{PinsAndStores};
 ghost use Rattle.buffer_frames.specs.Stages.{HasVictim};
-ghost use Rattle.buffer_frames.specs.Victims.{CensusClaimed, CensusFreed, ClaimAnswer, FreedAnswer, met_claimed, met_freed};
+ghost use Rattle.buffer_frames.specs.VictimChoices.{choice_state};
+ghost use Rattle.buffer_frames.specs.Victims.{CensusClaimed, CensusFreed, ClaimAnswer, FreedAnswer, PinsOrRests, met_claimed, met_freed};
 ghost use Rattle.buffer_frames.specs.Working.{Calls, IsFlushCall};
 
 use crate::choosing::{Chosen, choose};
@@ -74,6 +77,7 @@ fn tag_of_victim<L: BlockLane, G: LogDevice>(
     ensures tag { IfSome result (λ tag. names_block tag ≡ true) }
     ensures block { IfSome result (λ tag. has_block (relations_of table.now) tag ≡ true) }
     ensures remembered { IfSome result (λ tag. (link seat.new.me.0 frame).tag ≡ Some (packed_tag tag)) }
+    ensures did { Did (pins kinds.load_tag) frame seat.old.me.0 seat.new.me.0 (tag_word result) }
 {
     table.load_tag(seat, frame)
 }
@@ -108,7 +112,9 @@ fn make_victim<L: BlockLane, G: LogDevice, R: Wait>(
     ensures kept { kept_by_block_reads seat.new.me.0 ≡ kept_by_block_reads seat.old.me.0 }
     ensures advances { OnlyRises seat.old.me.0 seat.new.me.0 }
     ensures locks { SameLocks seat.old.me.0 seat.new.me.0 }
-    ensures answer { FreedAnswer L.contents table.now held.now census.new.words seat.old.me.0 seat.new.me.0 result }
+    ensures answer { FreedAnswer L.contents table.now held.now
+        seat.old.me.0 (choice_state queue.old ring.old census.old)
+        seat.new.me.0 (choice_state queue.new ring.new census.new) result }
     ensures census { CensusFreed (frames_of table.now) census.new result }
     ensures met { seat.new.me.0.met ≡ met_freed result seat.old.me.0.met }
     ensures calls { Calls IsFlushCall seat.old.me.0 seat.new.me.0 }
@@ -180,7 +186,10 @@ pub(crate) fn claim<L: BlockLane, G: LogDevice, R: Wait>(
     ensures kept { kept_by_block_reads seat.new.me.0 ≡ kept_by_block_reads seat.old.me.0 }
     ensures advances { OnlyRises seat.old.me.0 seat.new.me.0 }
     ensures locks { SameLocks seat.old.me.0 seat.new.me.0 }
-    ensures answer { ClaimAnswer L.contents table.now (packed_tag tag) held.now census.new.words seat.old.me.0 seat.new.me.0 result }
+    ensures pinned { PinsOrRests (frames_of table.now) (packed_tag tag) held.now seat.new.me.0 result }
+    ensures answer { ClaimAnswer L.contents table.now tag held.now (is_some ring.old)
+        seat.old.me.0 (choice_state queue.old ring.old census.old)
+        seat.new.me.0 (choice_state queue.new ring.new census.new) result }
     ensures census { CensusClaimed (frames_of table.now) census.new result }
     ensures met { seat.new.me.0.met ≡ met_claimed result seat.old.me.0.met }
     ensures calls { Calls IsFlushCall seat.old.me.0 seat.new.me.0 }
@@ -189,8 +198,6 @@ pub(crate) fn claim<L: BlockLane, G: LogDevice, R: Wait>(
     ensures hints { MatchResult result
         (λ p. NotesHint (frames_of table.now) tag p.frame seat.old.me.0.hints seat.new.me.0.hints)
         (λ _. seat.new.me.0.hints ≡ seat.old.me.0.hints) }
-    ensures stored { IfOk result (λ p. PinsAndStores (frames_of table.now) tag held.now
-        (is_some ring.old) p.frame seat.old.me.0 queue.old seat.new.me.0 queue.new) }
 {
     let ringed = ring.is_some();
     for _ in rt.forever() {

@@ -42,7 +42,7 @@ use Rattle.buffer_sync.specs.declared.syncing.SyncOnly.{SyncOnly}
 use Rattle.buffer_sync.specs.declared.syncing.SyncOnly.TheVariants.{NotRecentlyUsed, Needed}
 use Rattle.buffer_sync.specs.declared.syncing.Synced.{Synced}
 use Rattle.buffer_sync.specs.declared.syncing.Synced.TheVariants.{Skipped, Clean, Written}
-use Rattle.buffer_sync.specs.Syncs.{ComesAtOnce, EndsSync, IsDirty, FlushesPinned, LeavesPinned, LooksUnderHeader, PinnedAnswer, PinsUnder, SeesClean, SyncAnswer, SyncsOne, WritesBlock, by_load, by_word, passes_over, pinned_anew, pinned_before, synced_of}
+use Rattle.buffer_sync.specs.Syncs.{ComesAtOnce, EndsSync, IsDirty, FlushesPinned, LeavesPinned, LoadsTag, LooksUnderHeader, PinnedAnswer, PinsUnder, SeesClean, SyncAnswer, SyncsOne, WritesBlock, by_load, by_word, passes_over, pinned_anew, pinned_before, synced_of}
 
 -- the header is locked, and the word loaded under it is the one that is held
 pub locked_as : (was word : ℕ) (l m n : Link) → Looked (locked_link was l) m → Looked m n → fields word ≡ fields was → Looked (locked_link word l) n
@@ -169,7 +169,7 @@ pub some_own : (t : Tokens) (f : ℕ) (tag : Tag) → IsPinnedFor tag f t → he
 some_own t f tag i none = let no : Some i.held ≡ None = sym i.there ∙ none in absurd (cc)
 
 pub under_on : (f word : ℕ) (v u w : View) → OnlyRises v u → (link u f).role ≡ (link v f).role → PinsUnder f word u w → PinsUnder f word v w
-under_on f word v u w rises role (pinned_anew x y more d after) = pinned_anew x y (rises_on v u x rises more) d after
+under_on f word v u w rises role (pinned_anew x y z more d after woken) = pinned_anew x y z (rises_on v u x rises more) d after woken
 under_on f word v u w rises role (pinned_before is) = pinned_before (λ absent. is (role ∙ absent))
 
 pub is_dirty : (l : Link) (w : StateWord) → IsWordOf l w → w.dirty ≡ true → IsDirty w
@@ -207,7 +207,7 @@ clean_between f v u x w before a (by_word s) self b = by_word record { finds = w
 
 module _ {L G : Type 0} (contents : L → Option Pages) (t : FrameTable L G) where
   block_between : (f : ℕ) (v u x w : View) (r : Result FlushedPage FrameFlushError) → u.device_calls ≡ v.device_calls → OnlyRises v u → WritesBlock contents t f u x r → SameSelf x w → OnlyRises x w → WritesBlock contents t f v w r
-  block_between f v u x w r before a s self b = record { tag = s.tag; pinned = s.pinned; since = rises_on v u s.pinned a s.since; until = rises_on s.pinned x w s.until b; remembered = s.remembered; named = s.named; listed = s.listed; answer = flush_between contents t (lane_number s.tag (lanes_in t)) s.tag f v u x w r before a s.answer self b }
+  block_between f v u x w r before a s self b = record { tag = s.tag; loads = within_on (LoadsTag f s.tag) v u x w a s.loads b; named = s.named; listed = s.listed; answer = flush_between contents t (lane_number s.tag (lanes_in t)) s.tag f v u x w r before a s.answer self b }
 
   pub pinned_between : (f : ℕ) (v u x w : View) (r : Result Synced FrameFlushError) → u.device_calls ≡ v.device_calls → OnlyRises v u → PinnedAnswer contents t f u x r → SameSelf x w → OnlyRises x w → PinnedAnswer contents t f v w r
   pinned_between f v u x w (Ok Skipped) before a s self b = absurd s
@@ -221,7 +221,7 @@ module _ {L G : Type 0} (contents : L → Option Pages) (t : FrameTable L G) whe
 
   pub synced_answer : (only : SyncOnly) (word f : ℕ) (v looked w : View) (r : Result Synced FrameFlushError) → passes_over only (fields word) ≡ false → PinsUnder f word looked w → looked.device_calls ≡ v.device_calls → PinnedAnswer contents t f looked w r → PinnedAnswer contents t f v w r → SyncAnswer contents t only word f v looked w r
   synced_answer only word f v looked w (Ok Skipped) is under same s all = absurd s
-  synced_answer only word f v looked w (Ok Clean) is under same s all = (is, inr s, made_before [] v looked w same (clean_made f looked w s))
+  synced_answer only word f v looked w (Ok Clean) is under same s all = (is, inr (under, s), made_before [] v looked w same (clean_made f looked w s))
   synced_answer only word f v looked w (Ok Written) is under same s all = (is, under, all)
   synced_answer only word f v looked w (Err why) is under same s all = (is, under, all)
 
@@ -267,11 +267,13 @@ module _ {L G : Type 0} (contents : L → Option Pages) (t : FrameTable L G) whe
     ended = tt;
   }
 
-  -- and one that was flushed
-  flushed_answer : (f : ℕ) (tag : Tag) (v w : View) (r : Result FlushedPage FrameFlushError) → names_block tag ≡ true → has_block (relations_of t) tag ≡ true → (link v f).tag ≡ Some (packed_tag tag) → OnlyRises v w → FlushAnswer contents t (lane_number tag (lanes_in t)) tag f v w r → PinnedAnswer contents t f v w (synced_of r)
-  flushed_answer f tag v w (Ok flush.Written) named listed has rises a = record { tag = tag; pinned = v; since = rises_none v; until = rises; remembered = has; named = named; listed = listed; answer = a }
-  flushed_answer f tag v w (Ok flush.Clean) named listed has rises a = by_word a
-  flushed_answer f tag v w (Err why) named listed has rises a = record { tag = tag; pinned = v; since = rises_none v; until = rises; remembered = has; named = named; listed = listed; answer = a }
+  -- and one that was flushed, once its tag was loaded
+  flushed_answer : (f : ℕ) (tag : Tag) (v u w : View) (r : Result FlushedPage FrameFlushError) → names_block tag ≡ true → has_block (relations_of t) tag ≡ true → LoadsTag f tag v u → Touches f v u → OnlyRises u w → FlushAnswer contents t (lane_number tag (lanes_in t)) tag f u w r → PinnedAnswer contents t f v w (synced_of r)
+  flushed_answer f tag v u w (Ok flush.Written) named listed loads k rises a = let before = rises_touched f v u k in
+      record { tag = tag; loads = record { before = v; after = u; since = rises_none v; work = loads; until = rises }; named = named; listed = listed; answer = flush_between contents t (lane_number tag (lanes_in t)) tag f v u w w (Ok flush.Written) (ap (λ (y : View). y.device_calls) k.self) before a refl (rises_none w) }
+  flushed_answer f tag v u w (Ok flush.Clean) named listed loads k rises a = clean_between f v u w w (ap (λ (y : View). y.device_calls) k.self) (rises_touched f v u k) (by_word a) refl (rises_none w)
+  flushed_answer f tag v u w (Err why) named listed loads k rises a = let before = rises_touched f v u k in
+      record { tag = tag; loads = record { before = v; after = u; since = rises_none v; work = loads; until = rises }; named = named; listed = listed; answer = flush_between contents t (lane_number tag (lanes_in t)) tag f v u w w (Err why) (ap (λ (y : View). y.device_calls) k.self) before a refl (rises_none w) }
 
   flushed_met : (v w : View) (r : Result FlushedPage FrameFlushError) → w.met ≡ met_flushing r v.met → w.met ≡ met_flushing (synced_of r) v.met
   flushed_met v w (Ok flush.Written) e = e
@@ -283,8 +285,14 @@ module _ {L G : Type 0} (contents : L → Option Pages) (t : FrameTable L G) whe
   flushed_ended f v w (Ok flush.Clean) error written = tt
   flushed_ended f v w (Err why) error written = error
 
-  pub flushes_flushed : (f : ℕ) (tag : Tag) (v w : View) (r : Result FlushedPage FrameFlushError) → names_block tag ≡ true → has_block (relations_of t) tag ≡ true → (link v f).tag ≡ Some (packed_tag tag) → WorksAt f v w → KeepsNotes (link v f) (link w f) → FlushAnswer contents t (lane_number tag (lanes_in t)) tag f v w r → w.met ≡ met_flushing r v.met → IfErr r (λ _. EndedInError f v w) → IfOk r (λ flushed. flushed ≡ flush.Written → EndedWritten f v w) → FlushesPinned contents t f v w (synced_of r)
-  flushes_flushed f tag v w r named listed has works notes a met error written = record { works = works; notes = notes; answer = flushed_answer f tag v w r named listed has works.advances a; met = flushed_met v w r met; ended = flushed_ended f v w r error written }
+  pub flushes_flushed : (f : ℕ) (tag : Tag) (v u w : View) (r : Result FlushedPage FrameFlushError) → names_block tag ≡ true → has_block (relations_of t) tag ≡ true → LoadsTag f tag v u → Touches f v u → SameMarks v u → KeepsNotes (link v f) (link u f) → WorksAt f u w → KeepsNotes (link u f) (link w f) → FlushAnswer contents t (lane_number tag (lanes_in t)) tag f u w r → w.met ≡ met_flushing r u.met → IfErr r (λ _. EndedInError f u w) → IfOk r (λ flushed. flushed ≡ flush.Written → EndedWritten f u w) → FlushesPinned contents t f v w (synced_of r)
+  flushes_flushed f tag v u w r named listed loads k m n works notes a met error written = record {
+    works = works_on f v u w (works_marked f v u k m) works;
+    notes = notes_on (link v f) (link u f) (link w f) n notes;
+    answer = flushed_answer f tag v u w r named listed loads k works.advances a;
+    met = flushed_met u w r met ∙ ap (λ (y : View). met_flushing (synced_of r) y.met) k.self;
+    ended = ends_between f v u w w (synced_of r) (rises_touched f v u k) (flushed_ended f u w r error written) refl (rises_none w);
+  }
 
   -- what came of it, with the look before
   pub syncs_flushed : (only : SyncOnly) (word f : ℕ) (v looked w : View) (r : Result Synced FrameFlushError) → LooksUnderHeader f word v looked → Touches f v looked → SameMarks v looked → KeepsNotes (link v f) (link looked f) → passes_over only (fields word) ≡ false → PinsUnder f word looked w → FlushesPinned contents t f looked w r → (link w f).content ≡ (link v f).content → SyncsOne contents t only f v w r
@@ -292,7 +300,7 @@ module _ {L G : Type 0} (contents : L → Option Pages) (t : FrameTable L G) whe
     works = all.works;
     notes = all.notes;
     lock = lock;
-    syncs = record { word = word; looked = looked; looks = looks; until = s.works.advances; came = synced_answer contents t only word f v looked w r is under (ap (λ (y : View). y.device_calls) k.self) s.answer all.answer };
+    syncs = record { word = word; looked = looked; looks = looks; until = s.works.advances; lists = all.works.lists; came = synced_answer contents t only word f v looked w r is under (ap (λ (y : View). y.device_calls) k.self) s.answer all.answer };
     not_left_to_write = λ e o. not_skipped contents t f v w r all.answer e;
     met = all.met;
     ended = all.ended;
@@ -323,8 +331,8 @@ module _ {L G : Type 0} (contents : L → Option Pages) (t : FrameTable L G) whe
 
   -- the header is unlocked at once
   pub syncs_at_once : (synced : Synced) (only : SyncOnly) (word f : ℕ) (v looked w : View) → LooksUnderHeader f word v looked → Touches f v looked → SameMarks v looked → Looked (locked_link word (link v f)) (link looked f) → ((fields word).checkpoint_needed ≡ false → (link looked f).left_to_write ≡ false) → Touches f looked w → SameMarks looked w → link w f ≡ unlocked_link (link looked f) → ComesAtOnce only (fields word) (Some synced) → SyncsOne contents t only f v w (Ok synced)
-  syncs_at_once synced only word f v looked w looks k m a not_left_to_write l n e once = record {
-    works = works_on f v looked w (works_marked f v looked k m) (works_marked f looked w l n);
+  syncs_at_once synced only word f v looked w looks k m a not_left_to_write l n e once = let works = works_on f v looked w (works_marked f v looked k m) (works_marked f looked w l n) in record {
+    works = works;
     notes = notes_unlocked word (link v f) (link looked f) (link w f) a e;
     lock = ap (λ (x : Link). x.content) e ∙ a.content;
     syncs = record {
@@ -332,6 +340,7 @@ module _ {L G : Type 0} (contents : L → Option Pages) (t : FrameTable L G) whe
       looked = looked;
       looks = looks;
       until = rises_touched f looked w l;
+      lists = works.lists;
       came = at_once_came synced only word f v looked w once
           (made_none v w (ap (λ (y : View). y.device_calls) l.self ∙ ap (λ (y : View). y.device_calls) k.self));
     };

@@ -21,8 +21,9 @@ use Rattle.frame_table.specs.declared.table.FrameTable.{FrameTable}
 use Rattle.frame_table.specs.FrameSteps.{Did, looking}
 use Rattle.frame_table.specs.Kinds.{pages, pins}
 use Rattle.frame_table.specs.Latches.{DidTurn, IsTurned, work_of}
-use Rattle.frame_table.specs.Seats.{HasFlag, HoldsWord, OnlyRises, lanes_in, relations_of}
+use Rattle.frame_table.specs.Seats.{HasFlag, HoldsWord, ListsOnly, OnlyRises, lanes_in, relations_of}
 use Rattle.content_locks.specs.Io.{LocksHeader}
+use Rattle.cleanup_lock.specs.Waking.{Woken}
 use Rattle.clock_sweep.specs.Keeping.{SamePins}
 use Rattle.held_pins.specs.Rests.{HasAtMostLock}
 use Rattle.held_pins.specs.Tokens.{HeldFrame, Tokens, held_at}
@@ -66,6 +67,11 @@ pub record NotesBlock (f : ℕ) (tag : Tag) (v w : View) : Type 0 where
   pub loads : Did (pins load_tag) f under loaded (packed_tag tag)
   pub notes : Did (pages need_checkpoint) f loaded w word
 
+-- The frame f's tag was loaded, which was this one, while the view pinned the frame
+pub record LoadsTag (f : ℕ) (tag : Tag) (v w : View) : Type 0 where
+  pub pinned : (link v f).role ≢ Absent
+  pub loads : Did (pins load_tag) f v w (packed_tag tag)
+
 -- It isn't, by a load, or by the word that was held as a write was to start; no device was called
 pub data SeesClean (f : ℕ) (v w : View) : Type 0 where
   by_load : SeesNotDirty f v w → Made [] v w → SeesClean f v w
@@ -77,9 +83,10 @@ synced_of (Ok flush.Written) = Ok Written
 synced_of (Ok flush.Clean) = Ok Clean
 synced_of (Err why) = Err why
 
--- The frame f was pinned as its header was unlocked, whose word was `word`, with no more usage; or the view pinned it before
+-- The frame f was pinned as its header was unlocked, whose word was `word`, with no more usage. Last of all that pin was given up, and a backend woken that waits for its own to be the only one; or the view pinned the frame before
 pub data PinsUnder (f word : ℕ) (v w : View) : Type 0 where
-  pinned_anew : (x u : View) → OnlyRises v x → Did (pins pin_victim) f x u word → OnlyRises u w → PinsUnder f word v w
+  pinned_anew : (x u y : View) → OnlyRises v x → Did (pins pin_victim) f x u word → OnlyRises u y
+      → Woken f y w → PinsUnder f word v w
   pinned_before : (link v f).role ≢ Absent → PinsUnder f word v w
 
 -- no two frames are pinned for one block
@@ -123,10 +130,7 @@ module _ {L G : Type 0} (contents : L → Option Pages) (t : FrameTable L G) whe
   -- The page of the frame f, which was pinned for a block of the relations, went to the block's lane, or this is why not
   pub record WritesBlock (f : ℕ) (v w : View) (r : Result FlushedPage FrameFlushError) : Type 0 where
     pub tag : Tag
-    pub pinned : View
-    pub since : OnlyRises v pinned
-    pub until : OnlyRises pinned w
-    pub remembered : (link pinned f).tag ≡ Some (packed_tag tag)
+    pub loads : Within (LoadsTag f tag) v w
     pub named : names_block tag ≡ true
     pub listed : has_block (relations_of t) tag ≡ true
     pub answer : FlushAnswer contents t (lane_number tag (lanes_in t)) tag f v w r
@@ -141,7 +145,9 @@ module _ {L G : Type 0} (contents : L → Option Pages) (t : FrameTable L G) whe
   -- what came of the frame f, whose state word was `word` at the look that led to the view `looked`
   abbrev pub SyncAnswer : SyncOnly → ℕ → ℕ → View → View → View → Result Synced FrameFlushError → Type 0
   SyncAnswer only word f v looked w (Ok Skipped) = (passes_over only (fields word) ≡ true) × Made [] v w
-  SyncAnswer only word f v looked w (Ok Clean) = (passes_over only (fields word) ≡ false) × (((fields word).dirty ≡ false) ⊎ SeesClean f looked w) × Made [] v w
+  SyncAnswer only word f v looked w (Ok Clean) = (passes_over only (fields word) ≡ false)
+      × (((fields word).dirty ≡ false) ⊎ (PinsUnder f word looked w × SeesClean f looked w))
+      × Made [] v w
   SyncAnswer only word f v looked w (Ok Written) = (passes_over only (fields word) ≡ false) × PinsUnder f word looked w × WritesBlock f v w (Ok flush.Written)
   SyncAnswer only word f v looked w (Err why) = (passes_over only (fields word) ≡ false) × PinsUnder f word looked w × WritesBlock f v w (Err why)
 
@@ -151,6 +157,8 @@ module _ {L G : Type 0} (contents : L → Option Pages) (t : FrameTable L G) whe
     pub looked : View
     pub looks : LooksUnderHeader f word v looked
     pub until : OnlyRises looked w
+    -- the words that were loaded and changed are of f, but for loads of words of no frame
+    pub lists : ListsOnly f v w
     pub came : SyncAnswer only word f v looked w r
 
   -- What a frame that was pinned to be written, or was not written, makes of the view

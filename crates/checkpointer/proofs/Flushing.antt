@@ -1,5 +1,5 @@
 -- Calls of devices that flush.
-use Rattle.std.proofs.Common.{◌≡◌, ℕ, ◌+◌, Bool, true, false, List, [], ◌∷◌, ◌++◌, refl, ap, arith}
+use Rattle.std.proofs.Common.{◌≡◌, ℕ, ◌+◌, Bool, true, false, List, [], ◌∷◌, ◌++◌, refl, arith}
 use Rattle.std.specs.Prelude.{min}
 use Rattle.std.specs.List.{All}
 use Rattle.std.proofs.lemmas.List.Elements.{All-nil, All-cons, All-append}
@@ -13,11 +13,8 @@ use Rattle.block_tag.specs.Names.{lane_number, packed_tag}
 use Rattle.segment_store.specs.Contents.{Pages}
 use Rattle.frame_table.specs.declared.table.FrameTable.{FrameTable}
 use Rattle.frame_table.specs.Seats.{lanes_in}
-use Rattle.wal_flush.specs.declared.flushes.FlushedBy.{FlushedBy}
-use Rattle.wal_flush.specs.declared.flushes.FlushedBy.TheVariants.{NoSync, OneSync}
-use Rattle.wal_flush.specs.Flushes.{as_looked, flushed_view}
 use Rattle.buffer_frames.specs.Flushing.{WentToLane, log_syncs}
-use Rattle.buffer_frames.proofs.WorkSteps.{made_none, made_on}
+use Rattle.buffer_frames.proofs.WorkSteps.{made_on}
 use Rattle.buffer_sync.specs.declared.syncing.SyncOnly.TheVariants.{Needed}
 use Rattle.buffer_sync.specs.declared.syncing.Synced.{Synced}
 use Rattle.buffer_sync.specs.declared.syncing.Synced.TheVariants.{Skipped, Clean, Written}
@@ -49,10 +46,6 @@ flushes_page q tag page xs v w each none calls = record {
 flushes_syncs : (synced : Bool) → All IsFlush (log_syncs synced) × (pages_written (log_syncs synced) ≡ 0)
 flushes_syncs true = (All-cons IsFlush (LogSync true) [] refl (All-nil IsFlush), refl)
 flushes_syncs false = (All-nil IsFlush, refl)
-
-pub flushes_log : (lsn : ℕ) (by : FlushedBy) (v w : View) → w ≡ as_looked (flushed_view by v) w → FlushesPages 0 v w
-flushes_log lsn NoSync v w e = flushes_none v w (made_none v w (ap (λ (x : View). x.device_calls) e))
-flushes_log lsn OneSync v w e = record { made = LogSync true ∷ []; calls = ap (λ (x : View). x.device_calls) e; each = (flushes_syncs true).0; counted = refl }
 
 went_flushes : (q tag : ℕ) (page : Page) (v w : View) → WentToLane true q tag page v w → FlushesPages 1 v w
 went_flushes q tag page v w a = flushes_page q tag a.left (log_syncs a.synced) v w (flushes_syncs a.synced).0 (flushes_syncs a.synced).1 (made_on (log_syncs a.synced) (LaneWrite q tag a.left true ∷ []) v a.ready w a.log_calls a.lane_call)

@@ -54,7 +54,7 @@ module _ {L G : Type 0} (contents : L → Option Pages) (m : Manager L G) where
         locks = λ f. refl;
         census = refl;
         calls = record { calls = refl; front = refl; place_loads = refl };
-        sought = record { hint = refl; turns = refl; stores = refl; queue = refl };
+        sought = record { hint = refl; turns = refl; stores = refl; queue = refl; ticks = refl };
       };
     };
     mark = refl;

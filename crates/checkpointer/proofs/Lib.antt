@@ -2,6 +2,7 @@ pub mod Ended
 pub mod Flushing
 pub mod Keeping
 pub mod MarkedFrames
+pub mod Ordered
 pub mod Stopping
 pub mod Storing
 pub mod Syncing

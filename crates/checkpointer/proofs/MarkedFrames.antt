@@ -7,13 +7,17 @@ use Rattle.std.proofs.lemmas.List.Sorted.{All-permutation, Contains-permutation}
 use Rattle.std.proofs.lemmas.Bool.{both_ways}
 use mathlib.Core.Logic.{dite}
 use native.Mathlib.Decide.{ℕ_discrete}
+use Rattle.block_tag.specs.declared.tag.Tag.{Tag}
+use Rattle.block_tag.specs.Names.{packed_tag}
 use Rattle.pin_core.specs.declared.view.Link.{Link}
 use Rattle.pin_core.specs.declared.view.View.{View}
 use Rattle.pin_core.specs.State.{link}
+use Rattle.frame_table.specs.Seats.{ListsOnly}
 use Rattle.buffer_frames.specs.Working.{KeepsNotes}
+use Rattle.buffer_sync.specs.Syncs.{NotesBlock, SeesNotDirty}
 use Rattle.backend_pass.specs.declared.marked.MarkedFrame.{MarkedFrame}
 use Rattle.backend_pass.specs.Passes.{PassState}
-use Rattle.checkpointer.specs.Marked.{AreInside, AreMarked, HasVisited, HasNoneLeft, IsMarked, HasNoneToWrite, KeepsEachNote}
+use Rattle.checkpointer.specs.Marked.{AreInside, AreMarked, HasVisited, HasNoneLeft, IsMarked, HasNoneToWrite, KeepsEachNote, NotesInOrder, sees_clean, notes_dirty}
 
 by_left_to_write : (b : Bool) {A : Type 0} → (b ≡ true → A) → (b ≡ false → A) → A
 by_left_to_write true is isnt = is refl
@@ -110,3 +114,11 @@ pub one_written : (place : ℕ) (marked list : List MarkedFrame) (first : Marked
 one_written place marked list first v w is inside notes here before k d low = dite (ℕ_discrete k place)
     (λ (e : k ≡ place). subst (λ (x : MarkedFrame). (link w x.frame).left_to_write ≡ false) (ap (λ (l : List MarkedFrame). slice_index_or l place first) is ∙ get_or_default marked place first d inside ∙ ap (λ (j : ℕ). slice_index_or marked j d) (sym e)) here)
     (λ (n : k ≢ place). (notes (slice_index_or marked k d).frame).left_to_write (before k d (omega arith)))
+
+-- one more frame was looked at, and not dirty
+pub noted_clean : (f : ℕ) (v : View) (p q : PassState) → q.marked ≡ p.marked → SeesNotDirty f p.view q.view → ListsOnly f p.view q.view → NotesInOrder v f p.view p.marked → NotesInOrder v (f + 1) q.view q.marked
+noted_clean f v p q kept sees lists notes = subst (NotesInOrder v (f + 1) q.view) (sym kept) (sees_clean notes sees lists)
+
+-- or noted
+pub noted_dirty : (v : View) (p q r : PassState) (m : MarkedFrame) (tag : Tag) → r ≡ record q { marked = q.marked ++ m ∷ [] } → q.marked ≡ p.marked → m.tag ≡ packed_tag tag → NotesBlock m.frame tag p.view q.view → NotesInOrder v m.frame p.view p.marked → NotesInOrder v (m.frame + 1) r.view r.marked
+noted_dirty v p q r m tag is kept packed noted notes = subst (λ (x : PassState). NotesInOrder v (m.frame + 1) x.view x.marked) (sym is) (subst (λ (l : List MarkedFrame). NotesInOrder v (m.frame + 1) q.view (l ++ m ∷ [])) (sym kept) (notes_dirty m tag notes noted packed))

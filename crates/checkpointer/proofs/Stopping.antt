@@ -6,9 +6,8 @@ use Rattle.pin_core.specs.declared.view.FailedCalls.{FailedCalls}
 use Rattle.pin_core.specs.declared.view.View.{View}
 use Rattle.frame_table.specs.declared.table.FrameTable.{FrameTable}
 use Rattle.frame_table.specs.Seats.{OnlyRises}
-use Rattle.frame_table.proofs.Rising.{rises_none, rises_on}
+use Rattle.frame_table.proofs.Rising.{rises_on}
 use Rattle.buffer_frames.specs.Flushing.{EndedInError, met_refused}
-use Rattle.buffer_frames.proofs.WorkSteps.{made_none}
 use Rattle.buffer_sync.specs.declared.syncing.SyncOnly.TheVariants.{Needed}
 use Rattle.buffer_sync.specs.Syncs.{SyncsFrame}
 use Rattle.backend_pass.specs.declared.errors.FlushError.{FlushError}
@@ -22,7 +21,8 @@ use Rattle.checkpointer.specs.declared.ending.CheckpointError.{CheckpointError}
 use Rattle.checkpointer.specs.declared.ending.CheckpointError.TheVariants.{WriteFault, LogFault, LogDown, LogShort, SyncFault}
 use Rattle.checkpointer.specs.Refusals.{IsCompleteOrShort, Stops, StopsWriting, at_frame, at_lane, at_log, met_stopping}
 use Rattle.checkpointer.specs.Stages.{KeepsBackend, WritesMarked}
-use Rattle.checkpointer.proofs.Flushing.{flushes_none, flushes_on}
+use Rattle.checkpointer.specs.Writes.{SyncsWhileNeeded}
+use Rattle.checkpointer.proofs.Flushing.{flushes_on}
 use Rattle.checkpointer.proofs.Keeping.{keeps_on}
 
 -- where nothing fails from the first pass on nothing does from a later one on
@@ -33,28 +33,33 @@ fails_later contents t p u q rises met n = record {
 }
 
 module _ {L G : Type 0} (contents : L → Option Pages) (m : Manager L G) where
-  -- the first write of a frame was refused
-  pub stops_first : (p q : PassState) (f : ℕ) (why : FlushError) → KeepsBackend contents m p q → KeepsMark p q → SyncsFrame contents m.table Needed f p.view q.view (Err (frame_refusal why)) → EndedInError f p.view q.view → q.view.met ≡ met_refused (frame_refusal why) p.view.met → StopsWriting contents m p q why
-  stops_first p q f why keeps mark syncs ended met = record {
-    keeps = keeps;
-    stops = record { before = p.view; since = rises_none p.view; written = 0; flushes = flushes_none p.view p.view (made_none p.view p.view refl); frame = f; refused = syncs.came.2; ended = ended; mark = mark };
-    met = met;
+  -- a write of the frame f was refused, once it was written as long as it had BM_CHECKPOINT_NEEDED
+  pub stops_synced : (n f : ℕ) (p u q : PassState) (why : FlushError) → WritesMarked contents m n p u → SyncsWhileNeeded contents m.table f p.view u.view → KeepsBackend contents m u q → KeepsMark u q → SyncsFrame contents m.table Needed f u.view q.view (Err (frame_refusal why)) → EndedInError f u.view q.view → q.view.met ≡ met_refused (frame_refusal why) u.view.met → StopsWriting contents m (SyncsWhileNeeded contents m.table f p.view) f p q why
+  stops_synced n f p u q why w needed keeps mark syncs ended met = record {
+    keeps = keeps_on contents m p u q w.keeps keeps;
+    before = u.view;
+    since = w.keeps.same.keeps.advances;
+    work = needed;
+    written = n;
+    flushes = w.flushes;
+    refused = syncs;
+    ended = ended;
+    mark = mark ∙ w.mark;
+    met = met ∙ ap (met_refused (frame_refusal why)) w.met;
   }
 
-  -- or one after pages were written
-  pub stops_on : (n : ℕ) (p u q : PassState) (why : FlushError) → WritesMarked contents m n p u → StopsWriting contents m u q why → StopsWriting contents m p q why
-  stops_on n p u q why w s = record {
+  -- and after other frames were written
+  pub stops_on : (n f : ℕ) (A B : View → Type 0) (p u q : PassState) (why : FlushError) → WritesMarked contents m n p u → ((x : View) → A x → B x) → StopsWriting contents m A f u q why → StopsWriting contents m B f p q why
+  stops_on n f A B p u q why w more s = record {
     keeps = keeps_on contents m p u q w.keeps s.keeps;
-    stops = record {
-      before = s.stops.before;
-      since = rises_on p.view u.view s.stops.before w.keeps.same.keeps.advances s.stops.since;
-      written = min (n + s.stops.written) 4294967295;
-      flushes = flushes_on n s.stops.written (min (n + s.stops.written) 4294967295) p.view u.view s.stops.before refl w.flushes s.stops.flushes;
-      frame = s.stops.frame;
-      refused = s.stops.refused;
-      ended = s.stops.ended;
-      mark = s.stops.mark ∙ w.mark;
-    };
+    before = s.before;
+    since = rises_on p.view u.view s.before w.keeps.same.keeps.advances s.since;
+    work = more s.before s.work;
+    written = min (n + s.written) 4294967295;
+    flushes = flushes_on n s.written (min (n + s.written) 4294967295) p.view u.view s.before refl w.flushes s.flushes;
+    refused = s.refused;
+    ended = s.ended;
+    mark = s.mark ∙ w.mark;
     met = s.met ∙ ap (met_refused (frame_refusal why)) w.met;
   }
 
@@ -63,7 +68,7 @@ module _ {L G : Type 0} (contents : L → Option Pages) (m : Manager L G) where
   stops_down : (upto at : ℕ) (v w : View) → Stops contents m upto v w (LogDown at) → w.saw_down ≡ true
   stops_down upto at v w (at_frame (flush.WriteFault tag) e x) = absurd (cc)
   stops_down upto at v w (at_frame flush.LogFault e x) = absurd (cc)
-  stops_down upto at v w (at_frame (flush.LogDown end) e x) = x.refused.answer.work.shows.2
+  stops_down upto at v w (at_frame (flush.LogDown end) e x) = x.refused.came.2.answer.work.shows.2
   stops_down upto at v w (at_frame (flush.LogShort lsn end) e x) = absurd (cc)
   stops_down upto at v w (at_log cause e x) = x.shows
   stops_down upto at v w (at_lane lane e low x) = absurd (cc)

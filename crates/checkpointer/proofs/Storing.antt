@@ -5,13 +5,12 @@ use native.Mathlib.Decide.{ℕ_discrete}
 use Rattle.pin_core.specs.declared.view.LaneHold.{LaneHold}
 use Rattle.pin_core.specs.declared.view.View.{View}
 use Rattle.pin_core.specs.State.{lane_hold}
-use Rattle.history_core.specs.Promises.{AreStored, AreSynced}
+use Rattle.history_core.specs.Promises.{AreDurable, AreStored, AreSynced}
 use Rattle.history_core.specs.State.{State}
-use Rattle.history_core.proofs.Histories.{durable, loaded_flushed}
-use Rattle.history_core.proofs.Promises.{sweeps}
+use Rattle.history_core.proofs.Promises.{seen_durable, sweeps}
 use Rattle.buffer_sync.specs.Syncs.{LeavesLane}
 use Rattle.backend_pass.specs.Closing.{HasSwept}
-use Rattle.checkpointer.specs.Checkpoints.{AreDurable, StoresUpTo}
+use Rattle.checkpointer.specs.Checkpoints.{StoresUpTo}
 
 module _ (lanes lane : ℕ) (w : View) (l : LeavesLane lanes lane w) where
   abbrev s : State
@@ -34,7 +33,7 @@ module _ (lanes lane : ℕ) (w : View) (l : LeavesLane lanes lane w) where
   stores upto flushed swept = record { lane = lane; left = l; durable = are_durable; synced = both.0; stored = both.1 }
     where
       are_durable : AreDurable s upto
-      are_durable k e at low = let x = loaded_flushed s l.did.laws.invariant l.did.seat l.before l.did.there in let y = flushed_as in durable s l.did.laws.invariant k e at (omega arith)
+      are_durable = seen_durable s l.did.laws.invariant l.did.seat upto l.before l.did.there (let x = flushed_as in omega arith)
 
       both : AreSynced s upto × AreStored s upto
       both = sweeps s l.did.laws.invariant l.did.laws.debts l.did.laws.swept l.did.seat upto l.before l.did.there (inl (swept_there upto swept))

@@ -1,20 +1,18 @@
 -- What a checkpoint does.
-use Rattle.std.specs.Prelude.{◌≡◌, ℕ, ◌+◌, ◌≤◌, List, ◌++◌}
-use Rattle.std.specs.List.{All}
-use mathlib.Core.Option.{some}
-use lib.ListN.{get_elem?}
-use Rattle.pin_core.specs.declared.view.DeviceCall.{DeviceCall}
+use Rattle.std.specs.Prelude.{◌≡◌, ℕ, ◌≤◌, Option}
+use Rattle.segment_store.specs.Contents.{Pages}
 use Rattle.pin_core.specs.declared.view.View.{View}
-use Rattle.history_core.specs.Log.{Entry, end_of, head_size}
-use Rattle.history_core.specs.Promises.{AreStored, AreSynced}
-use Rattle.history_core.specs.State.{State}
-use Rattle.frame_table.specs.Seats.{OnlyRises}
+use Rattle.history_core.specs.Promises.{AreDurable, AreStored, AreSynced}
+use Rattle.frame_table.specs.declared.table.FrameTable.{FrameTable}
+use Rattle.frame_table.specs.Seats.{OnlyRises, lanes_in}
 use Rattle.frame_table.specs.WordSteps.{DidWord, begin_checkpoint, view_of}
+use Rattle.wal_flush.specs.Flushes.{Flushed}
 use Rattle.buffer_frames.specs.Working.{Made}
-use Rattle.buffer_sync.specs.Syncs.{LeavesLane, pages_written}
+use Rattle.buffer_sync.specs.Syncs.{LeavesLane}
 use Rattle.backend_pass.specs.Closing.{HasSwept}
 use Rattle.checkpointer.specs.declared.ending.Checkpoint.{Checkpoint}
-use Rattle.checkpointer.specs.Stages.{IsFlush, answered_count, syncs_below}
+use Rattle.checkpointer.specs.Stages.{syncs_below}
+use Rattle.checkpointer.specs.Writes.{MarksAndWrites}
 
 -- A checkpoint of the view began as the first step, where the log ended at `upto`, and is its last one still
 pub record Begins (upto : ℕ) (v w : View) : Type 0 where
@@ -24,10 +22,6 @@ pub record Begins (upto : ℕ) (v w : View) : Type 0 where
   pub until : OnlyRises began w
   pub last : w.upto ≡ upto
 
--- each entry up to the position `upto` is durable in the log
-abbrev pub AreDurable : State → ℕ → Type 0
-AreDurable s upto = (k : ℕ) (e : Entry) → get_elem? s.log.entries k ≡ some e → end_of e ≤ upto → head_size + end_of e ≤ s.log.base + s.device.synced
-
 -- The last step to the view left the latch of a lane. In the state of that step each entry of the log up to `upto` is durable, the syncs of the lanes have covered it, and its block's lane holds it or a later one, or that block's last write failed and its frame is valid and dirty
 pub record StoresUpTo (lanes upto : ℕ) (w : View) : Type 0 where
   pub lane : ℕ
@@ -36,13 +30,17 @@ pub record StoresUpTo (lanes upto : ℕ) (w : View) : Type 0 where
   pub synced : AreSynced left.did.state upto
   pub stored : AreStored left.did.state upto
 
--- The checkpoint flushed frames and the log, and then synced each lane, and no call of a device failed. The log is flushed up to where it began, each lane is swept up to there, and what was logged up to there is stored
-pub record Completes (lanes : ℕ) (c : Checkpoint) (v w : View) : Type 0 where
-  pub begins : Begins c.upto v w
-  pub flushes : List DeviceCall
-  pub each : All IsFlush flushes
-  pub calls : Made (flushes ++ syncs_below lanes) v w
-  pub written : c.written ≡ answered_count (pages_written flushes)
-  pub flushed : c.upto ≤ w.flushed
-  pub swept : HasSwept lanes c.upto w
-  pub stored : StoresUpTo lanes c.upto w
+module _ {L G : Type 0} (contents : L → Option Pages) (t : FrameTable L G) where
+  -- The checkpoint wrote the frames that it marked, flushed the log, and then synced each lane, and no call of a device failed. The log is flushed up to where it began, each lane is swept up to there, and what was logged up to there is stored
+  pub record Completes (c : Checkpoint) (v w : View) : Type 0 where
+    pub begins : Begins c.upto v w
+    -- the view by when the frames were written
+    pub before : View
+    pub writes : MarksAndWrites contents t c.upto c.written v before
+    -- and by when the log was flushed
+    pub logged : View
+    pub log : Flushed c.upto before logged
+    pub calls : Made (syncs_below (lanes_in t)) logged w
+    pub flushed : c.upto ≤ w.flushed
+    pub swept : HasSwept (lanes_in t) c.upto w
+    pub stored : StoresUpTo (lanes_in t) c.upto w

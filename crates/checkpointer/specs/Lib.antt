@@ -2,3 +2,4 @@ pub mod Checkpoints
 pub mod Marked
 pub mod Refusals
 pub mod Stages
+pub mod Writes

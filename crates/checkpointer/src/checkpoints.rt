@@ -1,6 +1,5 @@
 //! A checkpoint.
 ghost use Rattle.std.specs.Prelude.{◌≡◌, ℕ, IfErr, IfOk, IsOk};
-ghost use Rattle.frame_table.specs.Seats.{lanes_in};
 ghost use Rattle.backend_pass.specs.Managers.{Belongs};
 ghost use Rattle.backend_pass.specs.Passes.{KeepsCallers, NoDeviceFails};
 ghost use Rattle.backend_pass.specs.Reading.{NothingFails};
@@ -28,10 +27,10 @@ pub fn checkpoint<L: BlockLane, G: LogDevice, R: Wait>(
     ensures belongs { Belongs L.contents manager.now pass.new }
     ensures callers { KeepsCallers pass.old pass.new }
 
-    // Where it completes, what was logged up to its beginning is stored, and the calls of devices and the pages written are counted.
-    ensures completes { IfOk result (λ done. Completes (lanes_in manager.now.table) done pass.old.view pass.new.view) }
+    // Where it completes, it wrote the frames that it noted as dirty and no other, in the order of their tags, and what was logged up to its beginning is stored.
+    ensures completes { IfOk result (λ done. Completes L.contents manager.now.table done pass.old.view pass.new.view) }
 
-    // Where it stops, this is why, and which devices were called.
+    // Where it stops, this is why, how far it came in that order, and which devices were called.
     ensures stops { IfErr result (λ why. (upto : ℕ) × Begins upto pass.old.view pass.new.view × Stops L.contents manager.now upto pass.old.view pass.new.view why) }
     ensures met { pass.new.view.met ≡ met_checkpointing result pass.old.view.met }
 

@@ -1,9 +1,10 @@
 //! A checkpoint marks what it has to write.
 ghost use Rattle.std.specs.Prelude.{◌≡◌, ◌≢◌, ◌+◌, ◌<◌, ◌≤◌, ℕ, [], length, true};
 ghost use Rattle.frame_table.specs.Seats.{frames_of};
+ghost use Rattle.pin_core.specs.declared.view.View.{View};
 ghost use Rattle.pin_core.specs.State.{link};
 ghost use Rattle.backend_pass.specs.Managers.{Belongs};
-ghost use Rattle.checkpointer.specs.Marked.{AreInside, AreMarked, HasVisited, HasNoneToWrite};
+ghost use Rattle.checkpointer.specs.Marked.{AreInside, AreMarked, HasVisited, HasNoneToWrite, ListsDirty, NotesInOrder};
 ghost use Rattle.checkpointer.specs.Stages.{MarksFrames};
 
 use backend_pass::{Manager, MarkedFrame, Pass};
@@ -27,6 +28,8 @@ fn mark_frame<L: BlockLane, G: LogDevice, R: Wait>(
     ensures marked { AreMarked pass.old.marked pass.old.view → AreMarked pass.new.marked pass.new.view }
     ensures inside { AreInside (frames_of manager.now.table) pass.old.marked → AreInside (frames_of manager.now.table) pass.new.marked }
     ensures room { length pass.new.marked ≤ frame + 1 }
+    ensures notes { (v : View) → NotesInOrder v frame pass.old.view pass.old.marked
+        → NotesInOrder v (frame + 1) pass.new.view pass.new.marked }
 {
     let Some(tag) = pass.need_checkpoint(manager, rt, frame) else {
         return;
@@ -50,6 +53,7 @@ pub(crate) fn mark_frames<L: BlockLane, G: LogDevice, R: Wait>(
     ensures visited { HasVisited (frames_of manager.now.table) pass.new.view }
     ensures marked { AreMarked pass.new.marked pass.new.view }
     ensures inside { AreInside (frames_of manager.now.table) pass.new.marked }
+    ensures lists { ListsDirty (frames_of manager.now.table) pass.new.marked pass.old.view pass.new.view }
 {
     for frame in 0..manager.frames() {
         mark_frame(manager, rt, pass, frame);

@@ -1,5 +1,5 @@
 //! A checkpoint writes what it marked.
-ghost use Rattle.std.specs.Prelude.{◌≡◌, ◌<◌, false, IfErr, IfOk, IsOk, OnOk};
+ghost use Rattle.std.specs.Prelude.{◌≡◌, ◌<◌, ℕ, false, IfErr, IfOk, IsOk, OnOk};
 ghost use Rattle.frame_table.specs.Seats.{frames_of};
 ghost use Rattle.pin_core.specs.declared.view.Content.TheVariants.{Unlocked};
 ghost use Rattle.pin_core.specs.State.{link};
@@ -9,6 +9,7 @@ ghost use Rattle.backend_pass.specs.Reading.{NothingFails};
 ghost use Rattle.checkpointer.specs.Marked.{AreInside, AreMarked, HasVisited, HasNoneLeft, KeepsEachNote};
 ghost use Rattle.checkpointer.specs.Refusals.{StopsWriting};
 ghost use Rattle.checkpointer.specs.Stages.{HasNoLock, WritesMarked, pages_by};
+ghost use Rattle.checkpointer.specs.Writes.{SyncsUntilPassed, SyncsWhileNeeded, WritesInOrder, WritesUpTo};
 
 use backend_pass::{FlushError, Manager, Pass, SyncOnly, Synced};
 use log_device::LogDevice;
@@ -39,7 +40,9 @@ fn write_frame<L: BlockLane, G: LogDevice, R: Wait>(
     ensures not_left_to_write { OnOk result ((link pass.new.view frame).left_to_write ≡ false) }
     ensures notes { OnOk result (KeepsEachNote pass.old.view pass.new.view) }
     ensures marked { pass.new.marked ≡ pass.old.marked }
-    ensures stops { IfErr result (StopsWriting L.contents manager.now pass.old pass.new) }
+    ensures passed { OnOk result (SyncsUntilPassed L.contents manager.now.table frame pass.old.view pass.new.view) }
+    ensures stops { IfErr result (StopsWriting L.contents manager.now
+        (SyncsWhileNeeded L.contents manager.now.table frame pass.old.view) frame pass.old pass.new) }
     ensures complete { NothingFails L.contents manager.now.table pass.old pass.new → IsOk result }
 {
     let mut written = 0u32;
@@ -69,7 +72,10 @@ pub(crate) fn write_marked<L: BlockLane, G: LogDevice, R: Wait>(
     requires inside { AreInside (frames_of manager.now.table) pass.old.marked }
     ensures writes { IfOk result (λ written. WritesMarked L.contents manager.now written pass.old pass.new) }
     ensures none_left { OnOk result (HasNoneLeft (frames_of manager.now.table) pass.new.view) }
-    ensures stops { IfErr result (StopsWriting L.contents manager.now pass.old pass.new) }
+    ensures in_order { OnOk result (WritesInOrder L.contents manager.now.table
+        pass.old.view pass.old.marked pass.new.view) }
+    ensures stops { IfErr result (λ why. (f : ℕ) × StopsWriting L.contents manager.now
+        (WritesUpTo L.contents manager.now.table pass.old.marked f pass.old.view) f pass.old pass.new why) }
     ensures complete { NothingFails L.contents manager.now.table pass.old pass.new → IsOk result }
 {
     let mut written = 0u32;

@@ -18,7 +18,7 @@ use Rattle.frame_table.specs.Seats.{Looked}
 use Rattle.frame_table.specs.FrameSteps.{Did, Looks, looking}
 use Rattle.content_locks.specs.declared.locks.TryLock.TheVariants as try
 use Rattle.content_locks.specs.Io.{LocksHeader}
-use Rattle.content_locks.specs.Locks.{LocksContent, RefusesLock, ShowsLock}
+use Rattle.content_locks.specs.Locks.{LocksAtOnce, LocksContent, RefusesLock, ShowsLock}
 use Rattle.cleanup_lock.specs.declared.locking.Attempt.{Attempt}
 use Rattle.cleanup_lock.specs.declared.locking.Attempt.TheVariants as attempt
 use Rattle.cleanup_lock.specs.declared.locking.CleanupError.{CleanupError}
@@ -170,7 +170,7 @@ RefusesCleanup number f v w (lock.OtherWaiter backend) = (u : View) × Retried n
 -- The content lock was taken exclusively without a wait, and then the view was alone
 pub record GrantsTry (f : ℕ) (v w : View) : Type 0 where
   pub locked : View
-  pub locks : LocksContent exclude f v locked
+  pub locks : LocksAtOnce exclude f v locked
   pub alone : Alone f locked w
 
 -- The content lock was taken so, then a word showed other pins, and the lock was given up
@@ -178,7 +178,7 @@ pub record FindsOtherPins (f word : ℕ) (v w : View) : Type 0 where
   pub locked : View
   pub looked : View
   pub found : ℕ
-  pub locks : LocksContent exclude f v locked
+  pub locks : LocksAtOnce exclude f v locked
   pub right : (link locked f).content ≡ Exclusive
   pub loads : Did looking f locked looked word
   pub others : SeesOtherPins word

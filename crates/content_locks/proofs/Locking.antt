@@ -19,7 +19,7 @@ use Rattle.frame_table.proofs.Told.{link_is, touches, touches_on, touches_none}
 use Rattle.frame_table.proofs.Marks.{did_marks, marks_none, marks_on}
 use Rattle.frame_table.proofs.Contents.{own_share, own_exclusive}
 use Rattle.frame_table.proofs.Seeing.{shows_holder}
-use Rattle.content_locks.specs.Locks.{LooksAtContent, still, again, LocksContent, RefusesLock, ShowsLock, MayCopy, copied_link, copying_link_if}
+use Rattle.content_locks.specs.Locks.{LooksAtContent, still, again, LocksAtOnce, LocksContent, RefusesLock, ShowsLock, MayCopy, copied_link, copying_link_if}
 use Rattle.content_locks.specs.declared.locks.TryLock.{TryLock}
 use Rattle.content_locks.specs.declared.locks.TryLock.TheVariants.{Busy, Changed}
 
@@ -48,6 +48,9 @@ refused_looks Conflicts f v w (Changed was now) h = again now (again was still h
 
 pub locks_on : (k : paged.Kind) (f : ℕ) (v u w : View) → LooksAtContent f v u → LocksContent k f u w → LocksContent k f v w
 locks_on k f v u w a (x, was, before, d) = (x, was, looks_on f v u x a before, d)
+
+pub locks_waiting : (k : paged.Kind) (f : ℕ) (v w : View) → LocksAtOnce k f v w → LocksContent k f v w
+locks_waiting k f v w (u, was, look, d) = (u, was, again was still look, d)
 
 -- the copy latch is taken after loads
 pub latched_on : (b : Bool) (l m n : Link) → n ≡ copying_link_if b m → b ≡ true → m ≡ l → n ≡ copying_link true l

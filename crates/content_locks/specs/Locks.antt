@@ -22,6 +22,10 @@ pub data LooksAtContent (f : ℕ) : View → View → Type 0 where
 abbrev pub LocksContent : paged.Kind → ℕ → View → View → Type 0
 LocksContent k f v w = (u : View) × (was : ℕ) × LooksAtContent f v u × Did (pages k) f u w was
 
+-- after one such load a step of the kind k was made at it, at the word that was loaded
+abbrev pub LocksAtOnce : paged.Kind → ℕ → View → View → Type 0
+LocksAtOnce k f v w = (u : View) × (was : ℕ) × Did looking_content f v u was × Did (pages k) f u w was
+
 -- a content word that shows an exclusive lock, and one that shows any
 abbrev pub ShowsExclusive : ℕ → Type 0
 ShowsExclusive word = has_exclusive word ≡ true

@@ -6,7 +6,7 @@ ghost use Rattle.frame_table.specs.Seats.{CanStep, SameMarks, SameSeat, Touches}
 ghost use Rattle.frame_table.specs.Kinds.{pages};
 ghost use Rattle.frame_table.specs.FrameSteps.{Did};
 ghost use Rattle.frame_table.specs.Content.{CanDropExclusive, CanDropShare, CanLock, exclusive_link, shared_link, unexclusive_link, unshared_link};
-ghost use Rattle.content_locks.specs.Locks.{ShowsLock, ShowsExclusive, LocksContent, RefusesLock};
+ghost use Rattle.content_locks.specs.Locks.{ShowsLock, ShowsExclusive, LocksAtOnce, LocksContent, RefusesLock};
 
 use atomic_table::Seat;
 use frame_table::{FrameTable, Value, is_exclusive};
@@ -38,7 +38,7 @@ pub fn try_share<L: BlockLane, G: LogDevice>(
     ensures marks { SameMarks seat.old.me.0 seat.new.me.0 }
     ensures shared { IfOk result (λ _. link seat.new.me.0 frame ≡ shared_link (link seat.old.me.0 frame)) }
     ensures left { IfErr result (λ _. link seat.new.me.0 frame ≡ link seat.old.me.0 frame) }
-    ensures did { IfOk result (λ _. LocksContent kinds.share frame seat.old.me.0 seat.new.me.0) }
+    ensures did { IfOk result (λ _. LocksAtOnce kinds.share frame seat.old.me.0 seat.new.me.0) }
     ensures cause { IfErr result (RefusesLock ShowsExclusive frame seat.old.me.0 seat.new.me.0) }
 {
     let was = table.look_content(seat, frame);
@@ -64,7 +64,7 @@ pub fn try_exclusive<L: BlockLane, G: LogDevice>(
     ensures marks { SameMarks seat.old.me.0 seat.new.me.0 }
     ensures exclusive { IfOk result (λ _. link seat.new.me.0 frame ≡ exclusive_link (link seat.old.me.0 frame)) }
     ensures left { IfErr result (λ _. link seat.new.me.0 frame ≡ link seat.old.me.0 frame) }
-    ensures did { IfOk result (λ _. LocksContent kinds.exclude frame seat.old.me.0 seat.new.me.0) }
+    ensures did { IfOk result (λ _. LocksAtOnce kinds.exclude frame seat.old.me.0 seat.new.me.0) }
     ensures cause { IfErr result (RefusesLock ShowsLock frame seat.old.me.0 seat.new.me.0) }
 {
     let was = table.look_content(seat, frame);

@@ -41,6 +41,7 @@ word_seen k part f found v w d = let column = d.laws.invariant.pool.core.grid.co
       remembered = λ there. of_tag there (link v f).tag refl;
       seen = cell.seen;
       output = λ writes. ((d.laws.invariant.pool.pages.cells d.seat v f d.there d.inside).output writes).0;
+      input = λ reads. ((d.laws.invariant.pool.pages.cells d.seat v f d.there d.inside).input reads).1;
       held = cell.header;
     }
   where
@@ -59,6 +60,7 @@ word_looked l m w a x = record {
   remembered = λ there. x.remembered (λ e. there (sym a.tag ∙ e));
   seen = λ saw. x.seen (a.seen_valid saw);
   output = λ writes. x.output (a.io ∙ writes);
+  input = λ reads. x.input (a.io ∙ reads);
   held = λ own is. x.held own (a.header ∙ is);
 }
 
@@ -70,7 +72,7 @@ word_locked f was word v u w looks d e = subst (IsWordOf (link v f)) (sym e) (he
     none own is = let no : None ≡ Some own = sym (d.around f) ∙ (looks_link f v u looks).header ∙ is in absurd (cc)
 
     held : IsWordOf (link v f) (fields was) → IsWordOf (link v f) (locked_fields (fields was))
-    held x = record { dirty = x.dirty; valid = x.valid; usage = x.usage; few = x.few; pinned = x.pinned; remembered = x.remembered; seen = x.seen; output = x.output; held = λ own is. absurd (none own is) }
+    held x = record { dirty = x.dirty; valid = x.valid; usage = x.usage; few = x.few; pinned = x.pinned; remembered = x.remembered; seen = x.seen; output = x.output; input = x.input; held = λ own is. absurd (none own is) }
 
 -- no tag word is stored where a view's pin is handed out
 pub handed_settled : (k : FrameKind) (f found : ℕ) (v w : View) → Did k f v w found → (link v f).role ≡ HandedOut → (link v f).pending ≡ false

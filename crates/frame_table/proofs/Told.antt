@@ -1,16 +1,20 @@
 -- What follows from a step that was told.
 use Rattle.std.proofs.Common.{◌≡◌, ◌≢◌, ℕ, ◌<◌, nat_eq, cond, Bool, true, false, Some, None, get_or, set, map, List, [], ◌∷◌, ◌++◌, append_assoc, append-nil, get_or-set_same, get_or-set_other, sym, refl, ap, ◌∙◌, subst, ⊎_elim, arith, eq-eqb, ne_eqb}
-use Rattle.std.specs.Prelude.{not, ◌||◌, ◌&&◌}
+use Rattle.std.specs.Prelude.{not, ◌||◌, ◌&&◌, ◌≤◌}
+use Rattle.std.specs.List.{All}
+use Rattle.std.proofs.lemmas.List.Elements.{All-append, All-cons, All-nil}
 use mathlib.Core.Logic.{dite}
 use native.Mathlib.Decide.{ℕ_discrete}
 use Rattle.state_word.specs.declared.word.StateWord.{StateWord}
 use Rattle.state_word.specs.Fields.{fields, locked_fields}
 use Rattle.pin_core.specs.declared.view.View.{View}
+use Rattle.pin_core.specs.declared.view.Load.{Load}
+use Rattle.pin_core.specs.declared.view.LoadedWord.TheVariants as seen
 use Rattle.pin_core.specs.declared.view.WordChange.{WordChange}
 use Rattle.pin_core.specs.declared.view.Link.{Link}
 use Rattle.pin_core.specs.declared.view.Role.{Role}
 use Rattle.pin_core.specs.declared.view.Role.TheVariants.{Absent, HandedOut, Victim}
-use Rattle.pin_core.specs.State.{link, idle}
+use Rattle.pin_core.specs.State.{Frame, link, idle}
 use Rattle.pin_core.specs.Kinds.{seen_valid_after, wait_after}
 use Rattle.pin_core.specs.Kinds as pin
 use Rattle.pin_core.specs.Steps.{HoldsNoHeader}
@@ -19,31 +23,56 @@ use Rattle.page_core.specs.Kinds as paged
 use Rattle.history_core.specs.State.{State}
 use Rattle.history_core.proofs.Trail.{Lists, pins_list, pages_list}
 use Rattle.frame_table.specs.Kinds.{FrameKind, pins, pages, part_of, load_kind, block_of_frame, link_after, view_after}
-use Rattle.frame_table.specs.Seats.{SameSelf, Grows, Touches, Looked, MayUnpin, loaded_link, pinned_link, unpinned_link, locked_link}
+use Rattle.frame_table.specs.Seats.{AddsOnly, SameSelf, Grows, IsOfNoOther, ListsOnly, Touches, Looked, MayUnpin, loaded_link, pinned_link, unpinned_link, locked_link}
 use Rattle.frame_table.specs.FrameSteps.{Choice, choice_part, part_place, Did, Looks, still, again, Tried, Unpinned, if_found, if_unlocked, chosen, has_locked, looking}
 
 pub self_after : (k : FrameKind) (s : State) (f : ℕ) (v : View) → SameSelf v (view_after k s f v)
 self_after (pins k) s f v = refl
 self_after (pages k) s f v = refl
 
+abbrev IsLoadOf : ℕ → Load → Type 0
+IsLoadOf f l = IsOfNoOther f l.loaded_word
+
+abbrev IsChangeOf : ℕ → WordChange → Type 0
+IsChangeOf f c = c.frame ≡ f
+
 -- what is listed is added to, and what is counted doesn't fall
-added_to : (f : ℕ) (a b : StateWord) (before after : List WordChange) → Lists f a b before after → (cs : List WordChange) × (after ≡ before ++ cs)
+added_to : (f : ℕ) (a b : StateWord) (before after : List WordChange) → Lists f a b before after → AddsOnly (IsChangeOf f) before after
 added_to f a b before after l = ⊎_elim
-    (λ (x : (b ≡ a) × (after ≡ before)). ([], x.1 ∙ sym (append-nil before)))
-    (λ (x : after ≡ before ++ record { frame = f; found = a; left = b } ∷ []). (record { frame = f; found = a; left = b } ∷ [], x))
+    (λ (x : (b ≡ a) × (after ≡ before)). ([], x.1 ∙ sym (append-nil before), All-nil (IsChangeOf f)))
+    (λ (x : after ≡ before ++ record { frame = f; found = a; left = b } ∷ []). (record { frame = f; found = a; left = b } ∷ [], x, All-cons (IsChangeOf f) (record { frame = f; found = a; left = b }) [] refl (All-nil (IsChangeOf f))))
     l.is
 
+added_after : (k : FrameKind) (s : State) (f : ℕ) (v : View) → AddsOnly (IsChangeOf f) v.changes (view_after k s f v).changes
+added_after (pins k) s f v = let fr = s.pool.core.frame f in added_to f fr.word (pin.frame_after k fr).word v.changes (pin.changes_after k f fr v.changes) (pins_list k f fr v.changes)
+added_after (pages k) s f v = let fr = s.pool.core.frame f in let b = block_of_frame s f in added_to f fr.word (paged.frame_after k b fr).word v.changes (paged.changes_after k f b fr v.changes) (pages_list k f b fr v.changes)
+
+-- the words that a step at a frame loads are of it
+one_load : (f : ℕ) (l : Load) → IsLoadOf f l → All (IsLoadOf f) (l ∷ [])
+one_load f l here = All-cons (IsLoadOf f) l [] here (All-nil (IsLoadOf f))
+
+pins_load : (k : pin.Kind) (f : ℕ) (fr : Frame) (v : View) → All (IsLoadOf f) (map (pin.load_of v) (pin.seen_by k f fr))
+pins_load pin.load_state f fr v = one_load f (pin.load_of v (seen.State f fr.word)) refl
+pins_load pin.load_tag f fr v = one_load f (pin.load_of v (seen.Tag f fr.tag)) refl
+pins_load k f fr v = All-nil (IsLoadOf f)
+
+pages_load : (k : paged.Kind) (f : ℕ) (fr : Frame) (v : View) → All (IsLoadOf f) (map (pin.load_of v) (paged.seen_by k f fr))
+pages_load paged.load_content f fr v = one_load f (pin.load_of v (seen.Content f fr.sharers fr.exclusive fr.copying)) refl
+pages_load k f fr v = All-nil (IsLoadOf f)
+
+lists_after : (k : FrameKind) (s : State) (f : ℕ) (v : View) → ListsOnly f v (view_after k s f v)
+lists_after (pins k) s f v = let fr = s.pool.core.frame f in record { loads = (map (pin.load_of v) (pin.seen_by k f fr), refl, pins_load k f fr v); changes = added_after (pins k) s f v }
+lists_after (pages k) s f v = let fr = s.pool.core.frame f in record { loads = (map (pin.load_of v) (paged.seen_by k f fr), refl, pages_load k f fr v); changes = added_after (pages k) s f v }
+
+steps_after : (k : FrameKind) (s : State) (f : ℕ) (v : View) → v.steps ≤ (view_after k s f v).steps
+steps_after (pins k) s f v = omega arith
+steps_after (pages k) s f v = omega arith
+
+pub grows_listed : (f : ℕ) (v w : View) → ListsOnly f v w → v.steps ≤ w.steps → Grows v w
+grows_listed f v w l steps = record { loads = (l.loads.0, l.loads.1); changes = (l.changes.0, l.changes.1); steps = steps }
+
 grows_after : (k : FrameKind) (s : State) (f : ℕ) (v : View) → Grows v (view_after k s f v)
-grows_after (pins k) s f v = let fr = s.pool.core.frame f in record {
-  loads = (map (pin.load_of v) (pin.seen_by k f fr), refl);
-  changes = added_to f fr.word (pin.frame_after k fr).word v.changes (pin.changes_after k f fr v.changes) (pins_list k f fr v.changes);
-  steps = omega arith;
-}
-grows_after (pages k) s f v = let fr = s.pool.core.frame f in let b = block_of_frame s f in record {
-  loads = (map (pin.load_of v) (paged.seen_by k f fr), refl);
-  changes = added_to f fr.word (paged.frame_after k b fr).word v.changes (paged.changes_after k f b fr v.changes) (pages_list k f b fr v.changes);
-  steps = omega arith;
-}
+grows_after k s f v = grows_listed f v (view_after k s f v) (lists_after k s f v) (steps_after k s f v)
 
 pub grows : (k : FrameKind) (f found : ℕ) (v w : View) → Did k f v w found → Grows v w
 grows k f found v w d = subst (Grows v) (sym d.after) (grows_after k d.state f v)
@@ -57,6 +86,23 @@ grows_on v u w a b = record { loads = more v.loads u.loads w.loads a.loads b.loa
 pub grows_none : (v : View) → Grows v v
 grows_none v = record { loads = ([], sym (append-nil v.loads)); changes = ([], sym (append-nil v.changes)); steps = omega arith }
 
+-- of steps one after another
+adds_on : {A : Type 0} (P : A → Type 0) (a b c : List A) → AddsOnly P a b → AddsOnly P b c → AddsOnly P a c
+adds_on P a b c (xs, e, p) (ys, g, q) = (xs ++ ys, g ∙ ap (λ l. l ++ ys) e ∙ append_assoc a xs ys, All-append P xs ys p q)
+
+pub lists_on : (f : ℕ) (v u w : View) → ListsOnly f v u → ListsOnly f u w → ListsOnly f v w
+lists_on f v u w a b = record { loads = adds_on (IsLoadOf f) v.loads u.loads w.loads a.loads b.loads; changes = adds_on (IsChangeOf f) v.changes u.changes w.changes a.changes b.changes }
+
+-- of a step that lists none, and of a load of a word
+pub lists_same : (f : ℕ) (v w : View) → w.loads ≡ v.loads → w.changes ≡ v.changes → ListsOnly f v w
+lists_same f v w loads changes = record { loads = ([], loads ∙ sym (append-nil v.loads), All-nil (IsLoadOf f)); changes = ([], changes ∙ sym (append-nil v.changes), All-nil (IsChangeOf f)) }
+
+pub lists_none : (f : ℕ) (v : View) → ListsOnly f v v
+lists_none f v = lists_same f v v refl refl
+
+pub lists_load : (f : ℕ) (l : Load) (v w : View) → IsOfNoOther f l.loaded_word → w.loads ≡ v.loads ++ l ∷ [] → w.changes ≡ v.changes → ListsOnly f v w
+lists_load f l v w here loads changes = record { loads = (l ∷ [], loads, one_load f l here); changes = ([], changes ∙ sym (append-nil v.changes), All-nil (IsChangeOf f)) }
+
 pub links_after : (k : FrameKind) (s : State) (f : ℕ) (v : View) → (view_after k s f v).links ≡ set v.links f (link_after k s f v)
 links_after (pins k) s f v = refl
 links_after (pages k) s f v = refl
@@ -66,6 +112,7 @@ pub touches : (k : FrameKind) → ((s : State) (f : ℕ) (v : View) → (view_af
 touches k none f found v w d = record {
   self = subst (SameSelf v) (sym d.after) (self_after k d.state f v);
   grows = grows k f found v w d;
+  lists = subst (ListsOnly f v) (sym d.after) (lists_after k d.state f v);
   partitions = ap (λ (x : View). x.partitions) d.after ∙ none d.state f v;
   others = λ g n. ap (λ (x : View). link x g) d.after ∙ ap (λ (l : List Link). get_or l g idle) (links_after k d.state f v) ∙ get_or-set_other v.links f g (link_after k d.state f v) idle n;
 }
@@ -76,10 +123,10 @@ link_is k f found v w d = ap (λ (x : View). link x f) d.after ∙ ap (λ (l : L
     ∙ get_or-set_same v.links f (link_after k d.state f v) idle (let wide = d.laws.invariant.pool.core.views.wide d.seat v d.there d.live in let inside = d.inside in omega (arith, wide.0))
 
 pub touches_on : (f : ℕ) (v u w : View) → Touches f v u → Touches f u w → Touches f v w
-touches_on f v u w a b = record { self = b.self ∙ a.self; grows = grows_on v u w a.grows b.grows; partitions = b.partitions ∙ a.partitions; others = λ g n. b.others g n ∙ a.others g n }
+touches_on f v u w a b = record { self = b.self ∙ a.self; grows = grows_on v u w a.grows b.grows; lists = lists_on f v u w a.lists b.lists; partitions = b.partitions ∙ a.partitions; others = λ g n. b.others g n ∙ a.others g n }
 
 pub touches_none : (f : ℕ) (v : View) → Touches f v v
-touches_none f v = record { self = refl; grows = grows_none v; partitions = refl; others = λ g n. refl }
+touches_none f v = record { self = refl; grows = grows_none v; lists = lists_none f v; partitions = refl; others = λ g n. refl }
 
 -- all of a link but what a pin has seen, a wait, whether an entry was made, and the checkpoint's notes
 abbrev pub quiet_link : Link → Link

@@ -1,5 +1,6 @@
 -- What callers see of a table and of a seat.
 use Rattle.std.specs.Prelude.{◌≡◌, ◌≢◌, ℕ, ◌<◌, ◌≤◌, Bool, true, false, not, ◌||◌, ◌&&◌, List, [], ◌++◌, Option, Some, None}
+use Rattle.std.specs.List.{All}
 use Rattle.state_word.specs.declared.word.StateWord.{StateWord}
 use Rattle.state_word.specs.Fields.{fields}
 use Rattle.block_tag.specs.declared.tag.Tag.{Tag}
@@ -9,10 +10,12 @@ use Rattle.atomic_table.specs.declared.shared.Seat.{Seat}
 use Rattle.pin_core.specs.declared.view.View.{View}
 use Rattle.pin_core.specs.declared.view.Link.{Link}
 use Rattle.pin_core.specs.declared.view.Load.{Load}
+use Rattle.pin_core.specs.declared.view.LoadedWord.{LoadedWord}
+use Rattle.pin_core.specs.declared.view.LoadedWord.TheVariants as seen
 use Rattle.pin_core.specs.declared.view.WordChange.{WordChange}
 use Rattle.pin_core.specs.declared.view.Role.TheVariants.{Absent, HandedOut, Victim}
 use Rattle.pin_core.specs.declared.view.Content.TheVariants.{Unlocked}
-use Rattle.pin_core.specs.declared.view.Io.TheVariants.{Quiet, Output}
+use Rattle.pin_core.specs.declared.view.Io.TheVariants.{Quiet, Input, Output}
 use Rattle.pin_core.specs.declared.view.MapEntry.{MapEntry}
 use Rattle.pin_core.specs.declared.view.MapChange.{MapChange}
 use Rattle.pin_core.specs.declared.view.MapChange.TheVariants.{Stable, Entering, Leaving}
@@ -62,6 +65,23 @@ pub record Grows (v w : View) : Type 0 where
   pub changes : (cs : List WordChange) × (w.changes ≡ v.changes ++ cs)
   pub steps : v.steps ≤ w.steps
 
+-- a word that a load saw is of the frame f, or of no frame
+abbrev pub IsOfNoOther : ℕ → LoadedWord → Type 0
+IsOfNoOther f (seen.State g word) = g ≡ f
+IsOfNoOther f (seen.Tag g tag) = g ≡ f
+IsOfNoOther f (seen.Content g sharers exclusive copying) = g ≡ f
+IsOfNoOther f _ = Unit {0}
+
+-- A list is added to, and each thing added is such a one
+abbrev pub AddsOnly : {A : Type 0} → (A → Type 0) → List A → List A → Type 0
+AddsOnly {A} P before after = (added : List A) × (after ≡ before ++ added) × All P added
+
+-- The loads that a view lists further are of words of the frame f or of no frame,
+-- and the changed state words that it lists further are of f
+pub record ListsOnly (f : ℕ) (v w : View) : Type 0 where
+  pub loads : AddsOnly (λ (l : Load). IsOfNoOther f l.loaded_word) v.loads w.loads
+  pub changes : AddsOnly (λ (c : WordChange). c.frame ≡ f) v.changes w.changes
+
 -- What only rises: what is listed is added to, what is counted doesn't fall, and so with the positions up to which lanes were swept, and those of the log that were seen; a log that was seen down stays so
 pub record OnlyRises (v w : View) : Type 0 where
   pub grows : Grows v w
@@ -94,6 +114,8 @@ pub record IsWordOf (l : Link) (w : StateWord) : Type 0 where
   pub seen : l.seen_valid ≡ true → w.valid ≡ true
   -- a frame to whose page the view has an output right is dirty
   pub output : l.io ≡ Output → w.dirty ≡ true
+  -- while the view has an input right to the frame, the frame isn't valid
+  pub input : l.io ≡ Input → w.valid ≡ false
   -- while the view holds the header the word is the one that it holds
   pub held : (own : StateWord) → l.header ≡ Some own → w ≡ own
 
@@ -288,6 +310,8 @@ pub record Stores (f : ℕ) (v w : View) : Type 0 where
 pub record Touches (f : ℕ) (v w : View) : Type 0 where
   pub self : SameSelf v w
   pub grows : Grows v w
+  -- the words that it lists are of f
+  pub lists : ListsOnly f v w
   pub partitions : w.partitions ≡ v.partitions
   pub others : (g : ℕ) → g ≢ f → link w g ≡ link v g
 

@@ -14,7 +14,7 @@ use Rattle.frame_table.specs.declared.table.FrameTable.{FrameTable}
 use Rattle.frame_table.specs.Seats.{Fits}
 use Rattle.held_pins.specs.Tokens.{HeldFrame, Tokens, held_at}
 
--- What calls of a backend keep of its view: all but what it has of frames, latches, lanes and the log, what it lists and counts of loads, changes, steps and moves of the hand, the positions of the log that it has seen, its calls of devices, the faults that it met, whether it saw the log down, and what it last wrote. What it read and put, its front, its checkpoint and its mark are kept
+-- What calls of a backend keep of its view: all but what it has of frames, latches, lanes and the log, what it lists and counts of loads, changes and steps, the positions of the log that it has seen, its calls of devices, the faults that it met, whether it saw the log down, and what it last wrote. What it read and put, its front, its checkpoint and its mark are kept
 abbrev pub kept_by_calls : View → View
 kept_by_calls v = record v {
   links = [];
@@ -25,7 +25,6 @@ kept_by_calls v = record v {
   raised_to = 0;
   end_seen = 0;
   steps = 0;
-  ticks = 0;
   loads = [];
   changes = [];
   device_calls = [];

@@ -297,7 +297,7 @@ module _ (known : ℕ → Bool) (origin : ℕ → Option Page) (log : Log) (flus
         reached = λ live. later_front live (cases_lt v.front u.front);
         within = let x = c.within in let y = d.within in omega arith;
         in_order = order_both v.calls u.calls c.in_order d.in_order (λ m n x y ex ey same. not_both (backend_of x) (c.own m x ex) (own_number (backend_of y) (d.own n y ey) ∙ sym same));
-        loaded = c.loaded;
+        loaded = let x = c.loaded in let y = d.loaded in omega arith;
       }
 
 -- A read gets its place, the log's end

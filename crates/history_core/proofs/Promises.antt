@@ -4,6 +4,7 @@ use Rattle.std.proofs.lemmas.Bool.{cases_lt}
 use mathlib.Core.Option.{some}
 use lib.ListN.{get_elem?}
 use Rattle.pin_core.specs.declared.view.JoinedCheckpoint.{JoinedCheckpoint}
+use Rattle.pin_core.specs.declared.view.View.{View}
 use Rattle.pin_core.specs.State.{no_tag, link, lane_hold}
 use Rattle.history_core.specs.Swept.{IsSwept, has_swept, SweptLaw}
 use Rattle.history_core.specs.Log.{Entry, end_of, IsEntryOf}
@@ -11,13 +12,13 @@ use Rattle.history_core.specs.State.{State, stored_upto, failed}
 use Rattle.history_core.specs.Homes.{IsUnframed}
 use Rattle.history_core.specs.Invariant.{HistoryInvariant}
 use Rattle.history_core.specs.Debts.{has_visited, has_left_to_write, IsStoredOrLeft, taken_of, DebtsLaw}
-use Rattle.history_core.specs.Promises.{GrantsAreAlone, IsInLane, IsUnwritten, AreStored, AreSynced, SweepsStore, CheckpointsStore}
+use Rattle.history_core.specs.Promises.{GrantsAreAlone, IsInLane, IsUnwritten, AreDurable, AreStored, AreSynced, SweepsStore, CheckpointsStore}
 use Rattle.pin_core.specs.Steps as pin_steps
 use Rattle.page_core.specs.Steps as page_steps
 use Rattle.page_core.proofs.Histories.{cleanup_alone}
 use Rattle.history_core.specs.Steps.{pools}
 use Rattle.history_core.proofs.Logs.{entry_at}
-use Rattle.history_core.proofs.Histories.{framed, durable}
+use Rattle.history_core.proofs.Histories.{framed, durable, loaded_flushed}
 
 either : {A : Type 0} (b : Bool) → (b ≡ true → A) → (b ≡ false → A) → A
 either true x y = x refl
@@ -25,6 +26,10 @@ either false x y = y refl
 
 apart : {b : Bool} → b ≡ true → b ≡ false → ⊥
 apart y n = cc
+
+-- what a view has seen flushed is durable
+pub seen_durable : (s : State) → HistoryInvariant s → (i upto : ℕ) (v : View) → get_elem? s.pool.core.views i ≡ some v → upto ≤ v.flushed → AreDurable s upto
+seen_durable s h i upto v there seen k e at low = let x = loaded_flushed s h i v there in durable s h k e at (omega arith)
 
 module _ (s : State) (h : HistoryInvariant s) (d : DebtsLaw s) where
   in_lane : (k tag : ℕ) (e : Entry) → IsEntryOf s.log.entries tag k e → failed s tag ≡ false → end_of e ≤ stored_upto s tag → IsInLane s e tag

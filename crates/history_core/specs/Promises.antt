@@ -50,6 +50,10 @@ pub record IsUnwritten (s : State) (tag : ℕ) : Type 0 where
   pub valid : (s.pool.core.frame frame).word.valid ≡ true
   pub dirty : (s.pool.core.frame frame).word.dirty ≡ true
 
+-- each entry up to the position `upto` is durable in the log
+abbrev pub AreDurable : State → ℕ → Type 0
+AreDurable s upto = (k : ℕ) (e : Entry) → get_elem? s.log.entries k ≡ some e → end_of e ≤ upto → head_size + end_of e ≤ s.log.base + s.device.synced
+
 -- each entry that ends at the position `upto` or before it is in its block's lane, or its block's last write failed
 abbrev pub AreStored : State → ℕ → Type 0
 AreStored s upto = (k tag : ℕ) (e : Entry) → IsEntryOf s.log.entries tag k e → end_of e ≤ upto → IsInLane s e tag ⊎ IsUnwritten s tag

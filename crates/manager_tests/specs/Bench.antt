@@ -47,6 +47,18 @@ module _ {L G : Type 0} (contents : L → Option Pages) where
     pub tokens : q.tokens ≡ p.tokens
     pub locks : KeepsLocks p q
 
+  -- Calls left it without one token of the frame f, and with the others and the content locks that it had
+  pub record ReturnsWithout (m : Manager L G) (f : ℕ) (p q : PassState) : Type 0 where
+    pub belongs : Belongs contents m q
+    pub same : SamePass p q
+    pub tokens : q.tokens ≡ tokens_less f p.tokens
+    pub locks : KeepsLocks p q
+
+-- It has this token, and no content lock of its frame
+pub record HasToken (pinned : Pinned) (p : PassState) : Type 0 where
+  pub token : IsPinnedFor pinned.tag pinned.frame p.tokens
+  pub unlocked : HasLock Unlocked pinned.frame p
+
 module _ {L G : Type 0} where
   -- It is so in a manager over lanes that don't tell what they hold
   abbrev pub IsFreeIn : Manager L G → ℕ → PassState → Type 0

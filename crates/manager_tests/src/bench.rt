@@ -21,7 +21,7 @@ pub struct Bench<L: BlockLane, G: LogDevice> {
 }
 
 /// One relation of so many blocks.
-fn catalog(alloc: Global, blocks: u32) -> Result<Catalog, CatalogError> {
+pub fn catalog(alloc: Global, blocks: u32) -> Result<Catalog, CatalogError> {
     let entry = RelEntry {
         tablespace: 0,
         database: 0,

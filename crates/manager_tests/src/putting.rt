@@ -1,16 +1,44 @@
 //! Pages that are put, and flushed.
 ghost use Rattle.manager_tests.specs.Bench.{IsFree};
 
+use crate::bench::block;
 use crate::reading::{pin, unpin};
 use access_rings::Ring;
-use backend_pass::{FlushError, Manager, Pass, PutError};
+use backend_pass::{FlushError, Manager, Pass, PutError, ReadError};
 use block_tag::Tag;
 use log_device::LogDevice;
 use page_layout::{Lsn, Page};
 use segment_store::BlockLane;
 use std::sync::Wait;
 
-/// Puts a page to a block. None where the block isn't read, or the page is new or isn't sound.
+/// Reads a block and puts a page to it. Whether the read was a hit, and what came of the put; None where the block isn't read, or the page is new or isn't sound.
+fn read_and_put<L: BlockLane, G: LogDevice, R: Wait>(
+    manager: &Manager<L, G>,
+    rt: &R,
+    pass: &mut Pass,
+    _number: u32,
+    tag: Tag,
+    page: &Page,
+    ring: &mut Option<Ring>,
+) -> Option<(bool, Result<Lsn, PutError>)>
+    requires { IsFree L.contents manager.now _number pass.old }
+    ensures { IsFree L.contents manager.now _number pass.new }
+{
+    if page.is_new() || !page.is_sound() {
+        return None;
+    }
+    let Ok(pinned) = pin(manager, rt, pass, _number, tag, ring) else {
+        return None;
+    };
+    let hit = pinned.hit();
+    let mut token = pass.exclusive(manager, rt, pinned);
+    let end = pass.put(manager, rt, &mut token, page);
+    let pinned = pass.unexclusive(manager, token);
+    unpin(manager, rt, pass, _number, pinned);
+    Some((hit, end))
+}
+
+/// The same, but for the hit.
 pub fn put_once<L: BlockLane, G: LogDevice, R: Wait>(
     manager: &Manager<L, G>,
     rt: &R,
@@ -23,17 +51,43 @@ pub fn put_once<L: BlockLane, G: LogDevice, R: Wait>(
     requires { IsFree L.contents manager.now _number pass.old }
     ensures { IsFree L.contents manager.now _number pass.new }
 {
-    if page.is_new() || !page.is_sound() {
-        return None;
-    }
-    let Ok(pinned) = pin(manager, rt, pass, _number, tag, ring) else {
-        return None;
-    };
-    let mut token = pass.exclusive(manager, rt, pinned);
-    let put = pass.put(manager, rt, &mut token, page);
-    let pinned = pass.unexclusive(manager, token);
-    unpin(manager, rt, pass, _number, pinned);
-    Some(put)
+    let (_hit, end) = read_and_put(manager, rt, pass, _number, tag, page, ring)?;
+    Some(end)
+}
+
+/// What two passes saw of block 0, as the second one put a page to it.
+#[derive(Clone, Copy, PartialEq, Debug)]
+pub struct SeenPut {
+    /// Whether the first pass's read was a hit.
+    pub hit: bool,
+    /// The places of its copies: before the put, and after it.
+    pub places: (Lsn, Lsn),
+    /// Whether the second pass's read was a hit, and what came of the put.
+    pub put: Option<(bool, Result<Lsn, PutError>)>,
+}
+
+/// The first pass pins block 0, and copies its page at this pin before the second one puts `page` to it, and after that.
+pub fn copy_around_put<L: BlockLane, G: LogDevice, R: Wait>(
+    manager: &Manager<L, G>,
+    rt: &R,
+    first: &mut Pass,
+    second: &mut Pass,
+    page: &Page,
+    copies: &mut (Page, Page),
+) -> Result<SeenPut, ReadError>
+    requires first { IsFree L.contents manager.now 0 first.old }
+    requires second { IsFree L.contents manager.now 1 second.old }
+    ensures first { IsFree L.contents manager.now 0 first.new }
+    ensures second { IsFree L.contents manager.now 1 second.new }
+{
+    let pinned = pin(manager, rt, first, 0, block(0), &mut None)?;
+    let earlier = first.read_page(manager, rt, &pinned, &mut copies.0);
+    let put = read_and_put(manager, rt, second, 1, block(0), page, &mut None);
+    let later = first.read_page(manager, rt, &pinned, &mut copies.1);
+    let hit = pinned.hit();
+    let places = (earlier, later);
+    unpin(manager, rt, first, 0, pinned);
+    Ok(SeenPut { hit, places, put })
 }
 
 /// Flushes a block. None where it isn't read.

@@ -4,14 +4,13 @@ use crate::choosing::read_in_order;
 use crate::cleaning::{
     Asked, NotAlone, OwnPins, try_not_alone, try_twice, try_twice_beside, wait_and_ask,
 };
-use crate::crowding::{Crowded, hold_first};
+use crate::crowding::{Crowded, crowd_frames};
 use crate::hinting::{Sighted, hints_beside_own, sight_once};
 use crate::locking::{Refusals, try_beside_exclusive, try_beside_shared};
-use crate::putting::{flush_once, put_once};
-use crate::reading::{Access, copy_once, copy_shared, read_once};
+use crate::putting::{SeenPut, copy_around_put, flush_once, put_once};
+use crate::reading::{Access, copy_shared, read_once};
 use crate::sharing::{Copied, copy_all_twice, copy_beside};
 use crate::waiting::wait_at_both;
-use access_rings::{Ring, RingKind};
 use backend_pass::{
     CleanupError, Config, FlushError, HintSeen, Manager, PutError, ReadError, Setting, StartError,
     StartRefused, TryCleanup, TryLock,
@@ -19,7 +18,6 @@ use backend_pass::{
 use block_tag::Catalog;
 use page_layout::Page;
 use std::alloc::{AllocError, Global};
-use std::sync::Wait;
 use std::test::Fail;
 use test_devices::{TestLane, TestLog, one_item};
 use wal_flush::begin_log;
@@ -61,19 +59,15 @@ fn a_manager_is_refused_and_started(rt: HostRuntime) -> Result<(), Fail> {
 
 #[test]
 fn an_unsound_page_is_refused(rt: HostRuntime) -> Result<(), Fail> {
+    let lane = TestLane::numbered(Some(5));
+    let log = TestLog::new(rt.alloc(), 0);
     let Bench {
         manager,
         mut first,
         second,
         third,
         passes,
-    } = start(
-        rt.alloc(),
-        64,
-        TestLane::numbered(Some(5)),
-        TestLog::new(rt.alloc(), 0),
-        0,
-    )?;
+    } = start(rt.alloc(), 64, lane, log, 0)?;
     let sound = read_once(&manager, &rt, &mut first, 0, block(4), &mut None);
     let unsound = read_once(&manager, &rt, &mut first, 0, block(5), &mut None);
     let past = read_once(&manager, &rt, &mut first, 0, block(0xFFFF_FFFE), &mut None);
@@ -106,7 +100,7 @@ fn no_frame_is_left(rt: HostRuntime) -> Result<(), Fail> {
         mut third,
         passes,
     } = start_numbered(rt.alloc())?;
-    let crowded = hold_first(&manager, &rt, &mut first, &mut second, &mut third, 0);
+    let crowded = crowd_frames(&manager, &rt, &mut first, &mut second, &mut third);
     let (_lanes, _log) = close(manager, first, second, third, passes);
     assert_eq!(rt;
         crowded,
@@ -116,7 +110,7 @@ fn no_frame_is_left(rt: HostRuntime) -> Result<(), Fail> {
             full: Some(ReadError::PinsFull),
             unused: HintSeen::Unused,
             freed: Ok(Access {
-                frame: 15,
+                frame: 0,
                 hit: false
             }),
         })
@@ -124,7 +118,7 @@ fn no_frame_is_left(rt: HostRuntime) -> Result<(), Fail> {
     Ok(())
 }
 
-/// The free list gives the frames in their order. Then the clock takes the first frame whose usage count it
+/// The free list gives the frames in their order, while the clock's hand stays at 0. Then the clock takes the first frame whose usage count it
 /// finds at 0: that of the second block, since the first block was read once more.
 #[test]
 fn fresh_frames_come_before_the_clock(rt: HostRuntime) -> Result<(), Fail> {
@@ -135,13 +129,14 @@ fn fresh_frames_come_before_the_clock(rt: HostRuntime) -> Result<(), Fail> {
         third,
         passes,
     } = start_numbered(rt.alloc())?;
-    let in_order = read_in_order(&manager, &rt, &mut first, 0, 16);
+    let three = read_in_order(&manager, &rt, &mut first, 0, 0, 3);
+    let others = read_in_order(&manager, &rt, &mut first, 0, 3, 16);
     let used = read_once(&manager, &rt, &mut first, 0, block(0), &mut None);
     let next = read_once(&manager, &rt, &mut first, 0, block(16), &mut None);
     let after = read_once(&manager, &rt, &mut first, 0, block(17), &mut None);
     let (_lanes, _log) = close(manager, first, second, third, passes);
     let access = |frame, hit| Ok(Access { frame, hit });
-    assert_eq!(rt; in_order, Ok(16));
+    assert_eq!(rt; (three, others), (Ok((3, 0)), Ok((13, 0))));
     assert_eq!(rt;
         (used, next, after),
         (access(0, true), access(1, false), access(2, false))
@@ -242,13 +237,7 @@ fn copies_beside_changes_are_whole(rt: HostRuntime) -> Result<(), Fail> {
         mut second,
         mut third,
         passes,
-    } = start(
-        rt.alloc(),
-        1,
-        TestLane::numbered(None),
-        TestLog::new(rt.alloc(), 0),
-        0,
-    )?;
+    } = start_numbered(rt.alloc())?;
     let copied = copy_beside(
         &manager,
         &rt,
@@ -347,27 +336,34 @@ fn two_puts_are_two_records(rt: HostRuntime) -> Result<(), Fail> {
     Ok(())
 }
 
+/// A pass sees it at a pin that it had before. A read under a shared content lock sees it, too.
 #[test]
 fn a_read_sees_what_another_put(rt: HostRuntime) -> Result<(), Fail> {
-    let mut before = Page::zeroed(rt.alloc())?;
-    let mut after = Page::zeroed(rt.alloc())?;
-    let page = page_of(rt.alloc(), 5)?;
+    let mut page = page_of(rt.alloc(), 5)?;
+    let mut copies = (Page::zeroed(rt.alloc())?, Page::zeroed(rt.alloc())?);
     let Bench {
         manager,
         mut first,
         mut second,
-        third,
+        mut third,
         passes,
     } = start_numbered(rt.alloc())?;
-    let earlier = copy_shared(&manager, &rt, &mut first, 0, block(0), &mut before);
-    let put = put_once(&manager, &rt, &mut second, 1, block(0), &page, &mut None);
-    let later = copy_once(&manager, &rt, &mut first, 0, block(0), &mut after);
+    let seen = copy_around_put(&manager, &rt, &mut first, &mut second, &page, &mut copies);
+    let shared = copy_shared(&manager, &rt, &mut third, 2, block(0), &mut page);
     let (lanes, _log) = close(manager, first, second, third, passes);
-    assert_eq!(rt; (earlier, put, later), (Ok(0), Some(Ok(8224)), Ok(8224)));
     assert_eq!(rt;
-        (before.bytes()[8184], after.bytes()[8184], after.lsn()),
-        (0, 5, 8224)
+        seen,
+        Ok(SeenPut {
+            hit: false,
+            places: (0, 8224),
+            put: Some((true, Ok(8224)))
+        })
     );
+    let (before, after) = copies;
+    assert!(rt; before.bytes() == one_item(0).as_slice());
+    assert!(rt; after.bytes()[8184..8188] == [5, 0, 0, 0]);
+    assert_eq!(rt; (after.lsn(), shared), (8224, Ok(8224)));
+    assert!(rt; page.bytes() == after.bytes());
     assert_eq!(rt; lanes.first().map(|lane| lane.reads), Some(1));
     Ok(())
 }
@@ -376,19 +372,15 @@ fn a_read_sees_what_another_put(rt: HostRuntime) -> Result<(), Fail> {
 fn the_last_position_fills_the_log(rt: HostRuntime) -> Result<(), Fail> {
     let page = page_of(rt.alloc(), 7)?;
     let end = 0x4000_0000_0000_0000;
+    let lane = TestLane::numbered(None);
+    let log = TestLog::new(rt.alloc(), 0);
     let Bench {
         manager,
         mut first,
         second,
         third,
         passes,
-    } = start(
-        rt.alloc(),
-        64,
-        TestLane::numbered(None),
-        TestLog::new(rt.alloc(), 0),
-        end - 8224,
-    )?;
+    } = start(rt.alloc(), 64, lane, log, end - 8224)?;
     let earlier = put_once(&manager, &rt, &mut first, 0, block(5), &page, &mut None);
     let later = put_once(&manager, &rt, &mut first, 0, block(5), &page, &mut None);
     let (_lanes, _log) = close(manager, first, second, third, passes);
@@ -401,19 +393,15 @@ fn the_last_position_fills_the_log(rt: HostRuntime) -> Result<(), Fail> {
 fn a_position_behind_the_log_is_refused(rt: HostRuntime) -> Result<(), Fail> {
     let page = page_of(rt.alloc(), 7)?;
     let end = 0x4000_0000_0000_0000;
+    let lane = TestLane::positioned(end + 8);
+    let log = TestLog::new(rt.alloc(), 0);
     let Bench {
         manager,
         mut first,
         second,
         third,
         passes,
-    } = start(
-        rt.alloc(),
-        64,
-        TestLane::positioned(end + 8),
-        TestLog::new(rt.alloc(), 0),
-        end,
-    )?;
+    } = start(rt.alloc(), 64, lane, log, end)?;
     let put = put_once(&manager, &rt, &mut first, 0, block(5), &page, &mut None);
     let flushed = flush_once(&manager, &rt, &mut first, 0, block(5));
     let (_lanes, _log) = close(manager, first, second, third, passes);
@@ -447,47 +435,6 @@ fn an_append_that_failed_leaves_the_first_put_unflushed(rt: HostRuntime) -> Resu
     );
     assert_eq!(rt; flushed, Some(Err(FlushError::LogDown { at: 8224 })));
     assert_eq!(rt; log.bytes.len(), 8240);
-    Ok(())
-}
-
-/// The frames of the blocks 1 and 2, which are read through a ring after a put to block 0; how many pages the lane was given, and how often the log was synced.
-fn ringed<R: Wait>(
-    rt: &R,
-    alloc: Global,
-    kind: RingKind,
-) -> Result<(Access, Access, u32, u32), Fail> {
-    let page = page_of(alloc, 7)?;
-    let mut ring = Some(Ring::build(alloc, kind, 16)?);
-    let Bench {
-        manager,
-        mut first,
-        second,
-        third,
-        passes,
-    } = start_numbered(alloc)?;
-    let _put = put_once(&manager, rt, &mut first, 0, block(0), &page, &mut ring);
-    let earlier = read_once(&manager, rt, &mut first, 0, block(1), &mut ring);
-    let later = read_once(&manager, rt, &mut first, 0, block(2), &mut ring);
-    let (lanes, log) = close(manager, first, second, third, passes);
-    Ok((
-        earlier?,
-        later?,
-        lanes.first().map_or(0, |lane| lane.writes),
-        log.syncs,
-    ))
-}
-
-#[test]
-fn a_ring_for_bulk_reads_gives_a_dirty_frame_up(rt: HostRuntime) -> Result<(), Fail> {
-    let read = |frame| Access { frame, hit: false };
-    assert_eq!(rt;
-        ringed(&rt, rt.alloc(), RingKind::BulkRead)?,
-        (read(1), read(1), 0, 0)
-    );
-    assert_eq!(rt;
-        ringed(&rt, rt.alloc(), RingKind::Vacuum)?,
-        (read(1), read(0), 1, 1)
-    );
     Ok(())
 }
 

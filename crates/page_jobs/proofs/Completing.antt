@@ -89,8 +89,8 @@ module _ {L G : Type 0} (contents : L → Option Pages) (m : Manager L G) where
   read_short tag p b q (read.NoUnpinned count) e is x met n = absurd (cc)
   read_short tag p b q (read.ReadFault failed) e is x met n = let more = ap (λ (k : FailedCalls). k.reads) met in let same = ap (λ (k : FailedCalls). k.reads) n.met in absurd (omega arith)
   read_short tag p b q (read.WriteFault failed) e is x met n = let more = ap (λ (k : FailedCalls). k.writes) met in let same = ap (λ (k : FailedCalls). k.writes) n.met in absurd (omega arith)
-  read_short tag p b q read.LogFault e is x met n = absurd (not_up q.view (ap (λ (v : View). v.saw_down) x.until ∙ x.answer.work.shows) n.up)
-  read_short tag p b q (read.LogDown at) e is x met n = absurd (not_up q.view (ap (λ (v : View). v.saw_down) x.until ∙ x.answer.work.shows.2) n.up)
+  read_short tag p b q read.LogFault e is x met n = absurd (not_up q.view (ap (λ (v : View). v.saw_down) x.refused.until ∙ x.refused.tried.answers.1.flush.work.shows) n.up)
+  read_short tag p b q (read.LogDown at) e is x met n = absurd (not_up q.view (ap (λ (v : View). v.saw_down) x.refused.until ∙ x.refused.tried.answers.1.flush.work.shows.2) n.up)
   read_short tag p b q (read.LogShort lsn end) e is x met n = (lsn, end, refl)
   read_short tag p b q (read.Unsound failed) e is x met n = absurd (cc)
 
@@ -100,10 +100,15 @@ module _ {L G : Type 0} (contents : L → Option Pages) (m : Manager L G) where
   read_none tag p b q why e since is x met n =
       let s = read_short tag p b q why e is x met n.devices in
       let r = subst (ReadingRefused contents m.table tag b q) s.2 x in
-      let shows = r.answer.work.shows in
-      let low = n.within r.tag r.named r.listed r.answer.page r.answer.sound shows.4 in
+      let tried = r.refused.tried in
+      let flushes = tried.answers.1 in
+      let copies = flushes.flush in
+      let shows = copies.work.shows in
+      let low = n.within tried.tag tried.named tried.listed copies.page copies.sound shows.4 in
       let first = since.end_seen in
-      let later = r.since.end_seen in
+      let later = r.refused.since.end_seen in
+      let loaded = tried.since.end_seen in
+      let kept = flushes.since.end_seen in
       let at = shows.0 in
       let short = shows.1 in
       let seen = shows.2 in

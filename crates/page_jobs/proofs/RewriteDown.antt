@@ -67,8 +67,8 @@ module _ {L G : Type 0} (contents : L → Option Pages) (m : Manager L G) where
   read_down tag p q (read.NoUnpinned frames) e is of_log x = absurd (let no : false ≡ true = ap may_be_of_log is ∙ of_log in cc)
   read_down tag p q (read.ReadFault failed) e is of_log x = absurd (let no : false ≡ true = ap may_be_of_log is ∙ of_log in cc)
   read_down tag p q (read.WriteFault failed) e is of_log x = absurd (let no : false ≡ true = ap may_be_of_log is ∙ of_log in cc)
-  read_down tag p q read.LogFault e is of_log x = ap (λ (v : View). v.saw_down) x.until ∙ x.answer.work.shows
-  read_down tag p q (read.LogDown at) e is of_log x = ap (λ (v : View). v.saw_down) x.until ∙ x.answer.work.shows.2
+  read_down tag p q read.LogFault e is of_log x = ap (λ (v : View). v.saw_down) x.refused.until ∙ x.refused.tried.answers.1.flush.work.shows
+  read_down tag p q (read.LogDown at) e is of_log x = ap (λ (v : View). v.saw_down) x.refused.until ∙ x.refused.tried.answers.1.flush.work.shows.2
   read_down tag p q (read.LogShort lsn end) e is of_log x = absurd (let no : false ≡ true = ap may_be_of_log is ∙ of_log in cc)
   read_down tag p q (read.Unsound failed) e is of_log x = absurd (let no : false ≡ true = ap may_be_of_log is ∙ of_log in cc)
 

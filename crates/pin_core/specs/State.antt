@@ -188,6 +188,7 @@ joined_view v u = record v {
   raised_to = max v.raised_to u.raised_to;
   redo_raised = v.redo_raised ++ u.redo_raised;
   end_seen = max v.end_seen u.end_seen;
+  flushed = max v.flushed u.flushed;
   unentered = v.unentered ++ u.unentered;
   calls = v.calls ++ u.calls;
   front = max v.front u.front;

@@ -90,10 +90,14 @@ module _ {L G : Type 0} (contents : L → Option Pages) (m : Manager L G) where
   read_meets tag p b q (read.NoUnpinned count) e since is x met = absurd (cc)
   read_meets tag p b q (read.ReadFault failed) e since is x met = subst (λ (y : JobError). PassMeets contents m.table p.view q.view (rewrite_error y)) (same_Some (job.ReadFault failed) e is) (let n = ap (λ (k : FailedCalls). k.reads) met in omega arith)
   read_meets tag p b q (read.WriteFault failed) e since is x met = subst (λ (y : JobError). PassMeets contents m.table p.view q.view (rewrite_error y)) (same_Some (job.WriteFault failed) e is) (let n = ap (λ (k : FailedCalls). k.writes) met in omega arith)
-  read_meets tag p b q read.LogFault e since is x met = subst (λ (y : JobError). PassMeets contents m.table p.view q.view (rewrite_error y)) (same_Some job.LogFault e is) (ap (λ (v : View). v.saw_down) x.until ∙ x.answer.work.shows)
-  read_meets tag p b q (read.LogDown at) e since is x met = subst (λ (y : JobError). PassMeets contents m.table p.view q.view (rewrite_error y)) (same_Some (job.LogDown at) e is) (ap (λ (v : View). v.saw_down) x.until ∙ x.answer.work.shows.2)
+  read_meets tag p b q read.LogFault e since is x met = subst (λ (y : JobError). PassMeets contents m.table p.view q.view (rewrite_error y)) (same_Some job.LogFault e is) (ap (λ (v : View). v.saw_down) x.refused.until ∙ x.refused.tried.answers.1.flush.work.shows)
+  read_meets tag p b q (read.LogDown at) e since is x met = subst (λ (y : JobError). PassMeets contents m.table p.view q.view (rewrite_error y)) (same_Some (job.LogDown at) e is) (ap (λ (v : View). v.saw_down) x.refused.until ∙ x.refused.tried.answers.1.flush.work.shows.2)
   read_meets tag p b q (read.LogShort lsn end) e since is x met = subst (λ (y : JobError). PassMeets contents m.table p.view q.view (rewrite_error y)) (same_Some (job.LogShort lsn end) e is)
-      (past_end (lane_number x.tag (lanes_in m.table)) x.frame x.tag p.view x.before x.after lsn end x.named x.listed (let a = since.end_seen in let b = x.since.end_seen in omega arith) x.answer)
+      (let tried = x.refused.tried in
+      let flushes = tried.answers.1 in
+      past_end (lane_number tried.tag (lanes_in m.table)) x.refused.frame tried.tag p.view flushes.kept x.refused.after lsn end tried.named tried.listed
+      (let a = since.end_seen in let b = x.refused.since.end_seen in let c = tried.since.end_seen in let d = flushes.since.end_seen in omega arith)
+      flushes.flush)
   read_meets tag p b q (read.Unsound failed) e since is x met = absurd (cc)
 
   -- a put was refused
@@ -111,21 +115,21 @@ module _ {L G : Type 0} (contents : L → Option Pages) (m : Manager L G) where
       (past_end (lane_number x.refused.tag (lanes_in m.table)) x.frame x.refused.tag p.view x.before q.view lsn end x.refused.named x.refused.listed x.since.end_seen x.refused.answer)
 
   -- and a checkpoint stopped
-  stop_at_frame : (v w : View) (cause : FlushError) (why : CheckpointError) → why ≡ refusal_of_flush cause → StopsAtFrame contents m v w cause → w.met ≡ met_stopping why v.met → PassMeets contents m.table v w (checkpoint_error why)
-  stop_at_frame v w (flush.WriteFault tag) why is x met = subst (λ (y : CheckpointError). PassMeets contents m.table v w (checkpoint_error y)) (sym is) (let n = ap (λ (k : FailedCalls). k.writes) (met ∙ ap (λ (y : CheckpointError). met_stopping y v.met) is) in omega arith)
-  stop_at_frame v w flush.LogFault why is x met = subst (λ (y : CheckpointError). PassMeets contents m.table v w (checkpoint_error y)) (sym is) x.refused.answer.work.shows
-  stop_at_frame v w (flush.LogDown at) why is x met = subst (λ (y : CheckpointError). PassMeets contents m.table v w (checkpoint_error y)) (sym is) x.refused.answer.work.shows.2
-  stop_at_frame v w (flush.LogShort lsn end) why is x met = subst (λ (y : CheckpointError). PassMeets contents m.table v w (checkpoint_error y)) (sym is)
-      (past_end (lane_number x.refused.tag (lanes_in m.table)) x.frame x.refused.tag v x.before w lsn end x.refused.named x.refused.listed x.since.end_seen x.refused.answer)
+  stop_at_frame : (upto : ℕ) (v w : View) (cause : FlushError) (why : CheckpointError) → why ≡ refusal_of_flush cause → StopsAtFrame contents m upto v w cause → w.met ≡ met_stopping why v.met → PassMeets contents m.table v w (checkpoint_error why)
+  stop_at_frame upto v w (flush.WriteFault tag) why is x met = subst (λ (y : CheckpointError). PassMeets contents m.table v w (checkpoint_error y)) (sym is) (let n = ap (λ (k : FailedCalls). k.writes) (met ∙ ap (λ (y : CheckpointError). met_stopping y v.met) is) in omega arith)
+  stop_at_frame upto v w flush.LogFault why is x met = subst (λ (y : CheckpointError). PassMeets contents m.table v w (checkpoint_error y)) (sym is) x.refused.came.2.answer.work.shows
+  stop_at_frame upto v w (flush.LogDown at) why is x met = subst (λ (y : CheckpointError). PassMeets contents m.table v w (checkpoint_error y)) (sym is) x.refused.came.2.answer.work.shows.2
+  stop_at_frame upto v w (flush.LogShort lsn end) why is x met = subst (λ (y : CheckpointError). PassMeets contents m.table v w (checkpoint_error y)) (sym is)
+      (past_end (lane_number x.refused.came.2.tag (lanes_in m.table)) x.frame x.refused.came.2.tag v x.before w lsn end x.refused.came.2.named x.refused.came.2.listed x.since.end_seen x.refused.came.2.answer)
 
-  stop_at_log : (frames upto : ℕ) (v w : View) (cause : FlushLog) (why : CheckpointError) → why ≡ refusal_of_log cause → StopsAtLog frames upto v w cause → PassMeets contents m.table v w (checkpoint_error why)
-  stop_at_log frames upto v w log.LogFault why is x = subst (λ (y : CheckpointError). PassMeets contents m.table v w (checkpoint_error y)) (sym is) x.shows
-  stop_at_log frames upto v w (log.LogDown at) why is x = subst (λ (y : CheckpointError). PassMeets contents m.table v w (checkpoint_error y)) (sym is) x.shows
-  stop_at_log frames upto v w (log.LogShort lsn end) why is x = absurd x.cause
+  stop_at_log : (upto : ℕ) (v w : View) (cause : FlushLog) (why : CheckpointError) → why ≡ refusal_of_log cause → StopsAtLog contents m upto v w cause → PassMeets contents m.table v w (checkpoint_error why)
+  stop_at_log upto v w log.LogFault why is x = subst (λ (y : CheckpointError). PassMeets contents m.table v w (checkpoint_error y)) (sym is) x.shows
+  stop_at_log upto v w (log.LogDown at) why is x = subst (λ (y : CheckpointError). PassMeets contents m.table v w (checkpoint_error y)) (sym is) x.shows
+  stop_at_log upto v w (log.LogShort lsn end) why is x = absurd x.cause
 
   pub stop_meets : (upto : ℕ) (v w : View) (why : CheckpointError) → Stops contents m upto v w why → w.met ≡ met_stopping why v.met → PassMeets contents m.table v w (checkpoint_error why)
-  stop_meets upto v w why (at_frame cause is x) met = stop_at_frame v w cause why is x met
-  stop_meets upto v w why (at_log cause is x) met = stop_at_log _ upto v w cause why is x
+  stop_meets upto v w why (at_frame cause is x) met = stop_at_frame upto v w cause why is x met
+  stop_meets upto v w why (at_log cause is x) met = stop_at_log upto v w cause why is x
   stop_meets upto v w why (at_lane lane is low x) met = subst (λ (y : CheckpointError). PassMeets contents m.table v w (checkpoint_error y)) (sym is) (let n = ap (λ (k : FailedCalls). k.writes) (met ∙ ap (λ (y : CheckpointError). met_stopping y v.met) is) in omega arith)
 
   -- so it is since an earlier view

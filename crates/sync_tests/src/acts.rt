@@ -5,6 +5,7 @@ ghost use Rattle.sync_tests.specs.Idle.{IsFreeAndUnlocked};
 use crate::bench::start;
 use crate::devices::{ByteLog, PageLane, TestCall, calls_of};
 use crate::syncing::{checkpoint_once, round_once};
+use access_rings::Ring;
 use backend_pass::{FlushError, Manager, Met, Pass, PutError, ReadError};
 use bg_writer::Round;
 use checkpointer::{Checkpoint, CheckpointError};
@@ -25,6 +26,8 @@ pub enum Act {
     Put(u32),
     /// The first pass reads this block.
     Read(u32),
+    /// The third pass reads this block.
+    ReadBeside(u32),
     /// The first pass copies the page of this block.
     Copy(u32),
     /// The first pass flushes this block.
@@ -55,6 +58,17 @@ pub enum Answer {
     /// None where the block beside isn't read.
     Round(Option<Result<Round, FlushError>>),
     Checkpoint(Result<Checkpoint, CheckpointError>),
+}
+
+/// What the first pass works with.
+#[derive(Drop)]
+struct Tools {
+    /// The page that it puts.
+    page: Page,
+    /// The page that it copies to.
+    copied: Page,
+    /// The ring by which it puts and reads, if any.
+    ring: Option<Ring>,
 }
 
 /// Makes a round while another pass pins a block. None where that isn't read.
@@ -104,8 +118,7 @@ fn perform<L: BlockLane, G: LogDevice, R: Wait>(
     second: &mut Pass,
     third: &mut Pass,
     act: Act,
-    page: &Page,
-    copied: &mut Page,
+    tools: &mut Tools,
 ) -> Answer
     requires first { IsFree L.contents manager.now 0 first.old }
     requires second { IsFreeAndUnlocked L.contents manager.now 1 second.old }
@@ -114,14 +127,12 @@ fn perform<L: BlockLane, G: LogDevice, R: Wait>(
     ensures second { IsFreeAndUnlocked L.contents manager.now 1 second.new }
     ensures third { IsFree L.contents manager.now 2 third.new }
 {
+    let Tools { page, copied, ring } = tools;
     match act {
-        Act::Put(number) => {
-            let tag = block(number);
-            Answer::Put(put_once(manager, rt, first, 0, tag, page, &mut None))
-        }
-        Act::Read(number) => {
-            let tag = block(number);
-            Answer::Read(read_once(manager, rt, first, 0, tag, &mut None))
+        Act::Put(number) => Answer::Put(put_once(manager, rt, first, 0, block(number), page, ring)),
+        Act::Read(number) => Answer::Read(read_once(manager, rt, first, 0, block(number), ring)),
+        Act::ReadBeside(number) => {
+            Answer::Read(read_once(manager, rt, third, 2, block(number), &mut None))
         }
         Act::Copy(number) => Answer::Copy(copy(manager, rt, first, number, copied)),
         Act::Flush(number) => Answer::Flush(flush_once(manager, rt, first, 0, block(number))),
@@ -141,8 +152,7 @@ fn perform_all<L: BlockLane, G: LogDevice, R: Wait>(
     second: &mut Pass,
     third: &mut Pass,
     acts: &[Act],
-    page: &Page,
-    copied: &mut Page,
+    tools: &mut Tools,
     alloc: Global,
 ) -> Result<Vec<Answer>, AllocError>
     requires first { IsFree L.contents manager.now 0 first.old }
@@ -154,7 +164,7 @@ fn perform_all<L: BlockLane, G: LogDevice, R: Wait>(
 {
     let mut answers = Vec::new(alloc);
     for next in acts {
-        let answer = perform(manager, rt, first, second, third, *next, page, copied);
+        let answer = perform(manager, rt, first, second, third, *next, tools);
         answers.push(answer)?;
     }
     Ok(answers)
@@ -181,9 +191,23 @@ pub fn play<R: Wait>(
     log: ByteLog,
     acts: &[Act],
 ) -> Result<Played, AllocError> {
+    play_by_ring(rt, alloc, frames, lanes, log, None, acts)
+}
+
+/// The same, where the first pass puts and reads by a ring.
+pub fn play_by_ring<R: Wait>(
+    rt: &R,
+    alloc: Global,
+    frames: u32,
+    lanes: Vec<PageLane>,
+    log: ByteLog,
+    ring: Option<Ring>,
+    acts: &[Act],
+) -> Result<Played, AllocError> {
     let mut page = Page::zeroed(alloc)?;
     page.fill(&one_item(200));
-    let mut copied = Page::zeroed(alloc)?;
+    let copied = Page::zeroed(alloc)?;
+    let mut tools = Tools { page, copied, ring };
     let Bench {
         manager,
         mut first,
@@ -198,8 +222,7 @@ pub fn play<R: Wait>(
         &mut second,
         &mut third,
         acts,
-        &page,
-        &mut copied,
+        &mut tools,
         alloc,
     );
     let met = second.met();

@@ -4,23 +4,11 @@ ghost use Rattle.sync_tests.specs.Idle.{IsFreeAndUnlockedIn};
 
 use crate::devices::{ByteLog, PageLane};
 use backend_pass::{Config, Manager, StartRefused};
-use block_tag::{Catalog, CatalogError, RelEntry};
-use manager_tests::bench::Bench;
+use manager_tests::bench::{Bench, catalog};
 use std::alloc::{AllocError, Global};
 
 /// How many blocks the relation has.
 pub const BLOCKS: u32 = 160;
-
-/// One relation of so many blocks.
-fn catalog(alloc: Global) -> Result<Catalog, CatalogError> {
-    let entry = RelEntry {
-        tablespace: 0,
-        database: 0,
-        relation: 16384,
-        blocks: [BLOCKS, 0, 0, 0],
-    };
-    Catalog::build(alloc, &[entry])
-}
 
 /// A manager of so many frames over these devices, and its three passes.
 pub fn start(
@@ -33,7 +21,7 @@ pub fn start(
     ensures second { IfOk result (λ b. IsFreeAndUnlockedIn b.manager 1 b.second) }
     ensures third { IfOk result (λ b. IsFreeAndUnlockedIn b.manager 2 b.third) }
 {
-    let Ok(catalog) = catalog(alloc) else {
+    let Ok(catalog) = catalog(alloc, BLOCKS) else {
         return Err(AllocError);
     };
     let Ok(count) = u32::try_from(lanes.len()) else {

@@ -14,6 +14,8 @@ mod rewrite_tests;
 #[cfg(test)]
 mod rewriting;
 #[cfg(test)]
+mod ring_tests;
+#[cfg(test)]
 mod sharing;
 #[cfg(test)]
 mod syncing;

@@ -82,10 +82,10 @@ module _ {L G : Type 0} (t : FrameTable L G) where
   pub rests_stood : (held : Tokens) (s : Seat (Value L G) View) → held ≡ no_tokens → Stands t s → LinksRest held s.me.0 → HasNoLatch s.me.0 → SeatHoldsNothing t s
   rests_stood held s none stands links latches = record { fits = stands.fits; live = stands.quiet.live; hand = stands.hand; free = rests_hold_nothing s.me.0 record { quiet = stands.quiet; links = subst (λ (x : Tokens). LinksRest x s.me.0) none links; latches = latches } }
 
-  pub rests_refused : (contents : L → Option Pages) (tag : Tag) (held : Tokens) (words : List ℕ) (v w : View) (why : BlockError) → ReadAnswer contents t tag held words v w (Err why) → LinksRest held w
-  rests_refused contents tag held words v w (NoFrame why) a = a.0
-  rests_refused contents tag held words v w (ReadFault failed) a = a.0
-  rests_refused contents tag held words v w (Unsound failed) a = a.0
+  pub rests_refused : (contents : L → Option Pages) (tag : Tag) (held : Tokens) (v w : View) (why : BlockError) → ReadAnswer contents t tag held v w (Err why) → LinksRest held w
+  rests_refused contents tag held v w (NoFrame why) a = a
+  rests_refused contents tag held v w (ReadFault failed) a = a.0
+  rests_refused contents tag held v w (Unsound failed) a = a.0
 
   pub rests_given_up : (tag f : ℕ) (held : Tokens) (s s' : Seat (Value L G) View) → held ≡ no_tokens → Stands t s → HasNoLatch s.me.0 → Pins tag f held s.me.0 → SameSeat s s' → Touches f s.me.0 s'.me.0 → Looked (unpinned_link (link s.me.0 f)) (link s'.me.0 f) → SeatHoldsNothing t s'
   rests_given_up tag f held s s' none stands latches pinned same touches unpinned = record {

@@ -9,6 +9,7 @@ use Rattle.buffer_frames.specs.Hinting.{TakesTurns}
 use Rattle.buffer_frames.specs.Reads.{ReadAnswer, ReadCalls, ReadNotes, met_read_block}
 use Rattle.backend_pass.specs.Passes.{view_in}
 use Rattle.backend_pass.proofs.Seated.{moved, moved_one, same_badge}
+use Rattle.buffer_frames.specs.VictimChoices.{choice_state}
 use Rattle.backend_pass.proofs.reading.read_seated.Goals as goal
 
 pub read_block-answer-requires-clause-stands : goal.read_block-answer-requires-clause-stands
@@ -54,7 +55,7 @@ returns-clause-advances g c =
 pub returns-clause-answer : goal.returns-clause-answer
 returns-clause-answer g c =
     let before = c.take_seat-seat.ensures.view in
-    moved (λ v w. ReadAnswer {L = g.row.L.Denot} {G = g.row.G.Denot} g.L.BlockLane.contents c.args.manager.now.table c.args.tag.now c.args.held.now c.read_block-answer.new.census.words v w c.read_block-answer.result)
+    moved (λ v w. ReadAnswer {L = g.row.L.Denot} {G = g.row.G.Denot} g.L.BlockLane.contents c.args.manager.now.table c.args.tag.now c.args.held.now v w c.read_block-answer.result)
     (view_in c.args.badge.now.views) (view_in c.return_seat.new.badge.views) c.take_seat-seat.result.me.0 c.read_block-answer.new.seat.me.0 before c.return_seat.ensures.view c.read_block-answer.ensures.answer
 
 pub returns-clause-met : goal.returns-clause-met
@@ -65,7 +66,7 @@ returns-clause-met g c =
 pub returns-clause-calls : goal.returns-clause-calls
 returns-clause-calls g c =
     let before = c.take_seat-seat.ensures.view in
-    moved (λ v w. ReadCalls (frames_of c.args.manager.now.table) c.args.tag.now c.args.held.now (is_some c.args.ring.now) c.read_block-answer.new.sought.hint c.args.queue.now c.read_block-answer.new.queue (lane_number c.args.tag.now (lanes_in c.args.manager.now.table)) v w c.read_block-answer.result)
+    moved (λ v w. ReadCalls {L = g.row.L.Denot} {G = g.row.G.Denot} g.L.BlockLane.contents c.args.manager.now.table c.args.tag.now c.args.held.now (is_some c.args.ring.now) c.read_block-answer.new.sought.hint (choice_state c.args.queue.now c.args.ring.now c.args.census.now) (choice_state c.read_block-answer.new.queue c.read_block-answer.new.ring c.read_block-answer.new.census) (lane_number c.args.tag.now (lanes_in c.args.manager.now.table)) v w c.read_block-answer.result)
     (view_in c.args.badge.now.views) (view_in c.return_seat.new.badge.views) c.take_seat-seat.result.me.0 c.read_block-answer.new.seat.me.0 before c.return_seat.ensures.view c.read_block-answer.ensures.calls
 
 pub returns-clause-locks : goal.returns-clause-locks

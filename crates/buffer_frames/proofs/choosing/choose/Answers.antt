@@ -1,9 +1,13 @@
+use Rattle.std.proofs.Common.{ap, sym, ◌∙◌}
+use Rattle.pin_core.specs.declared.view.View.{View}
 use Rattle.frame_table.proofs.Told.{grows_on}
 use Rattle.buffer_frames.proofs.Bringing.{chooses_unpushed, leaves_unpushed}
 use Rattle.buffer_frames.proofs.Heading.{victim_pinned}
 use Rattle.buffer_frames.proofs.Outside.{shape_keeping}
 use Rattle.held_pins.proofs.Keeping.{same_locks_looked}
 use Rattle.buffer_frames.proofs.SameLocks.{same_locks_chosen}
+use Rattle.buffer_frames.proofs.Trying.{chosen_pin, chosen_ring}
+use Rattle.buffer_frames.proofs.WorkSteps.{made_none}
 use Rattle.buffer_frames.proofs.choosing.choose.Goals as goal
 
 pub returns-in-Ok-clause-grows : goal.returns-in-Ok-clause-grows
@@ -25,8 +29,18 @@ returns-in-Ok-clause-locks g c = let v = c.in-Ok.ensures in let p = c.victim_pin
 pub returns-in-Err-clause-locks : goal.returns-in-Err-clause-locks
 returns-in-Err-clause-locks g c = same_locks_looked c.args.seat.now.me.0 c.victim.new.seat.me.0 c.in-Err.ensures.left.links
 
-pub returns-in-Err-clause-cause : goal.returns-in-Err-clause-cause
-returns-in-Err-clause-cause g c = let e = c.in-Err.ensures in record { queue = c.args.queue.now; popped = c.victim.new.queue; cause = e.cause; counted = e.counted; pinned = e.pinned }
+pub returns-in-Ok-clause-did : goal.returns-in-Ok-clause-did
+returns-in-Ok-clause-did g c = let v = c.in-Ok.ensures in let p = c.victim_pin-pin.ensures in record {
+  held = c.in-Ok.held;
+  locked = c.victim.new.seat.me.0;
+  chooses = v.did;
+  frame = sym c.into_frame-frame.ensures ∙ sym p.pin;
+  source = sym c.is_from_ring-from_ring.ensures;
+  pinned = chosen_pin c.into_frame-frame.result c.victim_pin-pin.result.frame c.word-word.result c.in-Ok.held.word c.victim.new.seat.me.0 c.victim_pin-pin.new.seat.me.0 (sym p.pin) c.word-word.ensures p.did;
+  ring = chosen_ring c.is_from_ring-from_ring.result c.in-Ok.held.from_ring c.victim_pin-pin.result.frame c.in-Ok.held.frame c.args.ring.now c.victim.new.ring c.is_from_ring-from_ring.ensures (p.pin ∙ c.into_frame-frame.ensures) v.kept;
+  census = v.no_census;
+  calls = made_none c.args.seat.now.me.0 c.victim_pin-pin.new.seat.me.0 (ap (λ (x : View). x.device_calls) p.touches.self ∙ ap (λ (x : View). x.device_calls) v.held.aside);
+}
 
 pub returns-in-Ok-clause-unpushed : goal.returns-in-Ok-clause-unpushed
 returns-in-Ok-clause-unpushed g c = chooses_unpushed _ _ _ _ _ _ _ c.in-Ok.ensures.did

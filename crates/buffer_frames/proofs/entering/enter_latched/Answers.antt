@@ -8,7 +8,11 @@ use Rattle.buffer_frames.specs.Bringing.{enters, pins_other}
 use Rattle.frame_table.proofs.Told.{grows_on}
 use Rattle.buffer_frames.specs.Stages.{HasVictim}
 use Rattle.buffer_frames.proofs.Calm.{victim_worked}
-use Rattle.buffer_frames.proofs.Outside.{grows_outside, links_worked}
+use Rattle.frame_table.proofs.Rising.{rises_none}
+use Rattle.buffer_frames.specs.VictimChoices.{FindsInUse, IsAssigned}
+use Rattle.buffer_frames.specs.Working.{Within}
+use Rattle.buffer_frames.proofs.WorkSteps.{within_on}
+use Rattle.buffer_frames.proofs.Outside.{grows_outside, links_worked, outside_worked}
 use Rattle.held_pins.proofs.Keeping.{latch_same, same_locks_on}
 use Rattle.buffer_frames.proofs.SameLocks.{same_locks_mapped}
 use Rattle.buffer_frames.proofs.entering.enter_latched.Goals as goal
@@ -50,3 +54,13 @@ pub returns-then-store_latched-clause-brings : goal.returns-then-store_latched-c
 returns-then-store_latched-clause-brings g c = enters refl
     (record { entries = entries_seen c.find.new.seat.me.0 (partition_number c.args.tag); did = c.find.ensures.did; none = sym c.find.ensures.found ∙ c.in_default.is })
     (grows_outside c.find.new.seat.me.0 c.store_latched.new.seat.me.0 c.store_latched.ensures.grows c.store_latched.ensures.same) refl
+
+pub returns-clause-gave_up : goal.returns-clause-gave_up
+returns-clause-gave_up g c = let n = c.store_latched.ensures in (
+  c.store_latched.new.seat.me.0,
+  within_on (FindsInUse IsAssigned c.args.victim.frame) c.args.seat.now.me.0 c.find.new.seat.me.0 c.store_latched.new.seat.me.0 c.store_latched.new.seat.me.0
+      (grows_outside c.args.seat.now.me.0 c.find.new.seat.me.0 c.find.ensures.grows (outside_worked c.args.seat.now.me.0 c.find.new.seat.me.0 c.find.ensures.work c.find.ensures.step.lanes c.find.ensures.step.log))
+      (subst (λ (f : ℕ). Within (FindsInUse IsAssigned f) c.find.new.seat.me.0 c.store_latched.new.seat.me.0) c.frame.ensures c.if-store_latched.ensures.in_use)
+      (rises_none c.store_latched.new.seat.me.0),
+  c.give_up.ensures.did,
+)

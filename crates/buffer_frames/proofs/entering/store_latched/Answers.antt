@@ -1,3 +1,8 @@
+use Rattle.std.proofs.Common.{inl, inr, sym}
+use Rattle.frame_table.proofs.Rising.{rises_touched}
+use Rattle.buffer_frames.specs.VictimChoices.{IsAssigned}
+use Rattle.buffer_frames.proofs.Trying.{found_in_use}
+use Rattle.buffer_frames.proofs.entering.store_latched.Goals.{then-pins-ne1-via-then-pins-ne1, then-pins-ne1-via-else-pins-ne1+then-has}
 use Rattle.std.proofs.Common.{◌∙◌, refl, rules, false}
 use Rattle.block_tag.specs.Names.{packed_tag}
 use Rattle.frame_table.specs.Seats.{HasFlag}
@@ -65,3 +70,9 @@ returns-clause-locks g c =
     let st = c.store_tag.ensures in
     let a = c.assign.ensures in
     same_locks_assigned c.args.frame _ c.args.seat.now.me.0 c.lock_header-word.new.seat.me.0 c.store_tag.new.seat.me.0 c.assign.new.seat.me.0 c.enter.new.seat.me.0 k.touches.others k.locked st.stores.others st.stored a.touches.others c.enter.ensures.work _ a.assigned
+
+pub returns-then-pins-ne1-clause-in_use : goal.returns-then-pins-ne1-clause-in_use
+returns-then-pins-ne1-clause-in_use g c = let k = c.lock_header-word in let u = c.unlock_header.ensures in
+    found_in_use IsAssigned c.args.frame k.result c.args.seat.now.me.0 k.new.seat.me.0 c.unlock_header.new.seat.me.0 k.ensures.did
+    (elim c.then-pins-ne1.branch [ then-pins-ne1-via-then-pins-ne1 w ↦ inl (λ e. w.if-pins-ne1.true (c.pins.ensures ∙ e)) | then-pins-ne1-via-else-pins-ne1+then-has w ↦ inr (sym w.has.ensures ∙ w.if-has.true) ])
+    (rises_touched c.args.frame k.new.seat.me.0 c.unlock_header.new.seat.me.0 u.touches)

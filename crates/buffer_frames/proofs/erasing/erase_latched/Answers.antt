@@ -1,3 +1,8 @@
+use Rattle.std.proofs.Common.{inl, inr, sym}
+use Rattle.frame_table.proofs.Rising.{rises_touched}
+use Rattle.buffer_frames.specs.VictimChoices.{IsDirtied}
+use Rattle.buffer_frames.proofs.Trying.{found_in_use}
+use Rattle.buffer_frames.proofs.erasing.erase_latched.Goals.{then-pins-ne1-via-then-pins-ne1, then-pins-ne1-via-else-pins-ne1+then-has}
 use Rattle.std.proofs.Common.{sym, subst, ◌∙◌, ◌≡◌, refl, rules, true, false}
 use Rattle.block_tag.specs.Names.{packed_tag}
 use Rattle.state_word.specs.declared.word.StateWord.{StateWord}
@@ -87,3 +92,9 @@ returns-clause-locks g c =
     let st = c.store_tag.ensures in
     let cl = c.clear.ensures in
     same_locks_cleared c.args.frame _ c.args.seat.now.me.0 c.lock_header-word.new.seat.me.0 c.store_tag.new.seat.me.0 c.clear.new.seat.me.0 c.leave_out.new.seat.me.0 k.touches.others k.locked st.stores.others st.stored cl.touches.others c.leave_out.ensures.work cl.cleared
+
+pub returns-then-pins-ne1-clause-in_use : goal.returns-then-pins-ne1-clause-in_use
+returns-then-pins-ne1-clause-in_use g c = let k = c.lock_header-word in let u = c.unlock_header.ensures in
+    found_in_use IsDirtied c.args.frame k.result c.args.seat.now.me.0 k.new.seat.me.0 c.unlock_header.new.seat.me.0 k.ensures.did
+    (elim c.then-pins-ne1.branch [ then-pins-ne1-via-then-pins-ne1 w ↦ inl (λ e. w.if-pins-ne1.true (c.pins.ensures ∙ e)) | then-pins-ne1-via-else-pins-ne1+then-has w ↦ inr (sym w.has.ensures ∙ w.if-has.true) ])
+    (rises_touched c.args.frame k.new.seat.me.0 c.unlock_header.new.seat.me.0 u.touches)

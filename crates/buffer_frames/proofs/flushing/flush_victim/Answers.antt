@@ -4,17 +4,16 @@ use Rattle.state_word.specs.Fields.{fields}
 use Rattle.pin_core.specs.declared.view.Link.{Link}
 use Rattle.pin_core.specs.declared.view.View.{View}
 use Rattle.pin_core.specs.State.{link}
-use Rattle.frame_table.specs.FrameSteps.{Did, looking}
 use Rattle.frame_table.specs.Seats.{lanes_in}
-use Rattle.content_locks.specs.Locks.{RefusesLock, ShowsExclusive}
 use Rattle.frame_table.proofs.Told.{looked_same}
 use Rattle.frame_table.proofs.Rising.{rises_none, rises_touched}
 use Rattle.held_pins.proofs.Keeping.{beside_kept, stands_self}
+use Rattle.buffer_frames.specs.declared.flushing.FlushedPage.TheVariants.{Written}
 use Rattle.buffer_frames.specs.Flushing.{clean, flushed, locked, rejected}
 use Rattle.buffer_frames.specs.Flushing.{met_refused}
-use Rattle.buffer_frames.proofs.Answering.{error_between, flush_between, flush_makes_flush_calls, none_made, flush_calls_after, rejects_between, victim_pinned, victim_sees, victim_worked}
+use Rattle.buffer_frames.proofs.Answering.{error_between, flush_makes_flush_calls, none_made, flush_calls_after, rejects_between, same_page, shares_dirty, victim_pinned, victim_sees, victim_worked}
 use Rattle.buffer_frames.proofs.Links.{may_drop, pinned_looked, pinned_unshared, sharing_taken}
-use Rattle.buffer_frames.proofs.WorkSteps.{latches_worked, made_none, made_same, within_all, within_on, works_marked, works_on}
+use Rattle.buffer_frames.proofs.WorkSteps.{latches_worked, made_none, made_same, works_marked, works_on}
 use Rattle.buffer_frames.proofs.flushing.flush_victim.Goals as goal
 
 pub returns-then-not-has-clause-stands : goal.returns-then-not-has-clause-stands
@@ -33,7 +32,7 @@ pub returns-then-not-has-clause-remembered : goal.returns-then-not-has-clause-re
 returns-then-not-has-clause-remembered g c = (pinned_looked (packed_tag c.args.tag) (link c.args.seat.now.me.0 c.args.frame) (link c.look.new.seat.me.0 c.args.frame) c.look.ensures.link (victim_pinned (packed_tag c.args.tag) c.args.frame c.args.held.now c.args.seat.now.me.0 c.requires.victim c.requires.remembered)).remembered
 
 pub returns-then-not-has-clause-answer : goal.returns-then-not-has-clause-answer
-returns-then-not-has-clause-answer g c = (refl, clean c.look.result (within_all (λ a b. Did looking c.args.frame a b c.look.result) c.args.seat.now.me.0 c.look.new.seat.me.0 c.look.ensures.did) (sym c.has.ensures ∙ c.if-not-has.true) (made_none c.args.seat.now.me.0 c.look.new.seat.me.0 (ap (λ (x : View). x.device_calls) c.look.ensures.touches.self)))
+returns-then-not-has-clause-answer g c = (refl, clean c.look.result c.look.ensures.did (sym c.has.ensures ∙ c.if-not-has.true))
 
 pub returns-then-not-has-clause-calls : goal.returns-then-not-has-clause-calls
 returns-then-not-has-clause-calls g c = none_made c.args.seat.now.me.0 c.look.new.seat.me.0 (made_none c.args.seat.now.me.0 c.look.new.seat.me.0 (ap (λ (x : View). x.device_calls) c.look.ensures.touches.self))
@@ -60,7 +59,7 @@ pub returns-in-Err-clause-remembered : goal.returns-in-Err-clause-remembered
 returns-in-Err-clause-remembered g c = (pinned_looked (packed_tag c.args.tag) (link c.look.new.seat.me.0 c.args.frame) (link c.try_share.new.seat.me.0 c.args.frame) (looked_same (link c.look.new.seat.me.0 c.args.frame) (link c.try_share.new.seat.me.0 c.args.frame) c.in-Err.ensures.left) (pinned_looked (packed_tag c.args.tag) (link c.args.seat.now.me.0 c.args.frame) (link c.look.new.seat.me.0 c.args.frame) c.look.ensures.link (victim_pinned (packed_tag c.args.tag) c.args.frame c.args.held.now c.args.seat.now.me.0 c.requires.victim c.requires.remembered))).remembered
 
 pub returns-in-Err-clause-answer : goal.returns-in-Err-clause-answer
-returns-in-Err-clause-answer g c = locked c.in-Err._why (within_on (λ a b. RefusesLock ShowsExclusive c.args.frame a b c.in-Err._why) c.args.seat.now.me.0 c.look.new.seat.me.0 c.try_share.new.seat.me.0 c.try_share.new.seat.me.0 (rises_touched c.args.frame c.args.seat.now.me.0 c.look.new.seat.me.0 c.look.ensures.touches) (within_all (λ a b. RefusesLock ShowsExclusive c.args.frame a b c.in-Err._why) c.look.new.seat.me.0 c.try_share.new.seat.me.0 c.in-Err.ensures.cause) (rises_none c.try_share.new.seat.me.0)) refl (made_none c.args.seat.now.me.0 c.try_share.new.seat.me.0 (ap (λ (x : View). x.device_calls) c.try_share.ensures.touches.self ∙ ap (λ (x : View). x.device_calls) c.look.ensures.touches.self))
+returns-in-Err-clause-answer g c = locked c.in-Err._why (record { word = c.look.result; looks = c.look.ensures.did; dirty = sym c.has.ensures ∙ c.if-not-has.false }) c.in-Err.ensures.cause refl (made_none c.args.seat.now.me.0 c.try_share.new.seat.me.0 (ap (λ (x : View). x.device_calls) c.try_share.ensures.touches.self ∙ ap (λ (x : View). x.device_calls) c.look.ensures.touches.self))
 
 pub returns-in-Err-clause-calls : goal.returns-in-Err-clause-calls
 returns-in-Err-clause-calls g c = none_made c.args.seat.now.me.0 c.try_share.new.seat.me.0 (made_none c.args.seat.now.me.0 c.try_share.new.seat.me.0 (ap (λ (x : View). x.device_calls) c.try_share.ensures.touches.self ∙ ap (λ (x : View). x.device_calls) c.look.ensures.touches.self))
@@ -93,7 +92,7 @@ pub returns-then-is_rejected-clause-remembered : goal.returns-then-is_rejected-c
 returns-then-is_rejected-clause-remembered g c = (pinned_unshared (packed_tag c.args.tag) (link c.is_rejected.new.seat.me.0 c.args.frame) (link c.unshare.new.seat.me.0 c.args.frame) c.is_rejected.ensures.shares c.unshare.ensures.unshared).remembered
 
 pub returns-then-is_rejected-clause-answer : goal.returns-then-is_rejected-clause-answer
-returns-then-is_rejected-clause-answer g c = rejected (rejects_between c.args.frame c.args.from_ring _ _ c.args.seat.now.me.0 c.try_share.new.seat.me.0 c.is_rejected.new.seat.me.0 c.unshare.new.seat.me.0 (works_on c.args.frame c.args.seat.now.me.0 c.look.new.seat.me.0 c.try_share.new.seat.me.0 (works_marked c.args.frame c.args.seat.now.me.0 c.look.new.seat.me.0 c.look.ensures.touches c.look.ensures.marks) (works_marked c.args.frame c.look.new.seat.me.0 c.try_share.new.seat.me.0 c.try_share.ensures.touches c.try_share.ensures.marks)).advances c.if-is_rejected.ensures.rejected (rises_touched c.args.frame c.is_rejected.new.seat.me.0 c.unshare.new.seat.me.0 c.unshare.ensures.touches)) (made_none c.args.seat.now.me.0 c.unshare.new.seat.me.0 (ap (λ (x : View). x.device_calls) c.unshare.ensures.touches.self ∙ made_same c.try_share.new.seat.me.0 c.is_rejected.new.seat.me.0 c.is_rejected.ensures.calls ∙ ap (λ (x : View). x.device_calls) c.try_share.ensures.touches.self ∙ ap (λ (x : View). x.device_calls) c.look.ensures.touches.self))
+returns-then-is_rejected-clause-answer g c = rejected (shares_dirty c.args.frame c.look.result c.args.seat.now.me.0 c.look.new.seat.me.0 c.try_share.new.seat.me.0 c.look.ensures.did (sym c.has.ensures ∙ c.if-not-has.false) c.in_default.ensures.did) (rejects_between c.args.frame c.args.from_ring _ _ c.try_share.new.seat.me.0 c.try_share.new.seat.me.0 c.is_rejected.new.seat.me.0 c.unshare.new.seat.me.0 (rises_none c.try_share.new.seat.me.0) c.if-is_rejected.ensures.rejected (rises_touched c.args.frame c.is_rejected.new.seat.me.0 c.unshare.new.seat.me.0 c.unshare.ensures.touches)) (made_none c.args.seat.now.me.0 c.unshare.new.seat.me.0 (ap (λ (x : View). x.device_calls) c.unshare.ensures.touches.self ∙ made_same c.try_share.new.seat.me.0 c.is_rejected.new.seat.me.0 c.is_rejected.ensures.calls ∙ ap (λ (x : View). x.device_calls) c.try_share.ensures.touches.self ∙ ap (λ (x : View). x.device_calls) c.look.ensures.touches.self))
 
 pub returns-then-is_rejected-clause-calls : goal.returns-then-is_rejected-clause-calls
 returns-then-is_rejected-clause-calls g c = none_made c.args.seat.now.me.0 c.unshare.new.seat.me.0 (made_none c.args.seat.now.me.0 c.unshare.new.seat.me.0 (ap (λ (x : View). x.device_calls) c.unshare.ensures.touches.self ∙ made_same c.try_share.new.seat.me.0 c.is_rejected.new.seat.me.0 c.is_rejected.ensures.calls ∙ ap (λ (x : View). x.device_calls) c.try_share.ensures.touches.self ∙ ap (λ (x : View). x.device_calls) c.look.ensures.touches.self))
@@ -114,7 +113,19 @@ pub returns-in-Ok-clause-victim : goal.returns-in-Ok-clause-victim
 returns-in-Ok-clause-victim g c = victim_worked (packed_tag c.args.tag) c.args.frame c.args.held.now c.args.seat.now.me.0 c.flush_shared.new.seat.me.0 c.requires.victim (returns-in-Ok-clause-works g c) c.flush_shared.ensures.pinned (c.flush_shared.ensures.role ∙ c.is_rejected.ensures.role ∙ ap (λ (l : Link). l.role) c.in_default.ensures.shared ∙ c.look.ensures.link.role)
 
 pub returns-in-Ok-clause-answer : goal.returns-in-Ok-clause-answer
-returns-in-Ok-clause-answer g c = (c.if-is_rejected.ensures.ring, flushed c.in-Ok._written (flush_between {L = g.row.L.Denot} {G = g.row.G.Denot} g.L.BlockLane.contents c.args.table.now (lane_number c.args.tag (lanes_in c.args.table.now)) c.args.tag c.args.frame c.args.seat.now.me.0 c.is_rejected.new.seat.me.0 c.flush_shared.new.seat.me.0 c.flush_shared.new.seat.me.0 (Ok c.in-Ok._written) (made_same c.try_share.new.seat.me.0 c.is_rejected.new.seat.me.0 c.is_rejected.ensures.calls ∙ ap (λ (x : View). x.device_calls) c.try_share.ensures.touches.self ∙ ap (λ (x : View). x.device_calls) c.look.ensures.touches.self) (works_on c.args.frame c.args.seat.now.me.0 c.try_share.new.seat.me.0 c.is_rejected.new.seat.me.0 (works_on c.args.frame c.args.seat.now.me.0 c.look.new.seat.me.0 c.try_share.new.seat.me.0 (works_marked c.args.frame c.args.seat.now.me.0 c.look.new.seat.me.0 c.look.ensures.touches c.look.ensures.marks) (works_marked c.args.frame c.look.new.seat.me.0 c.try_share.new.seat.me.0 c.try_share.ensures.touches c.try_share.ensures.marks)) c.is_rejected.ensures.works).advances c.in-Ok.ensures.answer refl (rises_none c.flush_shared.new.seat.me.0)))
+returns-in-Ok-clause-answer g c = (
+  c.if-is_rejected.ensures.ring,
+  flushed c.in-Ok._written (record {
+    shared = c.try_share.new.seat.me.0;
+    kept = c.is_rejected.new.seat.me.0;
+    shares = shares_dirty c.args.frame c.look.result c.args.seat.now.me.0 c.look.new.seat.me.0 c.try_share.new.seat.me.0 c.look.ensures.did (sym c.has.ensures ∙ c.if-not-has.false) c.in_default.ensures.did;
+    keeps = c.if-is_rejected.ensures.keeps;
+    since = (works_on c.args.frame c.args.seat.now.me.0 c.try_share.new.seat.me.0 c.is_rejected.new.seat.me.0 (works_on c.args.frame c.args.seat.now.me.0 c.look.new.seat.me.0 c.try_share.new.seat.me.0 (works_marked c.args.frame c.args.seat.now.me.0 c.look.new.seat.me.0 c.look.ensures.touches c.look.ensures.marks) (works_marked c.args.frame c.look.new.seat.me.0 c.try_share.new.seat.me.0 c.try_share.ensures.touches c.try_share.ensures.marks)) c.is_rejected.ensures.works).advances;
+    calls = made_none c.args.seat.now.me.0 c.is_rejected.new.seat.me.0 (made_same c.try_share.new.seat.me.0 c.is_rejected.new.seat.me.0 c.is_rejected.ensures.calls ∙ ap (λ (x : View). x.device_calls) c.try_share.ensures.touches.self ∙ ap (λ (x : View). x.device_calls) c.look.ensures.touches.self);
+    flush = c.in-Ok.ensures.answer;
+    written = λ is. c.in-Ok.ensures.written (same_page (Ok c.in-Ok._written) c.in-Ok._written Written refl is);
+  }),
+)
 
 pub returns-in-Ok-clause-calls : goal.returns-in-Ok-clause-calls
 returns-in-Ok-clause-calls g c = flush_calls_after c.args.seat.now.me.0 c.is_rejected.new.seat.me.0 c.flush_shared.new.seat.me.0 (made_same c.try_share.new.seat.me.0 c.is_rejected.new.seat.me.0 c.is_rejected.ensures.calls ∙ ap (λ (x : View). x.device_calls) c.try_share.ensures.touches.self ∙ ap (λ (x : View). x.device_calls) c.look.ensures.touches.self) (flush_makes_flush_calls {L = g.row.L.Denot} {G = g.row.G.Denot} g.L.BlockLane.contents c.args.table.now (lane_number c.args.tag (lanes_in c.args.table.now)) c.args.tag c.args.frame c.is_rejected.new.seat.me.0 c.flush_shared.new.seat.me.0 (Ok c.in-Ok._written) c.in-Ok.ensures.answer)
@@ -132,7 +143,19 @@ pub returns-in-Err-flush_shared-clause-victim : goal.returns-in-Err-flush_shared
 returns-in-Err-flush_shared-clause-victim g c = victim_worked (packed_tag c.args.tag) c.args.frame c.args.held.now c.args.seat.now.me.0 c.flush_shared.new.seat.me.0 c.requires.victim (returns-in-Err-flush_shared-clause-works g c) c.flush_shared.ensures.pinned (c.flush_shared.ensures.role ∙ c.is_rejected.ensures.role ∙ ap (λ (l : Link). l.role) c.in_default.ensures.shared ∙ c.look.ensures.link.role)
 
 pub returns-in-Err-flush_shared-clause-answer : goal.returns-in-Err-flush_shared-clause-answer
-returns-in-Err-flush_shared-clause-answer g c = (c.if-is_rejected.ensures.ring, flush_between {L = g.row.L.Denot} {G = g.row.G.Denot} g.L.BlockLane.contents c.args.table.now (lane_number c.args.tag (lanes_in c.args.table.now)) c.args.tag c.args.frame c.args.seat.now.me.0 c.is_rejected.new.seat.me.0 c.flush_shared.new.seat.me.0 c.flush_shared.new.seat.me.0 (Err c.in-Err-flush_shared.why) (made_same c.try_share.new.seat.me.0 c.is_rejected.new.seat.me.0 c.is_rejected.ensures.calls ∙ ap (λ (x : View). x.device_calls) c.try_share.ensures.touches.self ∙ ap (λ (x : View). x.device_calls) c.look.ensures.touches.self) (works_on c.args.frame c.args.seat.now.me.0 c.try_share.new.seat.me.0 c.is_rejected.new.seat.me.0 (works_on c.args.frame c.args.seat.now.me.0 c.look.new.seat.me.0 c.try_share.new.seat.me.0 (works_marked c.args.frame c.args.seat.now.me.0 c.look.new.seat.me.0 c.look.ensures.touches c.look.ensures.marks) (works_marked c.args.frame c.look.new.seat.me.0 c.try_share.new.seat.me.0 c.try_share.ensures.touches c.try_share.ensures.marks)) c.is_rejected.ensures.works).advances c.in-Err-flush_shared.ensures.answer refl (rises_none c.flush_shared.new.seat.me.0))
+returns-in-Err-flush_shared-clause-answer g c = (
+  c.if-is_rejected.ensures.ring,
+  record {
+    shared = c.try_share.new.seat.me.0;
+    kept = c.is_rejected.new.seat.me.0;
+    shares = shares_dirty c.args.frame c.look.result c.args.seat.now.me.0 c.look.new.seat.me.0 c.try_share.new.seat.me.0 c.look.ensures.did (sym c.has.ensures ∙ c.if-not-has.false) c.in_default.ensures.did;
+    keeps = c.if-is_rejected.ensures.keeps;
+    since = (works_on c.args.frame c.args.seat.now.me.0 c.try_share.new.seat.me.0 c.is_rejected.new.seat.me.0 (works_on c.args.frame c.args.seat.now.me.0 c.look.new.seat.me.0 c.try_share.new.seat.me.0 (works_marked c.args.frame c.args.seat.now.me.0 c.look.new.seat.me.0 c.look.ensures.touches c.look.ensures.marks) (works_marked c.args.frame c.look.new.seat.me.0 c.try_share.new.seat.me.0 c.try_share.ensures.touches c.try_share.ensures.marks)) c.is_rejected.ensures.works).advances;
+    calls = made_none c.args.seat.now.me.0 c.is_rejected.new.seat.me.0 (made_same c.try_share.new.seat.me.0 c.is_rejected.new.seat.me.0 c.is_rejected.ensures.calls ∙ ap (λ (x : View). x.device_calls) c.try_share.ensures.touches.self ∙ ap (λ (x : View). x.device_calls) c.look.ensures.touches.self);
+    flush = c.in-Err-flush_shared.ensures.answer;
+    written = λ is. absurd (cc);
+  },
+)
 
 pub returns-in-Err-flush_shared-clause-calls : goal.returns-in-Err-flush_shared-clause-calls
 returns-in-Err-flush_shared-clause-calls g c = flush_calls_after c.args.seat.now.me.0 c.is_rejected.new.seat.me.0 c.flush_shared.new.seat.me.0 (made_same c.try_share.new.seat.me.0 c.is_rejected.new.seat.me.0 c.is_rejected.ensures.calls ∙ ap (λ (x : View). x.device_calls) c.try_share.ensures.touches.self ∙ ap (λ (x : View). x.device_calls) c.look.ensures.touches.self) (flush_makes_flush_calls {L = g.row.L.Denot} {G = g.row.G.Denot} g.L.BlockLane.contents c.args.table.now (lane_number c.args.tag (lanes_in c.args.table.now)) c.args.tag c.args.frame c.is_rejected.new.seat.me.0 c.flush_shared.new.seat.me.0 (Err c.in-Err-flush_shared.why) c.in-Err-flush_shared.ensures.answer)

@@ -1,19 +1,18 @@
-use Rattle.std.proofs.Common.{◌<◌, ℕ, Some, ap, sym, subst, ◌∙◌}
+use Rattle.std.proofs.Common.{◌<◌, ◌≤◌, ℕ, Some, ap, sym, subst, ◌∙◌}
 use Rattle.std.proofs.lemmas.Bool.{OnFalse_at, OnFalse_from, OnTrue_at, OnTrue_from}
 use Rattle.block_tag.specs.Names.{packed_tag}
 use Rattle.pin_core.specs.declared.view.Io.TheVariants.{Quiet}
 use Rattle.pin_core.specs.declared.view.Link.{Link}
 use Rattle.pin_core.specs.declared.view.View.{View}
 use Rattle.pin_core.specs.State.{link}
-use Rattle.frame_table.specs.WordSteps.{DidWord, load_flushed}
-use Rattle.content_locks.specs.Locks.{Copies}
-use Rattle.frame_table.proofs.Rising.{rises_none, rises_touched}
 use Rattle.held_pins.proofs.Keeping.{stands_self}
-use Rattle.buffer_frames.specs.Flushing.{RejectsVictim}
+use Rattle.buffer_frames.specs.Flushing.{RejectsVictim, covered, elsewhere, other_kind}
+use Rattle.buffer_frames.proofs.flushing.is_rejected.Goals.{then-not-from_ring-via-then-not-from_ring, then-not-from_ring-via-else-not-from_ring+then-ne}
 use Rattle.buffer_frames.specs.Stages.{IsSharing}
+use Rattle.buffer_frames.proofs.Answering.{not_bulk_read}
 use Rattle.buffer_frames.proofs.Links.{may_copy, sharing_copied}
-use Rattle.buffer_frames.proofs.WorkSteps.{made_none, within_all, within_on, works_marked, works_on}
-use Rattle.buffer_frames.proofs.Written.{loaded_work, stands_flushed, works_loaded}
+use Rattle.buffer_frames.proofs.WorkSteps.{made_none, works_marked, works_on}
+use Rattle.buffer_frames.proofs.Written.{copied_then_loaded, loaded_work, stands_flushed, works_loaded}
 use Rattle.buffer_frames.proofs.flushing.is_rejected.Goals as goal
 
 pub copy_out-requires-clause-view : goal.copy_out-requires-clause-view
@@ -62,7 +61,7 @@ pub returns-clause-met : goal.returns-clause-met
 returns-clause-met g c = ap (λ (x : View). x.met) c.load_flushed.ensures.view ∙ ap (λ (x : View). x.met) c.copy_out.ensures.touches.self
 
 pub returns-clause-rejected : goal.returns-clause-rejected
-returns-clause-rejected g c = let f = c.args.frame in let o = c.copy_out.ensures in let l = c.load_flushed.ensures in
+returns-clause-rejected g c = let both = copied_then_loaded c.args.frame c.copy_out.new.page c.load_flushed.result c.args.seat.now.me.0 c.copy_out.new.seat.me.0 c.load_flushed.new.seat.me.0 c.copy_out.ensures.touches c.copy_out.ensures.did c.load_flushed.ensures.did in
     OnTrue_from c.reject.result (RejectsVictim c.args.frame c.args.from_ring c.args.ring.now (Some c.reject.new.self) c.args.seat.now.me.0 c.load_flushed.new.seat.me.0) (λ yes. record {
       came = c.if-not-from_ring.false;
       ring = c.in-Some.ring;
@@ -70,11 +69,17 @@ returns-clause-rejected g c = let f = c.args.frame in let o = c.copy_out.ensures
       rejects = c.reject.ensures.answer.0 yes;
       empty = ap Some (OnTrue_at yes c.reject.ensures.rejected);
       page = c.copy_out.new.page;
-      copies = within_on (Copies f c.copy_out.new.page) c.args.seat.now.me.0 c.args.seat.now.me.0 c.copy_out.new.seat.me.0 c.load_flushed.new.seat.me.0 (rises_none c.args.seat.now.me.0) (within_all (Copies f c.copy_out.new.page) c.args.seat.now.me.0 c.copy_out.new.seat.me.0 o.did) (works_loaded f c.load_flushed.result c.copy_out.new.seat.me.0 c.load_flushed.new.seat.me.0 l.did).advances;
+      copies = both.0;
       flushed = c.load_flushed.result;
-      loads = within_on (λ a b. DidWord load_flushed a b c.load_flushed.result) c.args.seat.now.me.0 c.copy_out.new.seat.me.0 c.load_flushed.new.seat.me.0 c.load_flushed.new.seat.me.0 (rises_touched f c.args.seat.now.me.0 c.copy_out.new.seat.me.0 o.touches) (within_all (λ a b. DidWord load_flushed a b c.load_flushed.result) c.copy_out.new.seat.me.0 c.load_flushed.new.seat.me.0 l.did) (rises_none c.load_flushed.new.seat.me.0);
+      loads = both.1;
       unflushed = subst (λ (n : ℕ). c.load_flushed.result < n) c.lsn.ensures c.if-lsn-load_flushed.false;
     })
 
 pub returns-clause-ring : goal.returns-clause-ring
 returns-clause-ring g c = OnFalse_from _ _ (λ no. ap Some (OnFalse_at no c.reject.ensures.retained) ∙ sym c.in-Some.is)
+
+pub returns-then-lsn-load_flushed-clause-keeps : goal.returns-then-lsn-load_flushed-clause-keeps
+returns-then-lsn-load_flushed-clause-keeps g c = let both = copied_then_loaded c.args.frame c.copy_out.new.page c.load_flushed.result c.args.seat.now.me.0 c.copy_out.new.seat.me.0 c.load_flushed.new.seat.me.0 c.copy_out.ensures.touches c.copy_out.ensures.did c.load_flushed.ensures.did in covered c.copy_out.new.page c.load_flushed.result both.0 both.1 (subst (λ (n : ℕ). n ≤ c.load_flushed.result) c.lsn.ensures c.if-lsn-load_flushed.true)
+
+pub returns-then-not-from_ring-clause-keeps : goal.returns-then-not-from_ring-clause-keeps
+returns-then-not-from_ring-clause-keeps g c = elim c.then-not-from_ring.branch [ then-not-from_ring-via-then-not-from_ring w ↦ elsewhere w.if-not-from_ring.true | then-not-from_ring-via-else-not-from_ring+then-ne w ↦ other_kind c.in-Some.ring c.in-Some.is (λ e. not_bulk_read w.kind.result w.ne.result w.ne.ensures w.if-ne.true (w.kind.ensures ∙ e)) ]

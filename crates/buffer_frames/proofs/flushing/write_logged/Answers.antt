@@ -4,6 +4,7 @@ use Rattle.pin_core.specs.declared.view.Io.TheVariants.{Output}
 use Rattle.pin_core.specs.declared.view.View.{View}
 use Rattle.pin_core.specs.State.{link}
 use Rattle.frame_table.proofs.Marks.{marks_on}
+use Rattle.wal_flush.proofs.Listing.{flush_lists, unflushed_lists}
 use Rattle.buffer_frames.specs.Flushing.{met_lane_write}
 use Rattle.buffer_frames.specs.Stages.{IsSharing}
 use Rattle.buffer_frames.proofs.WorkSteps.{works_on}
@@ -15,7 +16,7 @@ pub returns-in-Err-clause-stands : goal.returns-in-Err-clause-stands
 returns-in-Err-clause-stands g c = let e = c.flush_to.ensures in stands_flushed _ c.args.seat.now c.flush_to.new.seat e.seat e.work c.requires.stands
 
 pub returns-in-Err-clause-works : goal.returns-in-Err-clause-works
-returns-in-Err-clause-works g c = let e = c.in-Err.ensures in works_flushed c.args.frame c.args.seat.now.me.0 c.flush_to.new.seat.me.0 e.work e.rises
+returns-in-Err-clause-works g c = let e = c.in-Err.ensures in works_flushed c.args.frame c.args.seat.now.me.0 c.flush_to.new.seat.me.0 e.work e.rises (unflushed_lists c.args.frame _ _ c.args.seat.now.me.0 c.flush_to.new.seat.me.0 e.cause)
 
 pub returns-in-Err-clause-marks : goal.returns-in-Err-clause-marks
 returns-in-Err-clause-marks g c = marks_flushed c.args.seat.now.me.0 c.flush_to.new.seat.me.0 c.flush_to.ensures.work
@@ -46,7 +47,7 @@ write_lane-requires-clause-log_first g c = subst (λ (n : ℕ). n ≤ c.flush_to
 
 pub returns-then-write_lane-clause-works : goal.returns-then-write_lane-clause-works
 returns-then-write_lane-clause-works g c = let e = c.in_default.ensures in
-    works_on c.args.frame c.args.seat.now.me.0 c.flush_to.new.seat.me.0 c.write_lane.new.seat.me.0 (works_flushed c.args.frame c.args.seat.now.me.0 c.flush_to.new.seat.me.0 e.work e.rises) c.write_lane.ensures.works
+    works_on c.args.frame c.args.seat.now.me.0 c.flush_to.new.seat.me.0 c.write_lane.new.seat.me.0 (works_flushed c.args.frame c.args.seat.now.me.0 c.flush_to.new.seat.me.0 e.work e.rises (flush_lists c.args.frame _ c.args.seat.now.me.0 c.flush_to.new.seat.me.0 e.did)) c.write_lane.ensures.works
 
 pub returns-then-write_lane-clause-marks : goal.returns-then-write_lane-clause-marks
 returns-then-write_lane-clause-marks g c = marks_on c.args.seat.now.me.0 c.flush_to.new.seat.me.0 c.write_lane.new.seat.me.0 (marks_flushed c.args.seat.now.me.0 c.flush_to.new.seat.me.0 c.flush_to.ensures.work) c.write_lane.ensures.marks
@@ -64,7 +65,7 @@ returns-then-write_lane-clause-met g c = let e = c.in_default.ensures in
 
 pub returns-else-write_lane-clause-works : goal.returns-else-write_lane-clause-works
 returns-else-write_lane-clause-works g c = let e = c.in_default.ensures in
-    works_on c.args.frame c.args.seat.now.me.0 c.flush_to.new.seat.me.0 c.write_lane.new.seat.me.0 (works_flushed c.args.frame c.args.seat.now.me.0 c.flush_to.new.seat.me.0 e.work e.rises) c.write_lane.ensures.works
+    works_on c.args.frame c.args.seat.now.me.0 c.flush_to.new.seat.me.0 c.write_lane.new.seat.me.0 (works_flushed c.args.frame c.args.seat.now.me.0 c.flush_to.new.seat.me.0 e.work e.rises (flush_lists c.args.frame _ c.args.seat.now.me.0 c.flush_to.new.seat.me.0 e.did)) c.write_lane.ensures.works
 
 pub returns-else-write_lane-clause-marks : goal.returns-else-write_lane-clause-marks
 returns-else-write_lane-clause-marks g c = marks_on c.args.seat.now.me.0 c.flush_to.new.seat.me.0 c.write_lane.new.seat.me.0 (marks_flushed c.args.seat.now.me.0 c.flush_to.new.seat.me.0 c.flush_to.ensures.work) c.write_lane.ensures.marks

@@ -7,6 +7,8 @@ use Rattle.buffer_frames.specs.Stages.{IsRead, IsReading}
 use Rattle.buffer_frames.specs.Working.{WorksAt}
 use Rattle.buffer_frames.proofs.Links.{begun_fresh, pins_worked, read_looked, read_of_pins, reading_begun}
 use Rattle.buffer_frames.proofs.WorkSteps.{headless, latches_worked, no_io, works_begun, works_marked, works_on}
+use Rattle.frame_table.proofs.Rising.{rises_on, rises_touched}
+use Rattle.buffer_frames.proofs.Unread.{unread_since}
 use Rattle.buffer_frames.proofs.loading.load.Goals as goal
 
 pub returns-then-has-clause-stands : goal.returns-then-has-clause-stands
@@ -67,26 +69,29 @@ read_in-requires-clause-reads g c = let f = c.args.frame in let tag = packed_tag
     (read_looked tag (link c.args.seat.now.me.0 f) (link c.look.new.seat.me.0 f) c.look.ensures.link (read_of_pins tag f c.args.held.now c.args.seat.now.me.0 c.requires.pinned))
     s.begun (begun_fresh f s.did.word s.did.under c.start_io.new.seat.me.0 s.did.did))
 
-pub returns-in_err-read_in-clause-works : goal.returns-in_err-read_in-clause-works
-returns-in_err-read_in-clause-works g c = let k = c.look.ensures in let s = c.start_io.ensures in let f = c.args.frame in
+pub returns-in-Err-clause-works : goal.returns-in-Err-clause-works
+returns-in-Err-clause-works g c = let k = c.look.ensures in let s = c.start_io.ensures in let f = c.args.frame in
     works_on f c.args.seat.now.me.0 c.start_io.new.seat.me.0 c.read_in.new.seat.me.0 (works_on f c.args.seat.now.me.0 c.look.new.seat.me.0 c.start_io.new.seat.me.0 (works_marked f c.args.seat.now.me.0 c.look.new.seat.me.0 k.touches k.marks) (works_begun true f c.look.new.seat.me.0 c.start_io.new.seat.me.0 s.touches c.in-Some.ensures.marks))
     (subst (λ (x : ℕ). WorksAt x c.start_io.new.seat.me.0 c.read_in.new.seat.me.0) c.in-Some.ensures.right.0 c.read_in.ensures.works)
 
-pub returns-in_err-read_in-clause-latches : goal.returns-in_err-read_in-clause-latches
-returns-in_err-read_in-clause-latches g c = latches_worked c.args.frame c.args.seat.now.me.0 c.read_in.new.seat.me.0 (returns-in_err-read_in-clause-works g c) c.requires.latches
+pub returns-in-Err-clause-latches : goal.returns-in-Err-clause-latches
+returns-in-Err-clause-latches g c = latches_worked c.args.frame c.args.seat.now.me.0 c.read_in.new.seat.me.0 (returns-in-Err-clause-works g c) c.requires.latches
 
-pub returns-in_err-read_in-clause-pinned : goal.returns-in_err-read_in-clause-pinned
-returns-in_err-read_in-clause-pinned g c = let f = c.args.frame in let tag = packed_tag c.args.tag.now in
-    pins_worked tag f c.args.held.now c.args.seat.now.me.0 c.read_in.new.seat.me.0 c.requires.pinned (returns-in_err-read_in-clause-works g c) (subst (λ (x : ℕ). IsRead tag (link c.read_in.new.seat.me.0 x)) c.in-Some.ensures.right.0 c.read_in.ensures.read)
+pub returns-in-Err-clause-pinned : goal.returns-in-Err-clause-pinned
+returns-in-Err-clause-pinned g c = let f = c.args.frame in let tag = packed_tag c.args.tag.now in
+    pins_worked tag f c.args.held.now c.args.seat.now.me.0 c.read_in.new.seat.me.0 c.requires.pinned (returns-in-Err-clause-works g c) (subst (λ (x : ℕ). IsRead tag (link c.read_in.new.seat.me.0 x)) c.in-Some.ensures.right.0 c.read_in.ensures.read)
 
-pub returns-clause-works : goal.returns-clause-works
-returns-clause-works g c = let k = c.look.ensures in let s = c.start_io.ensures in let f = c.args.frame in
+pub returns-in-Ok-clause-works : goal.returns-in-Ok-clause-works
+returns-in-Ok-clause-works g c = let k = c.look.ensures in let s = c.start_io.ensures in let f = c.args.frame in
     works_on f c.args.seat.now.me.0 c.start_io.new.seat.me.0 c.read_in.new.seat.me.0 (works_on f c.args.seat.now.me.0 c.look.new.seat.me.0 c.start_io.new.seat.me.0 (works_marked f c.args.seat.now.me.0 c.look.new.seat.me.0 k.touches k.marks) (works_begun true f c.look.new.seat.me.0 c.start_io.new.seat.me.0 s.touches c.in-Some.ensures.marks))
     (subst (λ (x : ℕ). WorksAt x c.start_io.new.seat.me.0 c.read_in.new.seat.me.0) c.in-Some.ensures.right.0 c.read_in.ensures.works)
 
-pub returns-clause-latches : goal.returns-clause-latches
-returns-clause-latches g c = latches_worked c.args.frame c.args.seat.now.me.0 c.read_in.new.seat.me.0 (returns-clause-works g c) c.requires.latches
+pub returns-in-Ok-clause-latches : goal.returns-in-Ok-clause-latches
+returns-in-Ok-clause-latches g c = latches_worked c.args.frame c.args.seat.now.me.0 c.read_in.new.seat.me.0 (returns-in-Ok-clause-works g c) c.requires.latches
 
-pub returns-clause-pinned : goal.returns-clause-pinned
-returns-clause-pinned g c = let f = c.args.frame in let tag = packed_tag c.args.tag.now in
-    pins_worked tag f c.args.held.now c.args.seat.now.me.0 c.read_in.new.seat.me.0 c.requires.pinned (returns-clause-works g c) (subst (λ (x : ℕ). IsRead tag (link c.read_in.new.seat.me.0 x)) c.in-Some.ensures.right.0 c.read_in.ensures.read)
+pub returns-in-Ok-clause-pinned : goal.returns-in-Ok-clause-pinned
+returns-in-Ok-clause-pinned g c = let f = c.args.frame in let tag = packed_tag c.args.tag.now in
+    pins_worked tag f c.args.held.now c.args.seat.now.me.0 c.read_in.new.seat.me.0 c.requires.pinned (returns-in-Ok-clause-works g c) (subst (λ (x : ℕ). IsRead tag (link c.read_in.new.seat.me.0 x)) c.in-Some.ensures.right.0 c.read_in.ensures.read)
+
+pub returns-in-Err-clause-unread : goal.returns-in-Err-clause-unread
+returns-in-Err-clause-unread g c = unread_since c.in-Err.why c.args.tag.now c.args.frame c.in-Some.right.frame c.args.seat.now.me.0 c.start_io.new.seat.me.0 c.read_in.new.seat.me.0 c.in-Some.ensures.right.0 (rises_on _ c.look.new.seat.me.0 _ (rises_touched c.args.frame c.args.seat.now.me.0 c.look.new.seat.me.0 c.look.ensures.touches) (rises_touched c.args.frame c.look.new.seat.me.0 c.start_io.new.seat.me.0 c.start_io.ensures.touches)) c.in-Err.ensures.unread

@@ -3,6 +3,9 @@ use Rattle.held_pins.specs.Rests.{LinksRestBeside}
 use Rattle.held_pins.proofs.Keeping.{beside_kept, stands_self}
 use Rattle.buffer_frames.specs.Working.{WorksAt}
 use Rattle.buffer_frames.proofs.WorkSteps.{headless, works_ended, works_marked, works_on}
+use Rattle.frame_table.proofs.Rising.{rises_on, rises_touched}
+use Rattle.buffer_frames.specs.declared.loading.LoadError.TheVariants.{ReadFault, Unsound}
+use Rattle.buffer_frames.proofs.Unread.{ends_unread}
 use Rattle.buffer_frames.proofs.loading.read_in.Goals as goal
 
 pub returns-then-not-read_lane-clause-stands : goal.returns-then-not-read_lane-clause-stands
@@ -40,3 +43,13 @@ returns-clause-works g c = let e = c.end_io-2.ensures in let f = c.frame-frame.r
     (subst (λ (x : ℕ). WorksAt x c.args.seat.now.me.0 c.put_page.new.seat.me.0) c.frame-frame.ensures (works_on f c.args.seat.now.me.0 c.read_lane.new.seat.me.0 c.put_page.new.seat.me.0 c.read_lane.ensures.works c.put_page.ensures.works))
     (works_ended _ c.args.right.frame c.put_page.new.seat.me.0 c.end_io-2.new.seat.me.0 e.touches e.marks.1))
     (subst (λ (x : ℕ). WorksAt x c.end_io-2.new.seat.me.0 c.see_page.new.seat.me.0) c.frame-frame.ensures c.see_page.ensures.works)
+
+pub returns-then-not-read_lane-clause-unread : goal.returns-then-not-read_lane-clause-unread
+returns-then-not-read_lane-clause-unread g c = let r = c.read_lane.ensures in
+    ends_unread ReadFault c.args.tag c.args.right.frame c.frame-frame.result c.args.seat.now.me.0 c.read_lane.new.seat.me.0 c.end_io.new.seat.me.0 c.frame-frame.ensures r.works.advances c.end_io.ensures.did r.reads.right r.reads.remembered (λ no. absurd (cc))
+
+pub returns-then-not-is_sound-clause-unread : goal.returns-then-not-is_sound-clause-unread
+returns-then-not-is_sound-clause-unread g c = let r = c.read_lane.ensures in let k = c.look.ensures in
+    ends_unread Unsound c.args.tag c.args.right.frame c.frame-frame.result c.args.seat.now.me.0 c.look.new.seat.me.0 c.end_io-then-not-is_sound.new.seat.me.0 c.frame-frame.ensures
+    (rises_on _ c.read_lane.new.seat.me.0 _ r.works.advances (rises_touched c.frame-frame.result c.read_lane.new.seat.me.0 c.look.new.seat.me.0 k.touches)) c.end_io-then-not-is_sound.ensures.did (k.link.io ∙ r.reads.right) (k.link.tag ∙ r.reads.remembered)
+    (λ is. record { page = c.read_lane.new.page; read = k.link.read ∙ c.if-not-read_lane.ensures.given; unsound = sym c.is_sound.ensures ∙ c.if-not-is_sound.true })

@@ -8,6 +8,8 @@ use Rattle.buffer_frames.specs.Hinting.{LeavesHint, TakesTurns}
 use Rattle.buffer_frames.proofs.Locating.{locates_given, locates_worked}
 use Rattle.buffer_frames.proofs.Outside.{grows_outside}
 use Rattle.buffer_frames.proofs.SameLocks.{same_locks_pins}
+use Rattle.buffer_frames.specs.declared.loading.LoadError.TheVariants.{ReadFault, Unsound}
+use Rattle.buffer_frames.proofs.Unread.{fails_read}
 use Rattle.buffer_frames.proofs.reading.read_block.Goals as goal
 
 pub returns-in-Err-ReadFault-clause-advances : goal.returns-in-Err-ReadFault-clause-advances
@@ -17,28 +19,28 @@ pub returns-in-Err-Unsound-clause-advances : goal.returns-in-Err-Unsound-clause-
 returns-in-Err-Unsound-clause-advances g c = let u = c.give_back-in-Err-Unsound in rises_on _ c.load.new.seat.me.0 _ (rises_on _ c.pin_block.new.seat.me.0 _ c.pin_block.ensures.advances c.load.ensures.works.advances) (grows_outside c.load.new.seat.me.0 u.new.seat.me.0 u.ensures.touches.grows u.ensures.same)
 
 pub returns-in-Ok-Hit-clause-calls : goal.returns-in-Ok-Hit-clause-calls
-returns-in-Ok-Hit-clause-calls g c = locates_worked _ c.args.tag.now _ _ _ _ _ c.in-Ok.pin.frame c.frame-frame.result _ c.args.seat.now.me.0 c.pin_block.new.seat.me.0 c.load.new.seat.me.0 c.frame-frame.ensures c.in-Ok.ensures.calls c.load.ensures.works (rw c.in-Ok-Hit.field-0-is at c.in-Ok-Hit.ensures.calls)
+returns-in-Ok-Hit-clause-calls g c = locates_worked _ _ c.args.tag.now _ _ _ _ _ c.in-Ok.pin.frame c.frame-frame.result _ c.args.seat.now.me.0 c.pin_block.new.seat.me.0 c.load.new.seat.me.0 c.frame-frame.ensures c.in-Ok.ensures.calls c.load.ensures.works (rw c.in-Ok-Hit.field-0-is at c.in-Ok-Hit.ensures.calls)
 
 pub returns-in-Ok-Read-clause-calls : goal.returns-in-Ok-Read-clause-calls
-returns-in-Ok-Read-clause-calls g c = locates_worked _ c.args.tag.now _ _ _ _ _ c.in-Ok.pin.frame c.frame-frame.result _ c.args.seat.now.me.0 c.pin_block.new.seat.me.0 c.load.new.seat.me.0 c.frame-frame.ensures c.in-Ok.ensures.calls c.load.ensures.works (rw c.in-Ok-Read.field-0-is at c.in-Ok-Read.ensures.calls)
+returns-in-Ok-Read-clause-calls g c = locates_worked _ _ c.args.tag.now _ _ _ _ _ c.in-Ok.pin.frame c.frame-frame.result _ c.args.seat.now.me.0 c.pin_block.new.seat.me.0 c.load.new.seat.me.0 c.frame-frame.ensures c.in-Ok.ensures.calls c.load.ensures.works (rw c.in-Ok-Read.field-0-is at c.in-Ok-Read.ensures.calls)
 
 pub returns-in-Err-ReadFault-clause-calls : goal.returns-in-Err-ReadFault-clause-calls
-returns-in-Err-ReadFault-clause-calls g c = let u = c.give_back in (c.in-Ok.pin.frame, locates_given _ c.args.tag.now _ _ _ _ _ c.in-Ok.pin.frame c.frame-frame.result _ c.args.seat.now.me.0 c.pin_block.new.seat.me.0 c.load.new.seat.me.0 u.new.seat.me.0 c.frame-frame.ensures c.in-Ok.ensures.calls c.load.ensures.works (rw c.in-Err-ReadFault.field-0-is at c.in-Err-ReadFault.ensures.calls) u.ensures.touches u.ensures.same)
+returns-in-Err-ReadFault-clause-calls g c = let u = c.give_back in (c.in-Ok.pin.frame, (locates_given _ _ c.args.tag.now _ _ _ _ _ c.in-Ok.pin.frame c.frame-frame.result _ c.args.seat.now.me.0 c.pin_block.new.seat.me.0 c.load.new.seat.me.0 u.new.seat.me.0 c.frame-frame.ensures c.in-Ok.ensures.calls c.load.ensures.works (rw c.in-Err-ReadFault.field-0-is at c.in-Err-ReadFault.ensures.calls) u.ensures.touches u.ensures.same, fails_read ReadFault c.args.tag.now c.in-Ok.pin.frame c.frame-frame.result c.args.seat.now.me.0 c.pin_block.new.seat.me.0 c.load.new.seat.me.0 u.new.seat.me.0 c.frame-frame.ensures c.pin_block.ensures.advances (rw c.in-Err-ReadFault.field-0-is at c.in-Err-ReadFault.ensures.unread) u.ensures.did u.ensures.same))
 
 pub returns-in-Err-Unsound-clause-calls : goal.returns-in-Err-Unsound-clause-calls
-returns-in-Err-Unsound-clause-calls g c = let u = c.give_back-in-Err-Unsound in (c.in-Ok.pin.frame, locates_given _ c.args.tag.now _ _ _ _ _ c.in-Ok.pin.frame c.frame-frame.result _ c.args.seat.now.me.0 c.pin_block.new.seat.me.0 c.load.new.seat.me.0 u.new.seat.me.0 c.frame-frame.ensures c.in-Ok.ensures.calls c.load.ensures.works (rw c.in-Err-Unsound.field-0-is at c.in-Err-Unsound.ensures.calls) u.ensures.touches u.ensures.same)
+returns-in-Err-Unsound-clause-calls g c = let u = c.give_back-in-Err-Unsound in (c.in-Ok.pin.frame, (locates_given _ _ c.args.tag.now _ _ _ _ _ c.in-Ok.pin.frame c.frame-frame.result _ c.args.seat.now.me.0 c.pin_block.new.seat.me.0 c.load.new.seat.me.0 u.new.seat.me.0 c.frame-frame.ensures c.in-Ok.ensures.calls c.load.ensures.works (rw c.in-Err-Unsound.field-0-is at c.in-Err-Unsound.ensures.calls) u.ensures.touches u.ensures.same, fails_read Unsound c.args.tag.now c.in-Ok.pin.frame c.frame-frame.result c.args.seat.now.me.0 c.pin_block.new.seat.me.0 c.load.new.seat.me.0 u.new.seat.me.0 c.frame-frame.ensures c.pin_block.ensures.advances (rw c.in-Err-Unsound.field-0-is at c.in-Err-Unsound.ensures.unread) u.ensures.did u.ensures.same))
 
 pub returns-in-Ok-Hit-clause-locks : goal.returns-in-Ok-Hit-clause-locks
-returns-in-Ok-Hit-clause-locks g c = same_locks_on c.args.seat.now.me.0 c.pin_block.new.seat.me.0 c.load.new.seat.me.0 c.pin_block.ensures.locks (same_locks_pins c.args.held.now (packed_tag c.args.tag.now) c.in-Ok.pin.frame c.frame-frame.result c.pin_block.new.seat.me.0 c.load.new.seat.me.0 c.frame-frame.ensures c.load.ensures.works c.in-Ok.ensures.answer.1 c.load.ensures.pinned)
+returns-in-Ok-Hit-clause-locks g c = same_locks_on c.args.seat.now.me.0 c.pin_block.new.seat.me.0 c.load.new.seat.me.0 c.pin_block.ensures.locks (same_locks_pins c.args.held.now (packed_tag c.args.tag.now) c.in-Ok.pin.frame c.frame-frame.result c.pin_block.new.seat.me.0 c.load.new.seat.me.0 c.frame-frame.ensures c.load.ensures.works c.in-Ok.ensures.pinned.1 c.load.ensures.pinned)
 
 pub returns-in-Ok-Read-clause-locks : goal.returns-in-Ok-Read-clause-locks
-returns-in-Ok-Read-clause-locks g c = same_locks_on c.args.seat.now.me.0 c.pin_block.new.seat.me.0 c.load.new.seat.me.0 c.pin_block.ensures.locks (same_locks_pins c.args.held.now (packed_tag c.args.tag.now) c.in-Ok.pin.frame c.frame-frame.result c.pin_block.new.seat.me.0 c.load.new.seat.me.0 c.frame-frame.ensures c.load.ensures.works c.in-Ok.ensures.answer.1 c.load.ensures.pinned)
+returns-in-Ok-Read-clause-locks g c = same_locks_on c.args.seat.now.me.0 c.pin_block.new.seat.me.0 c.load.new.seat.me.0 c.pin_block.ensures.locks (same_locks_pins c.args.held.now (packed_tag c.args.tag.now) c.in-Ok.pin.frame c.frame-frame.result c.pin_block.new.seat.me.0 c.load.new.seat.me.0 c.frame-frame.ensures c.load.ensures.works c.in-Ok.ensures.pinned.1 c.load.ensures.pinned)
 
 pub returns-in-Err-ReadFault-clause-locks : goal.returns-in-Err-ReadFault-clause-locks
-returns-in-Err-ReadFault-clause-locks g c = same_locks_on c.args.seat.now.me.0 c.load.new.seat.me.0 c.give_back.new.seat.me.0 (same_locks_on c.args.seat.now.me.0 c.pin_block.new.seat.me.0 c.load.new.seat.me.0 c.pin_block.ensures.locks (same_locks_pins c.args.held.now (packed_tag c.args.tag.now) c.in-Ok.pin.frame c.frame-frame.result c.pin_block.new.seat.me.0 c.load.new.seat.me.0 c.frame-frame.ensures c.load.ensures.works c.in-Ok.ensures.answer.1 c.load.ensures.pinned)) c.give_back.ensures.locks
+returns-in-Err-ReadFault-clause-locks g c = same_locks_on c.args.seat.now.me.0 c.load.new.seat.me.0 c.give_back.new.seat.me.0 (same_locks_on c.args.seat.now.me.0 c.pin_block.new.seat.me.0 c.load.new.seat.me.0 c.pin_block.ensures.locks (same_locks_pins c.args.held.now (packed_tag c.args.tag.now) c.in-Ok.pin.frame c.frame-frame.result c.pin_block.new.seat.me.0 c.load.new.seat.me.0 c.frame-frame.ensures c.load.ensures.works c.in-Ok.ensures.pinned.1 c.load.ensures.pinned)) c.give_back.ensures.locks
 
 pub returns-in-Err-Unsound-clause-locks : goal.returns-in-Err-Unsound-clause-locks
-returns-in-Err-Unsound-clause-locks g c = same_locks_on c.args.seat.now.me.0 c.load.new.seat.me.0 c.give_back-in-Err-Unsound.new.seat.me.0 (same_locks_on c.args.seat.now.me.0 c.pin_block.new.seat.me.0 c.load.new.seat.me.0 c.pin_block.ensures.locks (same_locks_pins c.args.held.now (packed_tag c.args.tag.now) c.in-Ok.pin.frame c.frame-frame.result c.pin_block.new.seat.me.0 c.load.new.seat.me.0 c.frame-frame.ensures c.load.ensures.works c.in-Ok.ensures.answer.1 c.load.ensures.pinned)) c.give_back-in-Err-Unsound.ensures.locks
+returns-in-Err-Unsound-clause-locks g c = same_locks_on c.args.seat.now.me.0 c.load.new.seat.me.0 c.give_back-in-Err-Unsound.new.seat.me.0 (same_locks_on c.args.seat.now.me.0 c.pin_block.new.seat.me.0 c.load.new.seat.me.0 c.pin_block.ensures.locks (same_locks_pins c.args.held.now (packed_tag c.args.tag.now) c.in-Ok.pin.frame c.frame-frame.result c.pin_block.new.seat.me.0 c.load.new.seat.me.0 c.frame-frame.ensures c.load.ensures.works c.in-Ok.ensures.pinned.1 c.load.ensures.pinned)) c.give_back-in-Err-Unsound.ensures.locks
 
 pub returns-in-Ok-Read-clause-advances : goal.returns-in-Ok-Read-clause-advances
 returns-in-Ok-Read-clause-advances g c = rises_on _ c.pin_block.new.seat.me.0 _ c.pin_block.ensures.advances c.load.ensures.works.advances
@@ -66,3 +68,9 @@ returns-in-Err-ReadFault-clause-hints g c = (c.in-Ok.pin.frame, subst (LeavesHin
 
 pub returns-in-Err-Unsound-clause-hints : goal.returns-in-Err-Unsound-clause-hints
 returns-in-Err-Unsound-clause-hints g c = (c.in-Ok.pin.frame, subst (LeavesHint (frames_of c.args.table.now) c.args.tag.now c.in-Ok.pin.frame c.pin_block.new.sought.hint c.args.seat.now.me.0.hints) (sym (ap (λ (x : View). x.hints) c.give_back-in-Err-Unsound.ensures.same ∙ ap (λ (x : View). x.hints) c.load.ensures.works.kept)) c.in-Ok.ensures.hints)
+
+pub returns-in-Err-ReadFault-clause-census : goal.returns-in-Err-ReadFault-clause-census
+returns-in-Err-ReadFault-clause-census g c = c.in-Ok.ensures.census
+
+pub returns-in-Err-Unsound-clause-census : goal.returns-in-Err-Unsound-clause-census
+returns-in-Err-Unsound-clause-census g c = c.in-Ok.ensures.census

@@ -1,14 +1,38 @@
-use Rattle.std.proofs.Common.{◌∙◌, Bool, ap, subst, arith}
+use Rattle.std.proofs.Common.{◌∙◌, [], Bool, ap, refl, subst, arith}
 use Rattle.frame_table.specs.Seats.{frames_of}
 use Rattle.clock_sweep.specs.FreeFrames.{QueueState}
-use Rattle.buffer_frames.specs.Reads.{PinsAndStores}
-use Rattle.frame_table.proofs.Rising.{rises_on}
+use Rattle.buffer_frames.specs.Bringing.{EntersAndStores}
+use Rattle.buffer_frames.specs.VictimChoices.{choice_state, none_tried, one_more}
+use Rattle.buffer_frames.specs.Working.{IsFlushCall}
+use Rattle.frame_table.proofs.Rising.{rises_none, rises_on}
 use Rattle.frame_table.proofs.SameSeats.{same_seat_on}
 use Rattle.held_pins.proofs.Keeping.{same_locks_on}
-use Rattle.buffer_frames.proofs.Locating.{stores_since}
-use Rattle.buffer_frames.proofs.Noting.{calls_by, calls_on, refused_from}
+use Rattle.buffer_frames.proofs.Noting.{calls_by, calls_none, calls_on}
+use Rattle.buffer_frames.proofs.Trying.{refused_after, taken_then}
 use Rattle.buffer_frames.proofs.Outside.{grows_searched, kept_searched, met_searched}
 use Rattle.buffer_frames.proofs.victims.claim.Goals as goal
+
+pub loop-init : goal.loop-init
+loop-init g c = record {
+  seat = record { table = refl; id = refl; hand = refl };
+  stands = c.requires.stands;
+  queue = c.requires.queue;
+  lasts = refl;
+  unpushed = refl;
+  rests = c.requires.rests;
+  latches = c.requires.latches;
+  room = c.requires.census;
+  ring = refl;
+  kept = refl;
+  advances = rises_none c.args.seat.now.me.0;
+  locks = λ f. refl;
+  met = refl;
+  calls = calls_none IsFlushCall c.args.seat.now.me.0 c.args.seat.now.me.0 refl;
+  counted = c.requires.counted;
+  turns = (omega arith);
+  hints = refl;
+  tries = none_tried;
+}
 
 pub returns-in-Some-enter_or_pin-clause-calls : goal.returns-in-Some-enter_or_pin-clause-calls
 returns-in-Some-enter_or_pin-clause-calls g c = calls_on _ _ c.make_victim.new.seat.me.0 _ (calls_on _ _ c.loop.seat.me.0 _ c.loop.invariant.calls c.make_victim.ensures.calls) (calls_by _ c.make_victim.new.seat.me.0 c.enter_or_pin.new.seat.me.0 c.enter_or_pin.ensures.same)
@@ -32,11 +56,14 @@ loop-preserved-in_default g c = let i = c.loop.invariant in let m = c.make_victi
   hints = c.in_default.ensures.hints ∙ m.hints ∙ i.hints;
   met = met_searched c.make_victim.new.seat.me.0 c.enter_or_pin.new.seat.me.0 e.same ∙ c.in-Ready.ensures.met ∙ i.met;
   calls = calls_on _ _ c.make_victim.new.seat.me.0 _ (calls_on _ _ c.loop.seat.me.0 _ i.calls m.calls) (calls_by _ c.make_victim.new.seat.me.0 c.enter_or_pin.new.seat.me.0 e.same);
+  tries = taken_then {L = g.row.L.Denot} {G = g.row.G.Denot} g.L.BlockLane.contents c.args.table.now c.in-Ready.victim.frame c.args.seat.now.me.0 c.loop.seat.me.0 c.make_victim.new.seat.me.0 c.enter_or_pin.new.seat.me.0 _ _ c.make_victim.new.queue c.enter_or_pin.new.queue c.make_victim.new.ring c.make_victim.new.census c.in_default.ensures.unpushed i.tries c.in-Ready.ensures.answer.2 c.in_default.ensures.gave_up;
 }
 
 pub returns-in-Refused-clause-answer : goal.returns-in-Refused-clause-answer
-returns-in-Refused-clause-answer g c = let a = c.in-Refused.ensures.answer in
-    (a.0, refused_from _ _ c.args.held.now _ c.args.seat.now.me.0 c.loop.seat.me.0 c.make_victim.new.seat.me.0 c.in-Refused.why c.requires.rests c.loop.invariant.rests c.loop.invariant.advances a.1)
+returns-in-Refused-clause-answer g c = refused_after {L = g.row.L.Denot} {G = g.row.G.Denot} g.L.BlockLane.contents c.args.table.now c.args.held.now c.args.seat.now.me.0 c.loop.seat.me.0 c.args.seat.now.me.0 c.make_victim.new.seat.me.0 _ _ _ c.in-Refused.why c.requires.rests c.loop.invariant.rests c.loop.invariant.advances c.loop.invariant.tries c.in-Refused.ensures.answer.1
+
+pub returns-in-Refused-clause-pinned : goal.returns-in-Refused-clause-pinned
+returns-in-Refused-clause-pinned g c = c.in-Refused.ensures.answer.0
 
 pub returns-in-Some-enter_or_pin-clause-locks : goal.returns-in-Some-enter_or_pin-clause-locks
 returns-in-Some-enter_or_pin-clause-locks g c = same_locks_on c.args.seat.now.me.0 c.make_victim.new.seat.me.0 c.enter_or_pin.new.seat.me.0 (same_locks_on c.args.seat.now.me.0 c.loop.seat.me.0 c.make_victim.new.seat.me.0 c.loop.invariant.locks c.make_victim.ensures.locks) c.enter_or_pin.ensures.locks
@@ -57,7 +84,7 @@ loop-preserved g c = let i = c.loop.invariant in let m = c.make_victim.ensures i
   queue = m.queue;
   lasts = m.lasts ∙ i.lasts;
   unpushed = m.unpushed ∙ i.unpushed;
-  rests = c.in-Again.ensures.answer;
+  rests = c.in-Again.ensures.answer.0;
   latches = m.latches;
   counted = m.counted;
   turns = (let a = i.turns in let b = m.turns in omega arith);
@@ -69,11 +96,22 @@ loop-preserved g c = let i = c.loop.invariant in let m = c.make_victim.ensures i
   locks = same_locks_on c.args.seat.now.me.0 c.loop.seat.me.0 c.make_victim.new.seat.me.0 i.locks m.locks;
   met = c.in-Again.ensures.met ∙ i.met;
   calls = calls_on _ _ c.loop.seat.me.0 _ i.calls m.calls;
+  tries = one_more c.in-Again.ensures.answer.1.0 i.tries c.in-Again.ensures.answer.1.1;
 }
 
-pub returns-in-Some-enter_or_pin-clause-stored : goal.returns-in-Some-enter_or_pin-clause-stored
-returns-in-Some-enter_or_pin-clause-stored g c = subst (λ (b : Bool). PinsAndStores (frames_of c.args.table.now) c.args.tag c.args.held.now b c.in-Some-enter_or_pin.pin.frame c.args.seat.now.me.0 c.args.queue.now c.enter_or_pin.new.seat.me.0 c.enter_or_pin.new.queue) c.is_some-ringed.ensures
-    (stores_since _ _ _ _ _ _ c.make_victim.new.seat.me.0 _ _ c.make_victim.new.queue _ (rises_on _ c.loop.seat.me.0 _ c.loop.invariant.advances c.make_victim.ensures.advances) (c.make_victim.ensures.unpushed ∙ c.loop.invariant.unpushed) c.in-Some-enter_or_pin.ensures.stored)
+pub returns-in-Some-enter_or_pin-clause-answer : goal.returns-in-Some-enter_or_pin-clause-answer
+returns-in-Some-enter_or_pin-clause-answer g c = record {
+  start = c.loop.seat.me.0;
+  by = choice_state c.loop.queue c.loop.ring c.loop.census;
+  tries = c.loop.invariant.tries;
+  victim = c.in-Ready.victim.frame;
+  chosen = c.make_victim.new.seat.me.0;
+  popped = c.make_victim.new.queue;
+  empties = c.in-Ready.ensures.answer.2;
+  before = rises_on _ c.loop.seat.me.0 _ c.loop.invariant.advances c.make_victim.ensures.advances;
+  unpushed = c.make_victim.ensures.unpushed ∙ c.loop.invariant.unpushed;
+  enters = subst (λ (b : Bool). EntersAndStores (frames_of c.args.table.now) c.args.tag c.args.held.now b c.in-Ready.victim.frame c.in-Some-enter_or_pin.pin.frame [] c.make_victim.new.seat.me.0 c.make_victim.new.queue c.enter_or_pin.new.seat.me.0 c.enter_or_pin.new.queue) c.is_some-ringed.ensures c.in-Some-enter_or_pin.ensures.stored;
+}
 
 pub returns-in-Refused-clause-unpushed : goal.returns-in-Refused-clause-unpushed
 returns-in-Refused-clause-unpushed g c = c.make_victim.ensures.unpushed ∙ c.loop.invariant.unpushed

@@ -5,6 +5,7 @@ use Rattle.buffer_frames.specs.Outside.{kept_by_block_reads, ring_shape, shown_c
 use Rattle.clock_sweep.specs.FreeFrames.{SameQueue}
 use Rattle.clock_sweep.specs.FreeLists.{IsFreeList}
 use Rattle.buffer_frames.specs.Bringing.{PushesNone}
+use Rattle.buffer_frames.specs.VictimChoices.{GivesVictimsUp, choice_state}
 use Rattle.buffer_frames.specs.Working.{Calls, IsFlushCall}
 use Rattle.buffer_frames.proofs.victims.claim.Given as goal
 
@@ -27,4 +28,5 @@ invariant-loop g l = record {
   counted : l.turns ≡ shown_count l.seat.me.0.turns;
   turns : l.fn.seat.me.0.turns ≤ l.seat.me.0.turns;
   hints : l.seat.me.0.hints ≡ l.fn.seat.me.0.hints;
+  tries : GivesVictimsUp {L = g.row.L.Denot} {G = g.row.G.Denot} g.L.BlockLane.contents l.fn.table l.fn.seat.me.0 (choice_state l.fn.queue l.fn.ring l.fn.census) l.seat.me.0 (choice_state l.queue l.ring l.census);
 }

@@ -3,7 +3,8 @@ use Rattle.pin_core.specs.declared.view.Link.{Link}
 use Rattle.pin_core.specs.declared.view.Role.TheVariants.{Absent, Victim}
 use Rattle.pin_core.specs.State.{link}
 use Rattle.frame_table.specs.Seats.{Looked, MayUnpin, Touches, unpinned_link}
-use Rattle.frame_table.proofs.Rising.{rises_none, rises_on, rises_touched}
+use Rattle.frame_table.proofs.Rising.{rises_none}
+use Rattle.cleanup_lock.specs.Waking.{Woken}
 use Rattle.held_pins.proofs.Keeping.{beside_kept, stands_self}
 use Rattle.buffer_frames.proofs.Calm.{victim_unpinned}
 use Rattle.buffer_frames.proofs.Heading.{headless_victim}
@@ -58,7 +59,7 @@ returns-clause-rests g c =
     victim_unpinned c.args.held.now c.args.frame c.flush_seen-answer.new.seat.me.0 c.unpin_and_wake.new.seat.me.0 victim k.others (subst (λ (h : ℕ). Looked (unpinned_link (link c.flush_seen-answer.new.seat.me.0 h)) (link c.unpin_and_wake.new.seat.me.0 h)) c.victim_pin-pin.ensures.pin c.unpin_and_wake.ensures.unpinned)
 
 pub returns-clause-pins : goal.returns-clause-pins
-returns-clause-pins g c = let k = subst (λ (h : ℕ). Touches h c.flush_seen-answer.new.seat.me.0 c.unpin_and_wake.new.seat.me.0) c.victim_pin-pin.ensures.pin c.unpin_and_wake.ensures.touches in pinned_anew c.args.seat.now.me.0 c.victim_pin-pin.new.seat.me.0 (rises_none c.args.seat.now.me.0) c.victim_pin-pin.ensures.did (rises_on c.victim_pin-pin.new.seat.me.0 c.flush_seen-answer.new.seat.me.0 c.unpin_and_wake.new.seat.me.0 c.flush_seen-answer.ensures.flushes.works.advances (rises_touched c.args.frame c.flush_seen-answer.new.seat.me.0 c.unpin_and_wake.new.seat.me.0 k))
+returns-clause-pins g c = pinned_anew c.args.seat.now.me.0 c.victim_pin-pin.new.seat.me.0 c.flush_seen-answer.new.seat.me.0 (rises_none c.args.seat.now.me.0) c.victim_pin-pin.ensures.did c.flush_seen-answer.ensures.flushes.works.advances (subst (λ (h : ℕ). Woken h c.flush_seen-answer.new.seat.me.0 c.unpin_and_wake.new.seat.me.0) c.victim_pin-pin.ensures.pin c.unpin_and_wake.ensures.did)
 
 pub returns-clause-flushes : goal.returns-clause-flushes
 returns-clause-flushes g c =

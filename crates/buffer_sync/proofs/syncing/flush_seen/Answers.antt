@@ -2,12 +2,11 @@ use Rattle.std.proofs.Common.{◌∙◌, Result, sym, ap, subst}
 use Rattle.pin_core.specs.declared.view.Link.{Link}
 use Rattle.pin_core.specs.State.{link}
 use Rattle.frame_table.proofs.Seeing.{sees_valid}
-use Rattle.frame_table.proofs.Told.{touches_on}
 use Rattle.held_pins.proofs.Keeping.{beside_kept, stands_self}
-use Rattle.buffer_frames.proofs.Notes.{notes_by, notes_looked, notes_on}
+use Rattle.buffer_frames.proofs.Notes.{notes_by, notes_looked}
 use Rattle.buffer_frames.specs.declared.flushing.FrameFlushError.{FrameFlushError}
 use Rattle.buffer_sync.specs.declared.syncing.Synced.{Synced}
-use Rattle.buffer_sync.specs.Syncs.{FlushesPinned, by_pin}
+use Rattle.buffer_sync.specs.Syncs.{FlushesPinned, LoadsTag, by_pin}
 use Rattle.buffer_sync.proofs.Passing.{flushes_clean, flushes_flushed, flushes_on, left_flushed, left_looked, pinned_read}
 use Rattle.buffer_sync.proofs.syncing.flush_seen.Goals as goal
 
@@ -53,10 +52,9 @@ returns-clause-flushes g c =
     let u = c.look.new.seat.me.0 in
     let x = c.tag_shown-tag.new.seat.me.0 in
     let w = c.flush_pinned-flushed.new.seat.me.0 in
-    let k = touches_on c.args.frame v u x c.look.ensures.touches e.touches in
-    let n = notes_on (link v c.args.frame) (link u c.args.frame) (link x c.args.frame) (notes_looked (link v c.args.frame) (link u c.args.frame) c.look.ensures.link) (notes_by (link u c.args.frame) (link x c.args.frame) (ap (λ (l : Link). l.visited) e.read) (ap (λ (l : Link). l.left_to_write) e.read)) in
+    let notes_loaded = notes_by (link u c.args.frame) (link x c.args.frame) (ap (λ (l : Link). l.visited) e.read) (ap (λ (l : Link). l.left_to_write) e.read) in
     let l = left_looked (link v c.args.frame) (link u c.args.frame) c.look.ensures.link c.requires.calm c.requires.unlocked in
-    let has = e.remembered (λ none. c.requires.pinned (sym l.role ∙ none)) in
-    let one = flushes_flushed {L = g.row.L.Denot} {G = g.row.G.Denot} g.L.BlockLane.contents c.args.table.now c.args.frame c.tag_shown-tag.result x w c.flush_pinned-flushed.result e.named e.listed has f.works f.notes f.answer f.met f.ended f.written in
+    let loads : LoadsTag c.args.frame c.tag_shown-tag.result u x = record { pinned = λ none. c.requires.pinned (sym l.role ∙ none); loads = e.did } in
+    let one = flushes_flushed {L = g.row.L.Denot} {G = g.row.G.Denot} g.L.BlockLane.contents c.args.table.now c.args.frame c.tag_shown-tag.result u x w c.flush_pinned-flushed.result e.named e.listed loads e.touches e.marks notes_loaded f.works f.notes f.answer f.met f.ended f.written in
     subst (λ (r : Result Synced FrameFlushError). FlushesPinned {L = g.row.L.Denot} {G = g.row.G.Denot} g.L.BlockLane.contents c.args.table.now c.args.frame v w r) (sym c.synced_by.ensures)
-    (flushes_on {L = g.row.L.Denot} {G = g.row.G.Denot} g.L.BlockLane.contents c.args.table.now c.args.frame v x w _ k (e.marks ∙ c.look.ensures.marks) n one)
+    (flushes_on {L = g.row.L.Denot} {G = g.row.G.Denot} g.L.BlockLane.contents c.args.table.now c.args.frame v u w _ c.look.ensures.touches c.look.ensures.marks (notes_looked (link v c.args.frame) (link u c.args.frame) c.look.ensures.link) one)

@@ -4,7 +4,7 @@ use Rattle.frame_table.specs.Seats.{frames_of}
 use Rattle.backend_pass.specs.Passes.{PassState}
 use Rattle.checkpointer.specs.Marked.{AreMarked}
 use Rattle.checkpointer.proofs.Keeping.{marks_as, marks_needed, marks_on}
-use Rattle.checkpointer.proofs.MarkedFrames.{marked_clean, noted_inside, noted_marked}
+use Rattle.checkpointer.proofs.MarkedFrames.{marked_clean, noted_clean, noted_dirty, noted_inside, noted_marked}
 use Rattle.checkpointer.proofs.marking.mark_frame.Goals as goal
 
 pub returns-in_default-clause-marks : goal.returns-in_default-clause-marks
@@ -33,3 +33,9 @@ returns-clause-inside g c = let n = c.need_checkpoint.ensures in noted_inside c.
 pub returns-clause-others : goal.returns-clause-others
 returns-clause-others g c =
     subst (λ (p : PassState). (h : ℕ) → h ≢ c.args.frame → link p.view h ≡ link c.args.pass.now.view h) (sym c.note_marked.ensures) c.need_checkpoint.ensures.touches.others
+
+pub returns-in_default-clause-notes : goal.returns-in_default-clause-notes
+returns-in_default-clause-notes g c v notes = noted_clean c.args.frame v c.args.pass.now c.need_checkpoint.new.self c.need_checkpoint.ensures.marked c.in_default.ensures.clean c.need_checkpoint.ensures.touches.lists notes
+
+pub returns-clause-notes : goal.returns-clause-notes
+returns-clause-notes g c v notes = noted_dirty v c.args.pass.now c.need_checkpoint.new.self c.note_marked.new.self _ _ c.note_marked.ensures c.need_checkpoint.ensures.marked (c.pack.ensures.exact c.in-Some.ensures.named) c.in-Some.ensures.noted notes

@@ -1,6 +1,6 @@
 use Rattle.std.proofs.Common.{◌≤◌, length}
 use Rattle.frame_table.specs.Seats.{frames_of}
-use Rattle.checkpointer.specs.Marked.{AreInside, AreMarked, HasVisited}
+use Rattle.checkpointer.specs.Marked.{AreInside, AreMarked, HasVisited, NotesInOrder}
 use Rattle.checkpointer.specs.Stages.{MarksFrames}
 use Rattle.checkpointer.proofs.marking.mark_frames.Given as goal
 
@@ -11,4 +11,5 @@ invariant-loop-frame g l = record {
   marked : AreMarked l.pass.marked l.pass.view;
   inside : AreInside (frames_of l.manager.table) l.pass.marked;
   room : length l.pass.marked ≤ l.frame;
+  notes : NotesInOrder l.fn.pass.view l.frame l.pass.view l.pass.marked;
 }

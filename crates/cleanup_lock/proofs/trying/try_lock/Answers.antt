@@ -3,6 +3,7 @@ use Rattle.pin_core.specs.declared.view.Link.{Link}
 use Rattle.pin_core.specs.State.{link}
 use Rattle.frame_table.specs.Seats.{Looked}
 use Rattle.frame_table.proofs.Told.{touches_on}
+use Rattle.content_locks.proofs.Locking.{locks_waiting}
 use Rattle.cleanup_lock.proofs.Cleaning.{alone_at, bare, relocked}
 use Rattle.cleanup_lock.proofs.trying.try_lock.Goals as goal
 
@@ -24,5 +25,5 @@ returns-else-pins-eq1-clause-left g c =
     let v = c.args.seat.now.me.0 in
     let f = c.args.frame in
     let none = c.requires.view.lock.none in
-    relocked (link v f) (link c.look-word.new.seat.me.0 f) (link c.unexclusive.new.seat.me.0 f) none (bare f v c.try_exclusive.new.seat.me.0 c.in-Ok.ensures.did none)
+    relocked (link v f) (link c.look-word.new.seat.me.0 f) (link c.unexclusive.new.seat.me.0 f) none (bare f v c.try_exclusive.new.seat.me.0 (locks_waiting _ _ _ _ c.in-Ok.ensures.did) none)
     (subst (λ (l : Link). Looked l (link c.look-word.new.seat.me.0 f)) c.in-Ok.ensures.exclusive c.look-word.ensures.link) c.unexclusive.ensures.unexclusive

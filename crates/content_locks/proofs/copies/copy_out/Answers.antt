@@ -31,3 +31,6 @@ returns-clause-marks g c = (c.leave_copy.ensures.marks ∙ c.copy_page-2.ensures
 
 pub returns-then-is_exclusive-clause-marks : goal.returns-then-is_exclusive-clause-marks
 returns-then-is_exclusive-clause-marks g c = c.copy_page.ensures.marks ∙ c.look_content.ensures.marks
+
+pub returns-then-is_exclusive-clause-touches : goal.returns-then-is_exclusive-clause-touches
+returns-then-is_exclusive-clause-touches g c = touches_on _ _ _ _ c.look_content.ensures.touches c.copy_page.ensures.touches

@@ -1,5 +1,6 @@
 use Rattle.std.proofs.Common.{ap, ◌∙◌}
 use Rattle.pin_core.specs.declared.view.Link.{Link}
+use Rattle.frame_table.proofs.Told.{touches_on}
 use Rattle.content_locks.proofs.Locking.{may_return, copied_back, copy_sound}
 use Rattle.content_locks.proofs.copies.copy_page.Goals as goal
 
@@ -14,3 +15,6 @@ returns-clause-marks g c = c.page_back.ensures.marks ∙ c.page_out-out.ensures.
 
 pub returns-clause-sound : goal.returns-clause-sound
 returns-clause-sound g c = let o = c.page_out-out.ensures in rw c.copy_from.ensures (copy_sound _ o.did.0 _ _ _ o.did.1 c.requires.view.right (ap (λ (l : Link). l.out) o.out))
+
+pub returns-clause-touches : goal.returns-clause-touches
+returns-clause-touches g c = touches_on _ _ _ _ c.page_out-out.ensures.touches c.page_back.ensures.touches

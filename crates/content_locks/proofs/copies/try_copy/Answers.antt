@@ -20,3 +20,6 @@ returns-in-Err-clause-marks g c = c.take_copy.ensures.marks ∙ c.look_content-w
 
 pub returns-in-Ok-clause-marks : goal.returns-in-Ok-clause-marks
 returns-in-Ok-clause-marks g c = c.take_copy.ensures.marks ∙ c.look_content-was.ensures.marks
+
+pub returns-in-Ok-clause-touches : goal.returns-in-Ok-clause-touches
+returns-in-Ok-clause-touches g c = touches_on _ _ _ _ c.look_content-was.ensures.touches c.take_copy.ensures.touches

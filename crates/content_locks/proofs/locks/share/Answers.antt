@@ -4,7 +4,7 @@ use Rattle.page_core.specs.Kinds.{share}
 use Rattle.frame_table.proofs.Told.{touches_on}
 use Rattle.frame_table.specs.Content.{CanLock, shared_link}
 use Rattle.content_locks.specs.Locks.{still}
-use Rattle.content_locks.proofs.Locking.{looks_marks, looks_touch, looks_link, looks_on, refused_looks, locks_on}
+use Rattle.content_locks.proofs.Locking.{looks_marks, looks_touch, looks_link, looks_on, refused_looks, locks_on, locks_waiting}
 use Rattle.content_locks.proofs.locks.share.Goals as goal
 
 pub loop-init : goal.loop-init
@@ -23,7 +23,7 @@ pub returns-in-Ok-clause-shared : goal.returns-in-Ok-clause-shared
 returns-in-Ok-clause-shared g c = c.in-Ok.ensures.shared ∙ ap shared_link (looks_link _ _ _ c.loop.invariant.looked)
 
 pub returns-in-Ok-clause-did : goal.returns-in-Ok-clause-did
-returns-in-Ok-clause-did g c = locks_on share _ _ _ _ c.loop.invariant.looked c.in-Ok.ensures.did
+returns-in-Ok-clause-did g c = locks_on share _ _ _ _ c.loop.invariant.looked (locks_waiting _ _ _ _ c.in-Ok.ensures.did)
 
 pub loop-preserved : goal.loop-preserved
 loop-preserved g c = let a = c.loop.invariant.seat in let b = c.try_share.ensures.seat in record {

@@ -1,10 +1,9 @@
 use Rattle.std.proofs.Common.{◌∙◌}
 use Rattle.frame_table.proofs.Told.{touches_on}
-use Rattle.content_locks.specs.Locks.{still, again}
 use Rattle.content_locks.proofs.locks.try_share.Goals as goal
 
 pub returns-in-Ok-clause-did : goal.returns-in-Ok-clause-did
-returns-in-Ok-clause-did g c = (c.look_content-was.new.seat.me.0, c.look_content-was.result, again _ still c.look_content-was.ensures.did, c.in-Ok.ensures.did)
+returns-in-Ok-clause-did g c = (c.look_content-was.new.seat.me.0, c.look_content-was.result, c.look_content-was.ensures.did, c.in-Ok.ensures.did)
 
 pub returns-in-Err-clause-touches : goal.returns-in-Err-clause-touches
 returns-in-Err-clause-touches g c = touches_on _ _ _ _ c.look_content-was.ensures.touches c.add_share.ensures.touches
@@ -14,3 +13,6 @@ returns-in-Err-clause-marks g c = c.add_share.ensures.marks ∙ c.look_content-w
 
 pub returns-in-Ok-clause-marks : goal.returns-in-Ok-clause-marks
 returns-in-Ok-clause-marks g c = c.add_share.ensures.marks ∙ c.look_content-was.ensures.marks
+
+pub returns-in-Ok-clause-touches : goal.returns-in-Ok-clause-touches
+returns-in-Ok-clause-touches g c = touches_on _ _ _ _ c.look_content-was.ensures.touches c.add_share.ensures.touches

@@ -10,4 +10,4 @@ returns-in-Ok g c =
 pub returns : goal.returns
 returns g c =
     let e = c.in-Err.ensures in
-    rests_stood _ _ _ c.requires.none e.stands (rests_refused _ _ _ _ _ _ _ c.in-Err._why e.answer) e.latches
+    rests_stood _ _ _ c.requires.none e.stands (rests_refused _ _ _ _ c.args.seat.now.me.0 c.read_block.new.seat.me.0 c.in-Err._why e.answer) e.latches

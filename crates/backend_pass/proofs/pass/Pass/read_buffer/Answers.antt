@@ -1,5 +1,4 @@
 use Rattle.std.proofs.Common.{◌≡◌, ◌∙◌, ℕ, inl, Ok, true, ap, refl, sym, subst, ◌<◌, arith}
-use Rattle.std.specs.Prelude.{is_some}
 use Rattle.held_pins.specs.Tokens.{IsNew, IsPinnedFor, Tokens, count_of, tokens_more}
 use Rattle.held_pins.specs.Rests.{OnlyTokens, SameLocks}
 use Rattle.buffer_frames.specs.declared.hinting.HintSeen.TheVariants.{Unused}
@@ -21,9 +20,9 @@ use Rattle.backend_pass.proofs.pass.Pass.read_buffer.Given.{Over}
 use Rattle.backend_pass.proofs.pass.Pass.read_buffer.Goals as goal
 
 -- what the look-up tells of the pass as the call found it
-reads : (g : Over) (c : goal.After-read_new g) → ReadsBlock {L = g.row.L.Denot} {G = g.row.G.Denot} g.L.BlockLane.contents c.args.manager.now.table c.args.tag (is_some c.args.ring.now) c.args.self.now c.read_new.new.self c.read_new.result
-reads g c = subst (λ (p : PassState). ReadsBlock {L = g.row.L.Denot} {G = g.row.G.Denot} g.L.BlockLane.contents c.args.manager.now.table c.args.tag (is_some c.args.ring.now) p c.read_new.new.self c.read_new.result) c.self.view_is
-    (reads_hinted {L = g.row.L.Denot} {G = g.row.G.Denot} g.L.BlockLane.contents c.args.manager.now.table c.args.tag (is_some c.args.ring.now) _ c.read_new.new.self Unused c.read_new.result c.read_new.ensures.answer)
+reads : (g : Over) (c : goal.After-read_new g) → ReadsBlock {L = g.row.L.Denot} {G = g.row.G.Denot} g.L.BlockLane.contents c.args.manager.now.table c.args.tag c.args.ring.now c.read_new.new.ring c.args.self.now c.read_new.new.self c.read_new.result
+reads g c = subst (λ (p : PassState). ReadsBlock {L = g.row.L.Denot} {G = g.row.G.Denot} g.L.BlockLane.contents c.args.manager.now.table c.args.tag c.args.ring.now c.read_new.new.ring p c.read_new.new.self c.read_new.result) c.self.view_is
+    (reads_hinted {L = g.row.L.Denot} {G = g.row.G.Denot} g.L.BlockLane.contents c.args.manager.now.table c.args.tag c.args.ring.now c.read_new.new.ring _ c.read_new.new.self Unused c.read_new.result c.read_new.ensures.answer)
 
 met : (g : Over) (c : goal.After-read_new g) → c.read_new.new.self.view.met ≡ met_reading c.read_new.result c.args.self.now.view.met
 met g c = c.read_new.ensures.met ∙ ap (λ (p : PassState). met_reading c.read_new.result p.view.met) c.self.view_is
@@ -35,7 +34,7 @@ pub returns-in_default-clause-again : goal.returns-in_default-clause-again
 returns-in_default-clause-again g c none f pinned = absurd (not_both c.args.tag f c.self.inside.held (subst (λ (p : PassState). IsPinnedFor c.args.tag f p.tokens) (sym c.self.view_is) pinned) c.in_default.ensures.new)
 
 pub returns-in_default-clause-pinned : goal.returns-in_default-clause-pinned
-returns-in_default-clause-pinned g c = pinned_read {L = g.row.L.Denot} {G = g.row.G.Denot} g.L.BlockLane.contents c.args.manager.now.table c.args.tag _ _ c.read_new.new.self c.read_new.result (reads g c)
+returns-in_default-clause-pinned g c = pinned_read {L = g.row.L.Denot} {G = g.row.G.Denot} g.L.BlockLane.contents c.args.manager.now.table c.args.tag _ _ _ c.read_new.new.self c.read_new.result (reads g c)
 
 pub invariant_of-self-2 : goal.invariant_of-self-2
 invariant_of-self-2 g c =
@@ -71,26 +70,26 @@ returns-clause-locks g c = subst (λ (p : PassState). SameLocks p.view (view_in 
 
 pub returns-in_default-clause-short : goal.returns-in_default-clause-short
 returns-in_default-clause-short g c none quiet =
-    read_short {L = g.row.L.Denot} {G = g.row.G.Denot} g.L.BlockLane.contents c.args.manager.now.table c.args.tag _ _ c.read_new.new.self c.read_new.result (met g c) (reads g c) quiet
+    read_short {L = g.row.L.Denot} {G = g.row.G.Denot} g.L.BlockLane.contents c.args.manager.now.table c.args.tag _ _ _ c.read_new.new.self c.read_new.result (met g c) (reads g c) quiet
 
 pub returns-in_default-clause-complete : goal.returns-in_default-clause-complete
 returns-in_default-clause-complete g c none nothing =
-    read_complete {L = g.row.L.Denot} {G = g.row.G.Denot} g.L.BlockLane.contents c.args.manager.now.table c.args.tag _ _ c.read_new.new.self c.read_new.result (met g c) (reads g c) nothing
+    read_complete {L = g.row.L.Denot} {G = g.row.G.Denot} g.L.BlockLane.contents c.args.manager.now.table c.args.tag _ _ _ c.read_new.new.self c.read_new.result (met g c) (reads g c) nothing
 
 pub returns-in_default-clause-exact : goal.returns-in_default-clause-exact
-returns-in_default-clause-exact g c = at_once_none {L = g.row.L.Denot} {G = g.row.G.Denot} g.L.BlockLane.contents c.args.manager.now.table c.args.tag _ _ c.read_new.new.self c.read_new.result (reads g c) ∙ sym (not_at_once (relations_of c.args.manager.now.table) c.args.self.now.tokens c.args.tag c.blocks-blocks.result c.blocks-blocks.ensures.count (omega arith) (subst (λ (p : PassState). count_of p.tokens < 8) c.self.view_is (c.is_full.ensures.room c.if-is_full.false)))
+returns-in_default-clause-exact g c = at_once_none {L = g.row.L.Denot} {G = g.row.G.Denot} g.L.BlockLane.contents c.args.manager.now.table c.args.tag _ _ _ c.read_new.new.self c.read_new.result (reads g c) ∙ sym (not_at_once (relations_of c.args.manager.now.table) c.args.self.now.tokens c.args.tag c.blocks-blocks.result c.blocks-blocks.ensures.count (omega arith) (subst (λ (p : PassState). count_of p.tokens < 8) c.self.view_is (c.is_full.ensures.room c.if-is_full.false)))
 
 pub returns-clause-back : goal.returns-clause-back
 returns-clause-back g c = c.add_token.ensures.back ∙ ap (λ (p : PassState). p.tokens) c.self.view_is
 
 pub returns-in_default-clause-last : goal.returns-in_default-clause-last
-returns-in_default-clause-last g c = unlocked_read {L = g.row.L.Denot} {G = g.row.G.Denot} g.L.BlockLane.contents c.args.manager.now.table c.args.tag _ _ c.read_new.new.self c.read_new.result (reads g c)
+returns-in_default-clause-last g c = unlocked_read {L = g.row.L.Denot} {G = g.row.G.Denot} g.L.BlockLane.contents c.args.manager.now.table c.args.tag _ _ _ c.read_new.new.self c.read_new.result (reads g c)
 
 pub returns-clause-last : goal.returns-clause-last
 returns-clause-last g c one = absurd (above_one _ c.add_token.ensures.several one)
 
 pub returns-in_default-clause-unsound : goal.returns-in_default-clause-unsound
-returns-in_default-clause-unsound g c failed e = unsound_was {L = g.row.L.Denot} {G = g.row.G.Denot} g.L.BlockLane.contents c.args.manager.now.table c.args.tag failed _ _ c.read_new.new.self c.read_new.result (reads g c) e
+returns-in_default-clause-unsound g c failed e = unsound_was {L = g.row.L.Denot} {G = g.row.G.Denot} g.L.BlockLane.contents c.args.manager.now.table c.args.tag failed _ _ _ c.read_new.new.self c.read_new.result (reads g c) e
 
 pub returns-clause-census : goal.returns-clause-census
 returns-clause-census g c = inl (ap (λ (p : PassState). p.census) c.self.view_is)
@@ -105,7 +104,7 @@ pub returns-in_default-clause-new : goal.returns-in_default-clause-new
 returns-in_default-clause-new g c none new = reads g c
 
 pub returns-in_default-clause-hint : goal.returns-in_default-clause-hint
-returns-in_default-clause-hint g c = shows_hint {L = g.row.L.Denot} {G = g.row.G.Denot} g.L.BlockLane.contents c.args.manager.now.table c.args.tag (is_some c.args.ring.now) c.args.self.now c.read_new.new.self c.read_new.result (reads g c)
+returns-in_default-clause-hint g c = shows_hint {L = g.row.L.Denot} {G = g.row.G.Denot} g.L.BlockLane.contents c.args.manager.now.table c.args.tag c.args.ring.now c.read_new.new.ring c.args.self.now c.read_new.new.self c.read_new.result (reads g c)
 
 pub returns-in_default-clause-turns : goal.returns-in_default-clause-turns
 returns-in_default-clause-turns g c = turns_counted c.read_new.new.self.hint c.args.self.now.view.turns c.read_new.new.self.view.turns (turns g c)

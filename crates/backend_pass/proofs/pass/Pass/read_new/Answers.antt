@@ -41,7 +41,7 @@ invariant_of-self-in-Err g c =
     let met : w.met ≡ met_read_refused c.refused-why.result v.met = e.met ∙ met_of_refusal c.in-Err.cause v.met ∙ ap (λ (y : ReadError). met_read_refused y v.met) (sym c.refused-why.ensures) in
     let shown : padded_value c.new-self-inside.result ≡ shown_after c.refused-why.result (padded_value c.self.inside.shown) = c.new-self-inside.ensures ∙ c.after-shown.ensures ∙ ap (shown_after c.refused-why.result) c.deref.ensures in (
       e.badge.one,
-      record { quiet = e.quiet; links = links_refused {L = g.row.L.Denot} {G = g.row.G.Denot} g.L.BlockLane.contents c.args.manager.now.table c.args.tag.now c.self.inside.held c.read_seated.new.census.words v w c.in-Err.cause e.answer; latches = e.latches },
+      record { quiet = e.quiet; links = links_refused {L = g.row.L.Denot} {G = g.row.G.Denot} g.L.BlockLane.contents c.args.manager.now.table c.args.tag.now c.self.inside.held v w c.in-Err.cause e.answer; latches = e.latches },
       subst (λ (id : ℕ). IsNumbered c.self.inside.number id w) (sym e.badge.id) (numbered_kept c.self.inside.number c.self.inside.seat.id v w (ap (λ (x : View). x.number) e.kept) i.2),
       subst (IsShown w) (sym shown) (shown_refused v w (padded_value c.self.inside.shown) c.refused-why.result (ap (λ (x : View). x.front) e.kept) met i.3),
       subst (λ (frames : ℕ). frames ≤ vec_capacity c.self.inside.marked) (sym e.room) i.4,
@@ -64,12 +64,12 @@ returns-in-Err-clause-belongs g c =
 pub returns-in-Ok-clause-answer : goal.returns-in-Ok-clause-answer
 returns-in-Ok-clause-answer g c =
     let e = c.in-Ok.ensures in
-    first_reads {L = g.row.L.Denot} {G = g.row.G.Denot} g.L.BlockLane.contents c.args.manager.now.table c.args.tag.now _ _ _ _ c.in-Ok.field-0 c.frame-frame.result c.self.view_is c.frame-frame.ensures c.add_pin.ensures.tokens e.answer e.calls
+    first_reads {L = g.row.L.Denot} {G = g.row.G.Denot} g.L.BlockLane.contents c.args.manager.now.table c.args.tag.now c.args.ring.now c.read_seated.new.ring _ _ _ c.in-Ok.field-0 c.frame-frame.result c.self.view_is c.frame-frame.ensures c.add_pin.ensures.tokens e.answer e.calls
 
 pub returns-in-Err-clause-answer : goal.returns-in-Err-clause-answer
 returns-in-Err-clause-answer g c =
     let e = c.in-Err.ensures in
-    refused_reads {L = g.row.L.Denot} {G = g.row.G.Denot} g.L.BlockLane.contents c.args.manager.now.table c.args.tag.now _ _ _ _ c.in-Err.cause c.refused-why.result c.self.view_is c.refused-why.ensures refl e.answer e.calls
+    refused_reads {L = g.row.L.Denot} {G = g.row.G.Denot} g.L.BlockLane.contents c.args.manager.now.table c.args.tag.now c.args.ring.now c.read_seated.new.ring _ _ _ c.in-Err.cause c.refused-why.result c.self.view_is c.refused-why.ensures refl e.answer e.calls
 
 pub returns-in-Err-clause-met : goal.returns-in-Err-clause-met
 returns-in-Err-clause-met g c =

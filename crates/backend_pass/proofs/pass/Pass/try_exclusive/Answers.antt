@@ -2,7 +2,7 @@ use Rattle.std.proofs.Common.{◌≡◌, ◌≢◌, ◌∙◌, ℕ, Some, refl, 
 use Rattle.pin_core.specs.declared.view.Link.{Link}
 use Rattle.pin_core.specs.State.{link}
 use Rattle.page_core.specs.Kinds as kinds
-use Rattle.content_locks.specs.Locks.{LocksContent}
+use Rattle.content_locks.specs.Locks.{LocksAtOnce}
 use Rattle.frame_table.specs.Content.{exclusive_link}
 use Rattle.held_pins.specs.Rests.{SameLocks}
 use Rattle.held_pins.specs.Tokens.{held_at}
@@ -69,7 +69,7 @@ returns-clause-did g c =
     let before = c.take_seat-seat.ensures.view in
     elim c.match-answer.branch [
       | in-Ok w ↦
-          let did = moved (LocksContent kinds.exclude f) (view_in c.self.inside.seat.views) (view_in c.return_seat.new.badge.views) _ _ before c.return_seat.ensures.view w.in-Ok.ensures.did in
-          lock_taken (LocksContent kinds.exclude f c.args.self.now.view (view_in c.return_seat.new.badge.views)) c.match-answer.result _ w.result-is (subst (λ (p : PassState). LocksContent kinds.exclude f p.view (view_in c.return_seat.new.badge.views)) c.self.view_is did)
-      | in-Err w ↦ lock_refused (LocksContent kinds.exclude f c.args.self.now.view (view_in c.return_seat.new.badge.views)) c.match-answer.result _ w.result-is
+          let did = moved (LocksAtOnce kinds.exclude f) (view_in c.self.inside.seat.views) (view_in c.return_seat.new.badge.views) _ _ before c.return_seat.ensures.view w.in-Ok.ensures.did in
+          lock_taken (LocksAtOnce kinds.exclude f c.args.self.now.view (view_in c.return_seat.new.badge.views)) c.match-answer.result _ w.result-is (subst (λ (p : PassState). LocksAtOnce kinds.exclude f p.view (view_in c.return_seat.new.badge.views)) c.self.view_is did)
+      | in-Err w ↦ lock_refused (LocksAtOnce kinds.exclude f c.args.self.now.view (view_in c.return_seat.new.badge.views)) c.match-answer.result _ w.result-is
     ]

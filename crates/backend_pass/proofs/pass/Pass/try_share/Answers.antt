@@ -2,7 +2,7 @@ use Rattle.std.proofs.Common.{◌≡◌, ◌≢◌, ◌∙◌, ℕ, Some, refl, 
 use Rattle.pin_core.specs.declared.view.Link.{Link}
 use Rattle.pin_core.specs.State.{link}
 use Rattle.page_core.specs.Kinds as kinds
-use Rattle.content_locks.specs.Locks.{LocksContent}
+use Rattle.content_locks.specs.Locks.{LocksAtOnce}
 use Rattle.frame_table.specs.Content.{shared_link}
 use Rattle.held_pins.specs.Rests.{SameLocks}
 use Rattle.held_pins.specs.Tokens.{held_at}
@@ -69,7 +69,7 @@ returns-clause-did g c =
     let before = c.take_seat-seat.ensures.view in
     elim c.match-answer.branch [
       | in-Ok w ↦
-          let did = moved (LocksContent kinds.share f) (view_in c.self.inside.seat.views) (view_in c.return_seat.new.badge.views) _ _ before c.return_seat.ensures.view w.in-Ok.ensures.did in
-          lock_taken (LocksContent kinds.share f c.args.self.now.view (view_in c.return_seat.new.badge.views)) c.match-answer.result _ w.result-is (subst (λ (p : PassState). LocksContent kinds.share f p.view (view_in c.return_seat.new.badge.views)) c.self.view_is did)
-      | in-Err w ↦ lock_refused (LocksContent kinds.share f c.args.self.now.view (view_in c.return_seat.new.badge.views)) c.match-answer.result _ w.result-is
+          let did = moved (LocksAtOnce kinds.share f) (view_in c.self.inside.seat.views) (view_in c.return_seat.new.badge.views) _ _ before c.return_seat.ensures.view w.in-Ok.ensures.did in
+          lock_taken (LocksAtOnce kinds.share f c.args.self.now.view (view_in c.return_seat.new.badge.views)) c.match-answer.result _ w.result-is (subst (λ (p : PassState). LocksAtOnce kinds.share f p.view (view_in c.return_seat.new.badge.views)) c.self.view_is did)
+      | in-Err w ↦ lock_refused (LocksAtOnce kinds.share f c.args.self.now.view (view_in c.return_seat.new.badge.views)) c.match-answer.result _ w.result-is
     ]
