@@ -18,14 +18,21 @@ use Rattle.grid.proofs.Lists.{at_last}
 use Rattle.page_jobs.specs.declared.ending.JobError.{JobError}
 use Rattle.page_jobs.specs.declared.ending.JobError.TheVariants.{LogDown, Memory, OutFault}
 use Rattle.page_jobs.specs.declared.ending.Totals.{Totals}
-use Rattle.page_jobs.specs.Beside.{LastIsRefused, StaysBeside, WorkIsRefused, WorksBeside, fault_of_flush}
+use Rattle.page_jobs.specs.Beside.{LastDid, LastIsRefused, StaysBeside, WorkIsRefused, WorksBeside, fault_of_flush}
 use Rattle.page_jobs.specs.declared.printing.Lines.{Lines}
-use Rattle.page_jobs.specs.Jobs.{AnyMeets, EndsJob, ReadsAll, workers_in}
+use Rattle.page_jobs.specs.Jobs.{AnyMeets, EndsJob, HaveNoTokens, ReadsAll, workers_in}
+use Rattle.page_jobs.specs.Reads.{HasNoTokens}
 use Rattle.page_jobs.specs.Relations.{MeetNothing}
 use Rattle.page_jobs.specs.RewriteJobs.{EndsRewrite, FailsFirst, RewritesFork}
 use Rattle.page_jobs.proofs.Deals.{less_one, workers_before}
 use Rattle.page_jobs.proofs.Staying.{same_none}
 use Rattle.page_jobs.proofs.Standing.{inside, there}
+
+-- each pass of them
+pub free_at : {L G : Type 0} (contents : L → Option Pages) (m : Manager L G) (ps : List PassState) (w : ℕ) (p : PassState) → HaveNoTokens contents m ps → get_elem? ps w ≡ some p → HasNoTokens contents m p
+free_at contents m [] w p free at = absurd (some-ne-none p (sym at))
+free_at contents m (x ∷ ps) zero p free at = subst (HasNoTokens contents m) (some-injective x p at) free.0
+free_at contents m (x ∷ ps) (suc w) p free at = free_at contents m ps w p free.1 at
 
 last_of : (all ps : List PassState) (p : PassState) → all ≡ ps ++ p ∷ [] → get_elem? all (length all - 1) ≡ some p
 last_of all ps p e =
@@ -50,6 +57,13 @@ done_met (Err e) end F ok met = tt
 module _ {L G : Type 0} (contents : L → Option Pages) (m : Manager L G) where
   pub works_none : (p : PassState) → Belongs contents m p → WorksBeside contents m p p
   works_none p b = record { belongs = b; same = same_none p; callers = callers_none p; mark = refl }
+
+  -- where no work began
+  pub stays_none : (ps : List PassState) → HaveNoTokens contents m ps → StaysBeside contents m ps ps
+  stays_none ps free = record {
+    counted = refl;
+    last = λ p q at there. subst (WorksBeside contents m p) (some-injective p q (sym at ∙ there)) (works_none p (free_at contents m ps (length ps - 1) p free at).belongs);
+  }
 
   shows_down : (why : FlushError) (at : ℕ) (p q : PassState) → RefusesFrame contents m.table p q why → fault_of_flush why ≡ LogDown at → q.view.saw_down ≡ true
   shows_down (flush.WriteFault tag) at p q r e = absurd (cc)
@@ -101,6 +115,10 @@ module _ {L G : Type 0} (contents : L → Option Pages) (m : Manager L G) where
     pub job_met : {A : Type 0} (r : Result A JobError) → OnOk r (MeetNothing ps qs) → OnOk r (q.view.met ≡ p.view.met) → OnOk r (MeetNothing all all')
     job_met (Ok a) met same = all_meet_nothing met same
     job_met (Err e) met same = tt
+
+    pub last_did : {A : Type 0} (did : PassState → PassState → Type 0) (r : Result A JobError) → OnOk r (did p q) → OnOk r (LastDid did all all')
+    last_did did (Ok a) d = λ x y at there. subst (λ (z : PassState). did z y) (some-injective p x (sym was_last ∙ at)) (subst (did p) (some-injective q y (sym is_last ∙ there)) d)
+    last_did did (Err e) d = tt
 
     last_refused : (e : JobError) → WorkIsRefused contents m p q e → LastIsRefused contents m all all' e
     last_refused e r = record { before = p; after = q; was = was_last; is = is_last; refused = r }

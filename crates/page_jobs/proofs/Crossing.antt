@@ -12,8 +12,7 @@ use Rattle.table_rule.specs.contracts.value.Value as value
 use Rattle.backend_pass.specs.contracts.manager.Manager as manager
 use Rattle.backend_pass.proofs.Crossing.{lease_sync, passes_sent, shared_sync}
 use Rattle.page_jobs.specs.contracts.working.Worker as worker
-use Rattle.page_jobs.specs.contracts.working.Job as job
-use Rattle.page_jobs.specs.contracts.rewriting.ForkBlocks as blocks
+use Rattle.page_jobs.specs.contracts.working.ForkBlocks as blocks
 
 values_cross : (L G : RattleType) → IsSend L → IsSend G → IsSend (value.the_row L G)
 values_cross L G l g = search (sendable, crosses, over.crosses) depth 30 fits 20000
@@ -21,11 +20,8 @@ values_cross L G l g = search (sendable, crosses, over.crosses) depth 30 fits 20
 pub managers_shared : (L G : RattleType) (a : block_lane.Ghosts L.Denot) (b : log_device.Ghosts G.Denot) → IsSend L → IsSend G → IsSync (manager.the_row L G a b)
 managers_shared L G a b l g = search (sendable, crosses, over.crosses, values_cross, shared_sync, lease_sync, frees) depth 50 fits 40000
 
-pub workers_sent : IsSend worker.the_row
-workers_sent = search (sendable, crosses, over.crosses, passes_sent, frees) depth 40 fits 20000
-
-pub jobs_shared : IsSync job.the_row
-jobs_shared = search (sendable, crosses, over.crosses) depth 20
+pub workers_sent : (K : RattleType) → IsSend K → IsSend (worker.the_row K)
+workers_sent K k = search (sendable, crosses, over.crosses, passes_sent, frees) depth 40 fits 20000
 
 pub blocks_shared : IsSync blocks.the_row
 blocks_shared = search (sendable, crosses, over.crosses) depth 20

@@ -3,10 +3,13 @@ mod Blocks
 mod Sums
 mod BlockWork
 pub mod Deals
+mod WorkerBlocks
+mod ListedParts
 mod BesideWork
 mod Texts
 mod Whole
 pub mod Origin
+mod ListedForks
 mod Crossing
 pub mod Standing
 pub mod ReadersLeave
@@ -18,7 +21,9 @@ mod BlockRewrites
 mod RewriteSums
 mod RewriteTotals
 mod PartRewrites
+mod RewrittenParts
 mod RewriteWorkers
+mod RewrittenForks
 mod RewriteCounts
 mod RewriteClosed
 mod RewriteLanes

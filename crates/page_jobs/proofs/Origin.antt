@@ -27,14 +27,16 @@ use Rattle.backend_pass.specs.Passes.{PassState}
 use Rattle.page_jobs.specs.declared.ending.JobError.{JobError}
 use Rattle.page_jobs.specs.declared.printing.Lines.{Lines}
 use Rattle.page_jobs.specs.declared.printing.Lines.TheVariants.{Dump, Scan}
+use Rattle.page_jobs.specs.declared.listing.Lister.{Lister}
 use Rattle.page_jobs.specs.declared.working.Worker.{Worker}
 use Rattle.page_jobs.specs.Ending.{as_done}
 use Rattle.page_jobs.specs.Printed.{BlockRead, copied, unsound, lines_from, page_lines, read_lines, read_summary, reads_lines, reads_totals, text_of_pages, totals_line}
 use Rattle.page_jobs.specs.Reads.{IsKnown, IsWithinFront}
 use Rattle.page_jobs.specs.Parts.{AllReads, AreKnown, DoesPart, blocks_in, part_start}
-use Rattle.page_jobs.specs.Dealt.{AllDone, DoParts, job_text, job_totals, text_if_done}
+use Rattle.page_jobs.specs.Dealt.{AllDone, job_text, job_totals, text_if_done}
 use Rattle.page_jobs.specs.Jobs.{AllAtBase, IsOrigin, WasKnownAtOpening}
 use Rattle.page_jobs.proofs.Deals.{start_first, start_last}
+use Rattle.page_jobs.proofs.ListedParts.{DoParts}
 use Rattle.page_jobs.proofs.Texts.{stopped_in, text_either, text_last}
 use Rattle.page_jobs.proofs.Sums.{reads_totals-append, sum_none}
 use Rattle.page_jobs.proofs.BlockWork.{all_append, lines-append}
@@ -130,7 +132,7 @@ module _ {L G : Type 0} (contents : L → Option Pages) (m : Manager L G) (rel :
       ap₂ (λ (a : PageSummary) (b : List PageSummary). a ∷ b) one.1 (summaries_origin (block + 1) rs pages at.1 o.2 (omega arith))
 
   -- What was read and printed, up to the first fault
-  record ToldUntilFault (lines : Lines) (from to : ℕ) (xs : List Worker) : Type 0 where
+  record ToldUntilFault (lines : Lines) (from to : ℕ) (xs : List (Worker Lister)) : Type 0 where
     pub reads : List BlockRead
     pub at : AtBase from reads
     pub text : job_text [] xs ≡ reads_lines lines from reads
@@ -146,14 +148,14 @@ module _ {L G : Type 0} (contents : L → Option Pages) (m : Manager L G) (rel :
   first_part P from [] ss a = tt
   first_part P from (r ∷ rs) ss a = (a.0, first_part P (from + 1) rs ss a.1)
 
-  told_one : (lines : Lines) (from next to : ℕ) (p : PassState) (x : Worker) (xs : List Worker) (end : Result Unit JobError) → x.end ≡ end → next ≤ to → DoesPart contents m rel fork lines from next p x.pass [] x.printed.text.items no_totals x.printed.totals end
+  told_one : (lines : Lines) (from next to : ℕ) (p : PassState) (x : Worker Lister) (xs : List (Worker Lister)) (end : Result Unit JobError) → x.end ≡ end → next ≤ to → DoesPart contents m rel fork lines from next p x.pass [] x.task.printed.text.items no_totals x.task.printed.totals end
       → x.pass.view.front ≡ base_of m.table → ToldUntilFault lines next to xs → ToldUntilFault lines from to (x ∷ xs)
   told_one lines from next to p x xs (Err e) ended le d front t =
       let printed = at_base x.pass.view.front (base_of m.table) from (d.printed ++ d.unprinted) refl front d.known d.places in
       record {
         reads = d.printed;
         at = first_part (λ b r. IsAtBase contents m (tag_of_parts rel fork b) r) from d.printed d.unprinted printed;
-        text = ap (λ (r : Result Unit JobError). x.printed.text.items ++ text_if_done r (job_text [] xs)) ended ∙ append-nil x.printed.text.items ∙ d.text_is;
+        text = ap (λ (r : Result Unit JobError). x.task.printed.text.items ++ text_if_done r (job_text [] xs)) ended ∙ append-nil x.task.printed.text.items ∙ d.text_is;
         within = let w = d.within in let l = length-append d.printed d.unprinted in omega arith;
         all = λ done. absurd (let e : Err e ≡ Ok tt = sym ended ∙ done.0 in cc e);
       }
@@ -165,7 +167,7 @@ module _ {L G : Type 0} (contents : L → Option Pages) (m : Manager L G) (rel :
         at = all_append (λ b r. IsAtBase contents m (tag_of_parts rel fork b) r) from d.printed t.reads
             (first_part (λ b r. IsAtBase contents m (tag_of_parts rel fork b) r) from d.printed d.unprinted printed)
             (subst (λ (b : ℕ). AtBase b t.reads) (sym at) t.at);
-        text = ap (λ (r : Result Unit JobError). x.printed.text.items ++ text_if_done r (job_text [] xs)) ended
+        text = ap (λ (r : Result Unit JobError). x.task.printed.text.items ++ text_if_done r (job_text [] xs)) ended
             ∙ ap₂ (λ (a b : List ℕ). a ++ b) d.text_is (t.text ∙ ap (λ (b : ℕ). reads_lines lines b t.reads) (sym at))
             ∙ sym (lines-append lines from d.printed t.reads);
         within = let w = t.within in let l = length-append d.printed t.reads in omega arith;
@@ -175,7 +177,7 @@ module _ {L G : Type 0} (contents : L → Option Pages) (m : Manager L G) (rel :
         );
       }
 
-  told : (lines : Lines) (n k number : ℕ) (ps : List PassState) (xs : List Worker) → 0 < k → number + length ps ≡ k → DoParts contents m rel fork lines n k number ps xs → AllAtBase (base_of m.table) (map (λ (x : Worker). x.pass) xs)
+  told : (lines : Lines) (n k number : ℕ) (ps : List PassState) (xs : List (Worker Lister)) → 0 < k → number + length ps ≡ k → DoParts contents m rel fork lines n k number ps xs → AllAtBase (base_of m.table) (map (λ (x : Worker Lister). x.pass) xs)
       → ToldUntilFault lines (part_start n k number) n xs
   told lines n k number [] [] many count d at =
       let e : part_start n k number ≡ n = ap (part_start n k) (let s : number ≡ k = omega arith in s) ∙ start_last n k many in
@@ -187,7 +189,7 @@ module _ {L G : Type 0} (contents : L → Option Pages) (m : Manager L G) (rel :
       told_one lines (part_start n k number) (part_start n k (number + 1)) n p x xs x.end refl (let w = t.within in omega arith) d.0 at.0 t
 
   -- the text of the pages begins with what was printed up to the first fault
-  text_begins : (lines : Lines) (n : ℕ) (xs : List Worker) (pages : List Page) (t : ToldUntilFault lines 0 n xs) → n ≡ length pages → Origins 0 pages
+  text_begins : (lines : Lines) (n : ℕ) (xs : List (Worker Lister)) (pages : List Page) (t : ToldUntilFault lines 0 n xs) → n ≡ length pages → Origins 0 pages
       → text_of_pages lines pages ≡ job_text [] xs ++ (lines_from lines (0 + length t.reads) (drop (length t.reads) pages) ++ totals_line (totals_of pages))
   text_begins lines n xs pages t size o =
       let first = lines_origin lines 0 t.reads pages t.at o (let w = t.within in omega arith) in
@@ -203,7 +205,7 @@ module _ {L G : Type 0} (contents : L → Option Pages) (m : Manager L G) (rel :
   drop_all (x ∷ l) (suc i) e = drop_all l i (omega arith)
 
   -- and is the whole text where all are done
-  text_ends : (lines : Lines) (n : ℕ) (xs : List Worker) (pages : List Page) → ToldUntilFault lines 0 n xs → n ≡ length pages → Origins 0 pages → AllDone xs → text_of_pages lines pages ≡ job_text (totals_line (job_totals xs)) xs
+  text_ends : (lines : Lines) (n : ℕ) (xs : List (Worker Lister)) (pages : List Page) → ToldUntilFault lines 0 n xs → n ≡ length pages → Origins 0 pages → AllDone xs → text_of_pages lines pages ≡ job_text (totals_line (job_totals xs)) xs
   text_ends lines n xs pages t size o done =
       let all = t.all done in
       let long : length t.reads ≡ length pages = let a = all.0 in omega arith in
@@ -213,7 +215,7 @@ module _ {L G : Type 0} (contents : L → Option Pages) (m : Manager L G) (rel :
       ∙ ap (λ (u : ScanTotals). job_text [] xs ++ totals_line u) totals
       ∙ sym (text_last (totals_line (job_totals xs)) xs done)
 
-  put_origin : {A : Type 0} (lines : Lines) (n : ℕ) (xs : List Worker) (pages : List Page) (old new : Option (List ℕ)) (r : Result A JobError) → ToldUntilFault lines 0 n xs → n ≡ length pages → Origins 0 pages → OnOk r (AllDone xs)
+  put_origin : {A : Type 0} (lines : Lines) (n : ℕ) (xs : List (Worker Lister)) (pages : List Page) (old new : Option (List ℕ)) (r : Result A JobError) → ToldUntilFault lines 0 n xs → n ≡ length pages → Origins 0 pages → OnOk r (AllDone xs)
       → AllDone xs ⊎ (job_text (totals_line (job_totals xs)) xs ≡ job_text [] xs) → Puts (job_text (totals_line (job_totals xs)) xs) old new (as_done r) → Puts (text_of_pages lines pages) old new (as_done r)
   put_origin lines n xs pages old new (Ok a) t size o ok f puts =
       subst (λ (l : List ℕ). Puts {E = JobError} l old new (Ok tt)) (sym (text_ends lines n xs pages t size o ok)) puts
@@ -224,8 +226,8 @@ module _ {L G : Type 0} (contents : L → Option Pages) (m : Manager L G) (rel :
       (subst (λ (l : List ℕ). Puts {E = JobError} l old new (Err e)) same puts)
 
   -- the text of the job is that of the pages, or a prefix of it
-  pub text_of_origin : {A : Type 0} (lines : Lines) (n : ℕ) (ps : List PassState) (xs : List Worker) (pages : List Page) (old new : Option (List ℕ)) (r : Result A JobError) → n ≡ blocks_in m rel fork → 0 < length ps
-      → ((b : ℕ) → b < n → names_block (tag_of_parts rel fork b) ≡ true) → DoParts contents m rel fork lines n (length ps) 0 ps xs → OnOk r (AllDone xs) → IsOrigin contents m rel fork pages → AllAtBase (base_of m.table) (map (λ (x : Worker). x.pass) xs)
+  pub text_of_origin : {A : Type 0} (lines : Lines) (n : ℕ) (ps : List PassState) (xs : List (Worker Lister)) (pages : List Page) (old new : Option (List ℕ)) (r : Result A JobError) → n ≡ blocks_in m rel fork → 0 < length ps
+      → ((b : ℕ) → b < n → names_block (tag_of_parts rel fork b) ≡ true) → DoParts contents m rel fork lines n (length ps) 0 ps xs → OnOk r (AllDone xs) → IsOrigin contents m rel fork pages → AllAtBase (base_of m.table) (map (λ (x : Worker Lister). x.pass) xs)
       → Puts (job_text (totals_line (job_totals xs)) xs) old new (as_done r) → Puts (text_of_pages lines pages) old new (as_done r)
   text_of_origin lines n ps xs pages old new r size many named d ok origin at puts =
       let t0 = told lines n (length ps) 0 ps xs many (omega arith) d at in

@@ -13,20 +13,22 @@ use Rattle.backend_pass.specs.Passes.{PassState}
 use Rattle.page_jobs.specs.declared.ending.JobError.{JobError}
 use Rattle.page_jobs.specs.declared.ending.JobError.TheVariants.{Memory}
 use Rattle.page_jobs.specs.declared.ending.Totals.{Totals}
+use Rattle.page_jobs.specs.declared.rewriting.Rewriter.{Rewriter}
 use Rattle.page_jobs.specs.declared.working.Worker.{Worker}
 use Rattle.page_jobs.specs.Beside.{EndsBeside, WorkIsRefused}
-use Rattle.page_jobs.specs.Dealt.{AllDone, AreDealt}
+use Rattle.page_jobs.specs.Dealt.{AllDone}
 use Rattle.page_jobs.specs.Ending.{totals_of_rewrite}
 use Rattle.page_jobs.specs.Jobs.{HaveNoTokens}
 use Rattle.page_jobs.specs.Parts.{blocks_in, part_start}
 use Rattle.page_jobs.specs.Rewrites.{Outcome, outcome_totals}
-use Rattle.page_jobs.specs.Rewriting.{EndsRewriteFor, RewritesBlocks, RewritesPart, RewritesWhole}
-use Rattle.page_jobs.specs.Rewriters.{AreRewritesCounted, DoRewrites, EndsFirst, HasRewritten, HaveRewritten, rewritten_totals}
+use Rattle.page_jobs.specs.Rewriting.{EndsRewriteFor, RewritesBlocks, RewritesWhole}
+use Rattle.page_jobs.specs.Rewriters.{AreRewritesCounted, EndsFirst, rewritten_totals}
 use Rattle.page_jobs.specs.RewriteJobs.{FailsFirst, RewriteParts, RewritesFork, outcomes_in_all}
+use Rattle.page_jobs.proofs.BesideWork.{free_at}
 use Rattle.page_jobs.proofs.Deals.{start_last, start_le}
 use Rattle.page_jobs.proofs.PartRewrites.{blocks_none}
 use Rattle.page_jobs.proofs.RewriteSums.{outcome_totals-append, rewrites_first}
-use Rattle.page_jobs.proofs.Whole.{free_at}
+use Rattle.page_jobs.proofs.RewrittenParts.{DoRewrites}
 
 -- no outcomes of each pass
 abbrev none_of_each : List PassState → List (List Outcome)
@@ -43,43 +45,28 @@ none_at (p ∷ ps) zero os at = some-injective [] os at
 none_at (p ∷ ps) (suc w) os at = none_at ps w os at
 
 module _ {L G : Type 0} (contents : L → Option Pages) (m : Manager L G) (rel : ℕ) (fork : Fork) where
-  pub did_rewrites : (blocks workers number : ℕ) (ps : List PassState) (ws xs : List Worker) → AreDealt blocks workers number ps ws → length xs ≡ length ws → HaveRewritten contents m rel fork ws xs → DoRewrites contents m rel fork blocks workers number ps xs
-  did_rewrites blocks workers number [] [] [] a n did = tt
-  did_rewrites blocks workers number [] [] (x ∷ xs) a n did = absurd (omega arith)
-  did_rewrites blocks workers number [] (w ∷ ws) xs a n did = absurd a
-  did_rewrites blocks workers number (p ∷ ps) [] xs a n did = absurd a
-  did_rewrites blocks workers number (p ∷ ps) (w ∷ ws) [] a n did = absurd (omega arith)
-  did_rewrites blocks workers number (p ∷ ps) (w ∷ ws) (x ∷ xs) a n did =
-      let d : HasRewritten contents m rel fork w x = did zero w (omega arith) in
-      let does : PassState → ℕ → ℕ → RewriteTotals → Type 0 = λ y f t u. RewritesPart contents m rel fork f t y x.pass u x.rewritten x.end in (
-        subst (λ (u : RewriteTotals). does p (part_start blocks workers number) (part_start blocks workers (number + 1)) u) a.0.rewritten
-            (subst (λ (y : PassState). does y (part_start blocks workers number) (part_start blocks workers (number + 1)) w.rewritten) a.0.pass
-            (subst (λ (f : ℕ). does w.pass f (part_start blocks workers (number + 1)) w.rewritten) a.0.from (subst (λ (t : ℕ). does w.pass w.from t w.rewritten) a.0.to d))),
-        did_rewrites blocks workers (number + 1) ps ws xs a.1 (omega arith) (λ i e below. did (suc i) e (omega arith)),
-      )
-
   -- what each did
-  abbrev outcomes_of : (n k number : ℕ) (ps : List PassState) (xs : List Worker) → DoRewrites contents m rel fork n k number ps xs → List (List Outcome)
+  abbrev outcomes_of : (n k number : ℕ) (ps : List PassState) (xs : List (Worker Rewriter)) → DoRewrites contents m rel fork n k number ps xs → List (List Outcome)
   outcomes_of n k number [] [] d = []
   outcomes_of n k number [] (x ∷ xs) d = absurd d
   outcomes_of n k number (p ∷ ps) [] d = absurd d
   outcomes_of n k number (p ∷ ps) (x ∷ xs) d = d.0.outcomes ∷ outcomes_of n k (number + 1) ps xs d.1
 
-  outcomes_long : (n k number : ℕ) (ps : List PassState) (xs : List Worker) (d : DoRewrites contents m rel fork n k number ps xs) → length (outcomes_of n k number ps xs d) ≡ length ps
+  outcomes_long : (n k number : ℕ) (ps : List PassState) (xs : List (Worker Rewriter)) (d : DoRewrites contents m rel fork n k number ps xs) → length (outcomes_of n k number ps xs d) ≡ length ps
   outcomes_long n k number [] [] d = refl
   outcomes_long n k number [] (x ∷ xs) d = absurd d
   outcomes_long n k number (p ∷ ps) [] d = absurd d
   outcomes_long n k number (p ∷ ps) (x ∷ xs) d = ap suc (outcomes_long n k (number + 1) ps xs d.1)
 
-  passes_long : (n k number : ℕ) (ps : List PassState) (xs : List Worker) → DoRewrites contents m rel fork n k number ps xs → length (map (λ (x : Worker). x.pass) xs) ≡ length ps
+  passes_long : (n k number : ℕ) (ps : List PassState) (xs : List (Worker Rewriter)) → DoRewrites contents m rel fork n k number ps xs → length (map (λ (x : Worker Rewriter). x.pass) xs) ≡ length ps
   passes_long n k number [] [] d = refl
   passes_long n k number [] (x ∷ xs) d = absurd d
   passes_long n k number (p ∷ ps) [] d = absurd d
   passes_long n k number (p ∷ ps) (x ∷ xs) d = ap suc (passes_long n k (number + 1) ps xs d.1)
 
   -- the worker at a place
-  part_at : (n k number w j : ℕ) (ps : List PassState) (xs : List Worker) (p q : PassState) (os : List Outcome) (d : DoRewrites contents m rel fork n k number ps xs) → j ≡ number + w
-      → get_elem? ps w ≡ some p → get_elem? (map (λ (x : Worker). x.pass) xs) w ≡ some q → get_elem? (outcomes_of n k number ps xs d) w ≡ some os
+  part_at : (n k number w j : ℕ) (ps : List PassState) (xs : List (Worker Rewriter)) (p q : PassState) (os : List Outcome) (d : DoRewrites contents m rel fork n k number ps xs) → j ≡ number + w
+      → get_elem? ps w ≡ some p → get_elem? (map (λ (x : Worker Rewriter). x.pass) xs) w ≡ some q → get_elem? (outcomes_of n k number ps xs d) w ≡ some os
       → RewritesBlocks contents m rel fork (part_start n k j) (part_start n k (j + 1)) os p q × (AllDone xs → RewritesWhole contents m rel fork (part_start n k j) (part_start n k (j + 1)) os p q)
   part_at n k number w j [] xs p q os d e at there of = absurd (some-ne-none p (sym at))
   part_at n k number w j (p' ∷ ps) [] p q os d e at there of = absurd d
@@ -93,8 +80,8 @@ module _ {L G : Type 0} (contents : L → Option Pages) (m : Manager L G) (rel :
       (subst (λ (z : PassState). Both number d.0.outcomes p' z) (some-injective x.pass q there) here)))
   part_at n k number (suc w) j (p' ∷ ps) (x ∷ xs) p q os d e at there of = let rest = part_at n k (number + 1) w j ps xs p q os d.1 (omega arith) at there of in (rest.0, λ done. rest.1 done.1)
 
-  pub rewrite_parts : (n : ℕ) (ps : List PassState) (xs : List Worker) → n ≡ blocks_in m rel fork → ((block : ℕ) → block < n → names_block (tag_of_parts rel fork block) ≡ true) → DoRewrites contents m rel fork n (length ps) 0 ps xs
-      → RewriteParts contents m rel fork ps (map (λ (x : Worker). x.pass) xs)
+  pub rewrite_parts : (n : ℕ) (ps : List PassState) (xs : List (Worker Rewriter)) → n ≡ blocks_in m rel fork → ((block : ℕ) → block < n → names_block (tag_of_parts rel fork block) ≡ true) → DoRewrites contents m rel fork n (length ps) 0 ps xs
+      → RewriteParts contents m rel fork ps (map (λ (x : Worker Rewriter). x.pass) xs)
   rewrite_parts n ps xs size named d = record {
     counted = passes_long n (length ps) 0 ps xs d;
     outcomes = outcomes_of n (length ps) 0 ps xs d;
@@ -116,18 +103,18 @@ module _ {L G : Type 0} (contents : L → Option Pages) (m : Manager L G) (rel :
         let to = part_start (blocks_in m rel fork) (length ps) (w + 1) in
         subst (λ (y : PassState). RewritesBlocks contents m rel fork from to os p y) (some-injective p q (sym at ∙ there))
         (subst (λ (us : List Outcome). RewritesBlocks contents m rel fork from to us p p) (none_at ps w os of)
-        (blocks_none contents m rel fork from to p (free_at contents m rel fork ps w p free at) (start_le (blocks_in m rel fork) (length ps) w many)));
+        (blocks_none contents m rel fork from to p (free_at contents m ps w p free at) (start_le (blocks_in m rel fork) (length ps) w many)));
     named = λ block below. named block (omega arith);
   }
 
   -- the workers' totals
-  pub rewrites_counted : (n k number : ℕ) (ps : List PassState) (xs : List Worker) → DoRewrites contents m rel fork n k number ps xs → AreRewritesCounted xs
+  pub rewrites_counted : (n k number : ℕ) (ps : List PassState) (xs : List (Worker Rewriter)) → DoRewrites contents m rel fork n k number ps xs → AreRewritesCounted xs
   rewrites_counted n k number [] [] d = tt
   rewrites_counted n k number [] (x ∷ xs) d = absurd d
   rewrites_counted n k number (p ∷ ps) [] d = absurd d
   rewrites_counted n k number (p ∷ ps) (x ∷ xs) d = (d.0.within, rewrites_counted n k (number + 1) ps xs d.1)
 
-  rewrites_few : (n k number : ℕ) (ps : List PassState) (xs : List Worker) → DoRewrites contents m rel fork n k number ps xs → part_start n k number + (rewritten_totals xs).blocks ≤ part_start n k (number + length ps)
+  rewrites_few : (n k number : ℕ) (ps : List PassState) (xs : List (Worker Rewriter)) → DoRewrites contents m rel fork n k number ps xs → part_start n k number + (rewritten_totals xs).blocks ≤ part_start n k (number + length ps)
   rewrites_few n k number [] [] d = let e = ap (part_start n k) (let z : number + 0 ≡ number = omega arith in z) in omega (arith, e)
   rewrites_few n k number [] (x ∷ xs) d = absurd d
   rewrites_few n k number (p ∷ ps) [] d = absurd d
@@ -138,25 +125,25 @@ module _ {L G : Type 0} (contents : L → Option Pages) (m : Manager L G) (rel :
       let e = ap (part_start n k) (let z : number + 1 + length ps ≡ number + suc (length ps) = omega arith in z) in
       omega (arith, one, within, rest, e)
 
-  pub all_rewrites_few : (n : ℕ) (ps : List PassState) (xs : List Worker) → n < 4294967296 → 0 < length ps → DoRewrites contents m rel fork n (length ps) 0 ps xs → (rewritten_totals xs).blocks ≤ 4294967296
+  pub all_rewrites_few : (n : ℕ) (ps : List PassState) (xs : List (Worker Rewriter)) → n < 4294967296 → 0 < length ps → DoRewrites contents m rel fork n (length ps) 0 ps xs → (rewritten_totals xs).blocks ≤ 4294967296
   all_rewrites_few n ps xs fits many d =
       let few = rewrites_few n (length ps) 0 ps xs d in
       let last = start_last n (length ps) many in
       let e = ap (part_start n (length ps)) (let z : 0 + length ps ≡ length ps = omega arith in z) in
       omega (arith, few, last, e, fits)
 
-  totals_done : (n k number : ℕ) (ps : List PassState) (xs : List Worker) (d : DoRewrites contents m rel fork n k number ps xs) → AllDone xs → rewritten_totals xs ≡ outcome_totals (outcomes_in_all (outcomes_of n k number ps xs d))
+  totals_done : (n k number : ℕ) (ps : List PassState) (xs : List (Worker Rewriter)) (d : DoRewrites contents m rel fork n k number ps xs) → AllDone xs → rewritten_totals xs ≡ outcome_totals (outcomes_in_all (outcomes_of n k number ps xs d))
   totals_done n k number [] [] d done = refl
   totals_done n k number [] (x ∷ xs) d done = absurd d
   totals_done n k number (p ∷ ps) [] d done = absurd d
   totals_done n k number (p ∷ ps) (x ∷ xs) d done =
-      let one : x.rewritten ≡ sum_of_rewrite_totals no_rewrite_totals (outcome_totals d.0.outcomes) = subst (λ (r : Result Unit JobError). OnOk r (x.rewritten ≡ sum_of_rewrite_totals no_rewrite_totals (outcome_totals d.0.outcomes))) done.0 d.0.totals in
+      let one : x.task.totals ≡ sum_of_rewrite_totals no_rewrite_totals (outcome_totals d.0.outcomes) = subst (λ (r : Result Unit JobError). OnOk r (x.task.totals ≡ sum_of_rewrite_totals no_rewrite_totals (outcome_totals d.0.outcomes))) done.0 d.0.totals in
       let rest = totals_done n k (number + 1) ps xs d.1 done.1 in
       ap₂ (λ (t u : RewriteTotals). sum_of_rewrite_totals t u) (one ∙ rewrites_first (outcome_totals d.0.outcomes)) rest
       ∙ sym (outcome_totals-append d.0.outcomes (outcomes_in_all (outcomes_of n k (number + 1) ps xs d.1)))
 
-  rewrites_fork : (n : ℕ) (ps : List PassState) (xs : List Worker) (totals : Totals) → n ≡ blocks_in m rel fork → DoRewrites contents m rel fork n (length ps) 0 ps xs → AllDone xs → totals ≡ totals_of_rewrite (rewritten_totals xs)
-      → RewritesFork contents m rel fork ps (map (λ (x : Worker). x.pass) xs) totals
+  rewrites_fork : (n : ℕ) (ps : List PassState) (xs : List (Worker Rewriter)) (totals : Totals) → n ≡ blocks_in m rel fork → DoRewrites contents m rel fork n (length ps) 0 ps xs → AllDone xs → totals ≡ totals_of_rewrite (rewritten_totals xs)
+      → RewritesFork contents m rel fork ps (map (λ (x : Worker Rewriter). x.pass) xs) totals
   rewrites_fork n ps xs totals size d done total = record {
     outcomes = outcomes_of n (length ps) 0 ps xs d;
     listed = outcomes_long n (length ps) 0 ps xs d;
@@ -166,19 +153,19 @@ module _ {L G : Type 0} (contents : L → Option Pages) (m : Manager L G) (rel :
     totals_is = total ∙ ap totals_of_rewrite (totals_done n (length ps) 0 ps xs d done);
   }
 
-  pub rewrite_done : (n : ℕ) (ps : List PassState) (xs : List Worker) (r : Result Totals JobError) → n ≡ blocks_in m rel fork → DoRewrites contents m rel fork n (length ps) 0 ps xs
-      → IfOk r (λ totals. (totals ≡ totals_of_rewrite (rewritten_totals xs)) × AllDone xs) → IfOk r (RewritesFork contents m rel fork ps (map (λ (x : Worker). x.pass) xs))
+  pub rewrite_done : (n : ℕ) (ps : List PassState) (xs : List (Worker Rewriter)) (r : Result Totals JobError) → n ≡ blocks_in m rel fork → DoRewrites contents m rel fork n (length ps) 0 ps xs
+      → IfOk r (λ totals. (totals ≡ totals_of_rewrite (rewritten_totals xs)) × AllDone xs) → IfOk r (RewritesFork contents m rel fork ps (map (λ (x : Worker Rewriter). x.pass) xs))
   rewrite_done n ps xs (Ok totals) size d ok = rewrites_fork n ps xs totals size d ok.1 ok.0
   rewrite_done n ps xs (Err e) size d ok = tt
 
   -- why the job ended
-  fails_first : (n k number : ℕ) (ps : List PassState) (xs : List Worker) (e : JobError) → n ≡ blocks_in m rel fork → DoRewrites contents m rel fork n k number ps xs → EndsFirst e xs → (e ≡ Memory) ⊎ FailsFirst contents m rel fork k number ps (map (λ (x : Worker). x.pass) xs) e
+  fails_first : (n k number : ℕ) (ps : List PassState) (xs : List (Worker Rewriter)) (e : JobError) → n ≡ blocks_in m rel fork → DoRewrites contents m rel fork n k number ps xs → EndsFirst e xs → (e ≡ Memory) ⊎ FailsFirst contents m rel fork k number ps (map (λ (x : Worker Rewriter). x.pass) xs) e
   fails_first n k number [] [] e size d ends = absurd ends
   fails_first n k number [] (x ∷ xs) e size d ends = absurd d
   fails_first n k number (p ∷ ps) [] e size d ends = absurd d
   fails_first n k number (p ∷ ps) (x ∷ xs) e size d (inl is) = one (subst (λ (r : Result Unit JobError). IfErr r (EndsRewriteFor contents m rel fork p x.pass)) is d.0.cause)
     where
-      one : EndsRewriteFor contents m rel fork p x.pass e → (e ≡ Memory) ⊎ FailsFirst contents m rel fork k number (p ∷ ps) (x.pass ∷ map (λ (y : Worker). y.pass) xs) e
+      one : EndsRewriteFor contents m rel fork p x.pass e → (e ≡ Memory) ⊎ FailsFirst contents m rel fork k number (p ∷ ps) (x.pass ∷ map (λ (y : Worker Rewriter). y.pass) xs) e
       one (inl memory) = inl memory
       one (inr meets) = inr (inl meets)
   fails_first n k number (p ∷ ps) (x ∷ xs) e size d (inr later) = other (fails_first n k (number + 1) ps xs e size d.1 later.1)
@@ -189,20 +176,20 @@ module _ {L G : Type 0} (contents : L → Option Pages) (m : Manager L G) (rel :
       whole : Whole n
       whole = subst (λ (r : Result Unit JobError). OnOk r (Whole n)) later.0 d.0.whole
 
-      other : (e ≡ Memory) ⊎ FailsFirst contents m rel fork k (number + 1) ps (map (λ (y : Worker). y.pass) xs) e → (e ≡ Memory) ⊎ FailsFirst contents m rel fork k number (p ∷ ps) (x.pass ∷ map (λ (y : Worker). y.pass) xs) e
+      other : (e ≡ Memory) ⊎ FailsFirst contents m rel fork k (number + 1) ps (map (λ (y : Worker Rewriter). y.pass) xs) e → (e ≡ Memory) ⊎ FailsFirst contents m rel fork k number (p ∷ ps) (x.pass ∷ map (λ (y : Worker Rewriter). y.pass) xs) e
       other (inl memory) = inl memory
       other (inr fails) = inr (inr ((d.0.outcomes, subst Whole size whole), fails))
 
-  module _ (n : ℕ) (ps : List PassState) (xs : List Worker) (p q : PassState) (end : Result Unit JobError)
+  module _ (n : ℕ) (ps : List PassState) (xs : List (Worker Rewriter)) (p q : PassState) (end : Result Unit JobError)
       (size : n ≡ blocks_in m rel fork) (d : DoRewrites contents m rel fork n (length ps) 0 ps xs) (beside : EndsBeside contents m p q end) where
     abbrev RewriteEndsFor : JobError → Type 0
-    RewriteEndsFor e = (e ≡ Memory) ⊎ (FailsFirst contents m rel fork (length ps) 0 ps (map (λ (x : Worker). x.pass) xs) e
-        ⊎ (((totals : Totals) × RewritesFork contents m rel fork ps (map (λ (x : Worker). x.pass) xs) totals) × WorkIsRefused contents m p q e))
+    RewriteEndsFor e = (e ≡ Memory) ⊎ (FailsFirst contents m rel fork (length ps) 0 ps (map (λ (x : Worker Rewriter). x.pass) xs) e
+        ⊎ (((totals : Totals) × RewritesFork contents m rel fork ps (map (λ (x : Worker Rewriter). x.pass) xs) totals) × WorkIsRefused contents m p q e))
 
     cause_of : (e : JobError) → EndsFirst e xs ⊎ (AllDone xs × (end ≡ Err e)) → RewriteEndsFor e
     cause_of e (inl ends) = of (fails_first n (length ps) 0 ps xs e size d ends)
       where
-        of : (e ≡ Memory) ⊎ FailsFirst contents m rel fork (length ps) 0 ps (map (λ (x : Worker). x.pass) xs) e → RewriteEndsFor e
+        of : (e ≡ Memory) ⊎ FailsFirst contents m rel fork (length ps) 0 ps (map (λ (x : Worker Rewriter). x.pass) xs) e → RewriteEndsFor e
         of (inl memory) = inl memory
         of (inr fails) = inr (inl fails)
     cause_of e (inr t) = inr (inr (

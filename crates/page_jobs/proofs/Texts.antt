@@ -9,6 +9,7 @@ use Rattle.log_device.specs.Bytes.{GainsPrefix, Puts}
 use Rattle.page_layout.specs.declared.scan.ScanTotals.{ScanTotals}
 use Rattle.page_layout.specs.Scan.{IsWithin, sum_of_totals}
 use Rattle.page_jobs.specs.declared.ending.JobError.{JobError}
+use Rattle.page_jobs.specs.declared.listing.Lister.{Lister}
 use Rattle.page_jobs.specs.declared.working.Worker.{Worker}
 use Rattle.page_jobs.specs.Dealt.{AllDone, AnyEnds, TotalsAreInRange, job_text, job_totals, text_if_done}
 use Rattle.page_jobs.proofs.Sums.{sum_assoc}
@@ -70,29 +71,29 @@ pub stopped_at : {F : Type 0} (text part rest : List ℕ) (old new : Option (Lis
 stopped_at text part rest old new f split is = record { ok = tt; failed = gains_whole text part rest old new split is }
 
 -- The text of the workers, of which the first so many were put
-pub record HasPutText (ws : List Worker) (i : ℕ) (old new : Option (List ℕ)) : Type 0 where
+pub record HasPutText (ws : List (Worker Lister)) (i : ℕ) (old new : Option (List ℕ)) : Type 0 where
   pub part : List ℕ
   pub whole : job_text [] ws ≡ part ++ job_text [] (drop i ws)
   pub out : new ≡ option_map (λ b. b ++ part) old
 
-pub put_none : (ws : List Worker) (old : Option (List ℕ)) → HasPutText ws 0 old old
+pub put_none : (ws : List (Worker Lister)) (old : Option (List ℕ)) → HasPutText ws 0 old old
 put_none ws old = record { part = []; whole = refl; out = put_nothing old }
 
-next_text : (ws : List Worker) (i : ℕ) (w : Worker) → get_elem? ws i ≡ some w → job_text [] (drop i ws) ≡ w.printed.text.items ++ text_if_done w.end (job_text [] (drop (i + 1) ws))
-next_text ws i w at = ap (job_text []) (drop_at ws i w at) ∙ ap (λ (n : ℕ). w.printed.text.items ++ text_if_done w.end (job_text [] (drop n ws))) (let e : suc i ≡ i + 1 = omega arith in e)
+next_text : (ws : List (Worker Lister)) (i : ℕ) (w : Worker Lister) → get_elem? ws i ≡ some w → job_text [] (drop i ws) ≡ w.task.printed.text.items ++ text_if_done w.end (job_text [] (drop (i + 1) ws))
+next_text ws i w at = ap (job_text []) (drop_at ws i w at) ∙ ap (λ (n : ℕ). w.task.printed.text.items ++ text_if_done w.end (job_text [] (drop n ws))) (let e : suc i ≡ i + 1 = omega arith in e)
 
-pub put_next : (ws : List Worker) (i : ℕ) (w : Worker) (old mid new : Option (List ℕ)) → get_elem? ws i ≡ some w → w.end ≡ Ok tt → HasPutText ws i old mid → new ≡ option_map (λ b. b ++ w.printed.text.items) mid → HasPutText ws (i + 1) old new
+pub put_next : (ws : List (Worker Lister)) (i : ℕ) (w : Worker Lister) (old mid new : Option (List ℕ)) → get_elem? ws i ≡ some w → w.end ≡ Ok tt → HasPutText ws i old mid → new ≡ option_map (λ b. b ++ w.task.printed.text.items) mid → HasPutText ws (i + 1) old new
 put_next ws i w old mid new at ok h is = record {
-  part = h.part ++ w.printed.text.items;
+  part = h.part ++ w.task.printed.text.items;
   whole = h.whole
-      ∙ ap (λ (l : List ℕ). h.part ++ l) (next_text ws i w at ∙ ap (λ (r : Result Unit JobError). w.printed.text.items ++ text_if_done r (job_text [] (drop (i + 1) ws))) ok)
-      ∙ sym (append_assoc h.part w.printed.text.items (job_text [] (drop (i + 1) ws)));
-  out = put_twice h.part w.printed.text.items old mid new h.out is;
+      ∙ ap (λ (l : List ℕ). h.part ++ l) (next_text ws i w at ∙ ap (λ (r : Result Unit JobError). w.task.printed.text.items ++ text_if_done r (job_text [] (drop (i + 1) ws))) ok)
+      ∙ sym (append_assoc h.part w.task.printed.text.items (job_text [] (drop (i + 1) ws)));
+  out = put_twice h.part w.task.printed.text.items old mid new h.out is;
 }
 
-pub put_failed : {E F : Type 0} (ws : List Worker) (i : ℕ) (w : Worker) (old mid new : Option (List ℕ)) (r : Result Unit E) (f : F) → get_elem? ws i ≡ some w → HasPutText ws i old mid → Puts w.printed.text.items mid new r → Puts {E = F} (job_text [] ws) old new (Err f)
+pub put_failed : {E F : Type 0} (ws : List (Worker Lister)) (i : ℕ) (w : Worker Lister) (old mid new : Option (List ℕ)) (r : Result Unit E) (f : F) → get_elem? ws i ≡ some w → HasPutText ws i old mid → Puts w.task.printed.text.items mid new r → Puts {E = F} (job_text [] ws) old new (Err f)
 put_failed ws i w old mid new r f at h puts =
-    stopped_after (job_text [] ws) h.part w.printed.text.items (text_if_done w.end (job_text [] (drop (i + 1) ws))) old mid new r f (h.whole ∙ ap (λ (l : List ℕ). h.part ++ l) (next_text ws i w at)) h.out puts
+    stopped_after (job_text [] ws) h.part w.task.printed.text.items (text_if_done w.end (job_text [] (drop (i + 1) ws))) old mid new r f (h.whole ∙ ap (λ (l : List ℕ). h.part ++ l) (next_text ws i w at)) h.out puts
 
 pub drop_all : {A : Type 0} (l : List A) (i : ℕ) → length l ≤ i → drop i l ≡ []
 drop_all [] zero le = refl
@@ -100,62 +101,62 @@ drop_all [] (suc i) le = refl
 drop_all (x ∷ l) zero le = absurd (omega arith)
 drop_all (x ∷ l) (suc i) le = drop_all l i (omega arith)
 
-pub put_each : (ws : List Worker) (i : ℕ) (old new : Option (List ℕ)) → length ws ≤ i → HasPutText ws i old new → Puts {E = JobError} (job_text [] ws) old new (Ok tt)
+pub put_each : (ws : List (Worker Lister)) (i : ℕ) (old new : Option (List ℕ)) → length ws ≤ i → HasPutText ws i old new → Puts {E = JobError} (job_text [] ws) old new (Ok tt)
 put_each ws i old new all h = record {
-  ok = h.out ∙ ap (λ (l : List ℕ). option_map (λ b. b ++ l) old) (sym (h.whole ∙ ap (λ (l : List Worker). h.part ++ job_text [] l) (drop_all ws i all) ∙ append-nil h.part));
+  ok = h.out ∙ ap (λ (l : List ℕ). option_map (λ b. b ++ l) old) (sym (h.whole ∙ ap (λ (l : List (Worker Lister)). h.part ++ job_text [] l) (drop_all ws i all) ∙ append-nil h.part));
   failed = tt;
 }
 
-pub any_at : (ws : List Worker) (i : ℕ) (w : Worker) (e : JobError) → get_elem? ws i ≡ some w → w.end ≡ Err e → AnyEnds e ws
+pub any_at : (ws : List (Worker Lister)) (i : ℕ) (w : Worker Lister) (e : JobError) → get_elem? ws i ≡ some w → w.end ≡ Err e → AnyEnds e ws
 any_at [] i w e at is = absurd (some-ne-none w (sym at))
-any_at (x ∷ ws) zero w e at is = inl (ap (λ (y : Worker). y.end) (some-injective x w at) ∙ is)
+any_at (x ∷ ws) zero w e at is = inl (ap (λ (y : Worker Lister). y.end) (some-injective x w at) ∙ is)
 any_at (x ∷ ws) (suc i) w e at is = inr (any_at ws i w e at is)
 
--- where the rest is done all are
-pub done_next : (ws : List Worker) (i : ℕ) (w : Worker) → get_elem? ws i ≡ some w → w.end ≡ Ok tt → (AllDone (drop i ws) → AllDone ws) → AllDone (drop (i + 1) ws) → AllDone ws
+-- where the rest is done all are, of any workers
+pub done_next : {K : Type 0} (ws : List (Worker K)) (i : ℕ) (w : Worker K) → get_elem? ws i ≡ some w → w.end ≡ Ok tt → (AllDone (drop i ws) → AllDone ws) → AllDone (drop (i + 1) ws) → AllDone ws
 done_next ws i w at ok f rest = let n : suc i ≡ i + 1 = omega arith in f (subst AllDone (sym (drop_at ws i w at)) (ok, subst (λ (k : ℕ). AllDone (drop k ws)) (sym n) rest))
 
-pub done_all : (ws : List Worker) (i : ℕ) → length ws ≤ i → (AllDone (drop i ws) → AllDone ws) → AllDone ws
+pub done_all : {K : Type 0} (ws : List (Worker K)) (i : ℕ) → length ws ≤ i → (AllDone (drop i ws) → AllDone ws) → AllDone ws
 done_all ws i all f = f (subst AllDone (sym (drop_all ws i all)) tt)
 
-pub counted_at : (ws : List Worker) (i : ℕ) (w : Worker) → TotalsAreInRange ws → get_elem? ws i ≡ some w → IsWithin w.printed.totals w.printed.totals.blocks
+pub counted_at : (ws : List (Worker Lister)) (i : ℕ) (w : Worker Lister) → TotalsAreInRange ws → get_elem? ws i ≡ some w → IsWithin w.task.printed.totals w.task.printed.totals.blocks
 counted_at [] i w c at = absurd (some-ne-none w (sym at))
-counted_at (x ∷ ws) zero w c at = subst (λ (y : Worker). IsWithin y.printed.totals y.printed.totals.blocks) (some-injective x w at) c.0
+counted_at (x ∷ ws) zero w c at = subst (λ (y : Worker Lister). IsWithin y.task.printed.totals y.task.printed.totals.blocks) (some-injective x w at) c.0
 counted_at (x ∷ ws) (suc i) w c at = counted_at ws i w c.1 at
 
-next_totals : (ws : List Worker) (i : ℕ) (w : Worker) → get_elem? ws i ≡ some w → job_totals (drop i ws) ≡ sum_of_totals w.printed.totals (job_totals (drop (i + 1) ws))
-next_totals ws i w at = ap job_totals (drop_at ws i w at) ∙ ap (λ (n : ℕ). sum_of_totals w.printed.totals (job_totals (drop n ws))) (let e : suc i ≡ i + 1 = omega arith in e)
+next_totals : (ws : List (Worker Lister)) (i : ℕ) (w : Worker Lister) → get_elem? ws i ≡ some w → job_totals (drop i ws) ≡ sum_of_totals w.task.printed.totals (job_totals (drop (i + 1) ws))
+next_totals ws i w at = ap job_totals (drop_at ws i w at) ∙ ap (λ (n : ℕ). sum_of_totals w.task.printed.totals (job_totals (drop n ws))) (let e : suc i ≡ i + 1 = omega arith in e)
 
-pub totals_next : (ws : List Worker) (i : ℕ) (w : Worker) (t u : ScanTotals) → get_elem? ws i ≡ some w → sum_of_totals t (job_totals (drop i ws)) ≡ job_totals ws → u ≡ sum_of_totals t w.printed.totals → sum_of_totals u (job_totals (drop (i + 1) ws)) ≡ job_totals ws
+pub totals_next : (ws : List (Worker Lister)) (i : ℕ) (w : Worker Lister) (t u : ScanTotals) → get_elem? ws i ≡ some w → sum_of_totals t (job_totals (drop i ws)) ≡ job_totals ws → u ≡ sum_of_totals t w.task.printed.totals → sum_of_totals u (job_totals (drop (i + 1) ws)) ≡ job_totals ws
 totals_next ws i w t u at so_far more =
     ap (λ (x : ScanTotals). sum_of_totals x (job_totals (drop (i + 1) ws))) more
-    ∙ sum_assoc t w.printed.totals (job_totals (drop (i + 1) ws))
+    ∙ sum_assoc t w.task.printed.totals (job_totals (drop (i + 1) ws))
     ∙ ap (λ (x : ScanTotals). sum_of_totals t x) (sym (next_totals ws i w at))
     ∙ so_far
 
-pub totals_fit : (ws : List Worker) (i : ℕ) (w : Worker) (t : ScanTotals) → get_elem? ws i ≡ some w → sum_of_totals t (job_totals (drop i ws)) ≡ job_totals ws → t.blocks + w.printed.totals.blocks ≤ (job_totals ws).blocks
+pub totals_fit : (ws : List (Worker Lister)) (i : ℕ) (w : Worker Lister) (t : ScanTotals) → get_elem? ws i ≡ some w → sum_of_totals t (job_totals (drop i ws)) ≡ job_totals ws → t.blocks + w.task.printed.totals.blocks ≤ (job_totals ws).blocks
 totals_fit ws i w t at so_far =
     let a = ap (λ (x : ScanTotals). x.blocks) so_far in let b = ap (λ (x : ScanTotals). x.blocks) (next_totals ws i w at) in omega arith
 
-pub totals_all : (ws : List Worker) (i : ℕ) (t : ScanTotals) → length ws ≤ i → sum_of_totals t (job_totals (drop i ws)) ≡ job_totals ws → sum_of_totals t (job_totals []) ≡ job_totals ws
-totals_all ws i t all so_far = ap (λ (l : List Worker). sum_of_totals t (job_totals l)) (sym (drop_all ws i all)) ∙ so_far
+pub totals_all : (ws : List (Worker Lister)) (i : ℕ) (t : ScanTotals) → length ws ≤ i → sum_of_totals t (job_totals (drop i ws)) ≡ job_totals ws → sum_of_totals t (job_totals []) ≡ job_totals ws
+totals_all ws i t all so_far = ap (λ (l : List (Worker Lister)). sum_of_totals t (job_totals l)) (sym (drop_all ws i all)) ∙ so_far
 
 first_of : (a b c : List ℕ) (r : Result Unit JobError) → (rest : List ℕ) × (b ≡ c ++ rest) → (rest : List ℕ) × (a ++ text_if_done r b ≡ (a ++ text_if_done r c) ++ rest)
 first_of a b c (Ok done) f = (f.0, ap (λ (l : List ℕ). a ++ l) f.1 ∙ sym (append_assoc a c f.0))
 first_of a b c (Err e) f = ([], sym (append-nil (a ++ [])))
 
 -- the text with a last line begins with the text without it
-pub text_first : (last : List ℕ) (ws : List Worker) → (rest : List ℕ) × (job_text last ws ≡ job_text [] ws ++ rest)
+pub text_first : (last : List ℕ) (ws : List (Worker Lister)) → (rest : List ℕ) × (job_text last ws ≡ job_text [] ws ++ rest)
 text_first last [] = (last, refl)
-text_first last (w ∷ ws) = first_of w.printed.text.items (job_text last ws) (job_text [] ws) w.end (text_first last ws)
+text_first last (w ∷ ws) = first_of w.task.printed.text.items (job_text last ws) (job_text [] ws) w.end (text_first last ws)
 
-pub text_last : (last : List ℕ) (ws : List Worker) → AllDone ws → job_text last ws ≡ job_text [] ws ++ last
+pub text_last : (last : List ℕ) (ws : List (Worker Lister)) → AllDone ws → job_text last ws ≡ job_text [] ws ++ last
 text_last last [] done = refl
 text_last last (w ∷ ws) done =
-    ap (λ (r : Result Unit JobError). w.printed.text.items ++ text_if_done r (job_text last ws)) done.0
-    ∙ ap (λ (l : List ℕ). w.printed.text.items ++ l) (text_last last ws done.1)
-    ∙ sym (append_assoc w.printed.text.items (job_text [] ws) last)
-    ∙ ap (λ (r : Result Unit JobError). (w.printed.text.items ++ text_if_done r (job_text [] ws)) ++ last) (sym done.0)
+    ap (λ (r : Result Unit JobError). w.task.printed.text.items ++ text_if_done r (job_text last ws)) done.0
+    ∙ ap (λ (l : List ℕ). w.task.printed.text.items ++ l) (text_last last ws done.1)
+    ∙ sym (append_assoc w.task.printed.text.items (job_text [] ws) last)
+    ∙ ap (λ (r : Result Unit JobError). (w.task.printed.text.items ++ text_if_done r (job_text [] ws)) ++ last) (sym done.0)
 
 either_of : (a b c : List ℕ) (r : Result Unit JobError) (P : Type 0) → P ⊎ (b ≡ c) → ((r ≡ Ok tt) × P) ⊎ (a ++ text_if_done r b ≡ a ++ text_if_done r c)
 either_of a b c (Ok done) P (inl p) = inl (refl, p)
@@ -163,6 +164,6 @@ either_of a b c (Ok done) P (inr e) = inr (ap (λ (l : List ℕ). a ++ l) e)
 either_of a b c (Err e) P f = inr refl
 
 -- all are done, or there is no last line
-pub text_either : (last : List ℕ) (ws : List Worker) → AllDone ws ⊎ (job_text last ws ≡ job_text [] ws)
+pub text_either : (last : List ℕ) (ws : List (Worker Lister)) → AllDone ws ⊎ (job_text last ws ≡ job_text [] ws)
 text_either last [] = inl tt
-text_either last (w ∷ ws) = either_of w.printed.text.items (job_text last ws) (job_text [] ws) w.end (AllDone ws) (text_either last ws)
+text_either last (w ∷ ws) = either_of w.task.printed.text.items (job_text last ws) (job_text [] ws) w.end (AllDone ws) (text_either last ws)

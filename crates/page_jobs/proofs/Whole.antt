@@ -19,15 +19,18 @@ use Rattle.page_jobs.specs.declared.ending.JobError.{JobError}
 use Rattle.page_jobs.specs.declared.ending.JobError.TheVariants.{Memory, OutFault}
 use Rattle.page_jobs.specs.declared.ending.Totals.{Totals}
 use Rattle.page_jobs.specs.declared.printing.Lines.{Lines}
+use Rattle.page_jobs.specs.declared.listing.Lister.{Lister}
 use Rattle.page_jobs.specs.declared.working.Worker.{Worker}
 use Rattle.page_jobs.specs.Ending.{as_done, totals_of_scan}
 use Rattle.page_jobs.specs.Printed.{BlockRead, reads_lines, reads_totals, totals_line}
-use Rattle.page_jobs.specs.Reads.{HasNoTokens, IsKnown, IsWithinFront, calls_of_reads}
+use Rattle.page_jobs.specs.Reads.{IsKnown, IsWithinFront, calls_of_reads}
 use Rattle.page_jobs.specs.Parts.{AllReads, AreKnown, DoesPart, EndsFor, MeetsFault, blocks_in, part_start}
-use Rattle.page_jobs.specs.Dealt.{AllDone, AnyEnds, DoParts, TotalsAreInRange, job_text, job_totals, text_if_done}
+use Rattle.page_jobs.specs.Dealt.{AllDone, AnyEnds, TotalsAreInRange, job_text, job_totals, text_if_done}
 use Rattle.page_jobs.specs.Beside.{EndsBeside, WorkIsRefused}
 use Rattle.page_jobs.specs.Jobs.{AnyMeets, HaveNoTokens, ReadParts, ReadsAll, ReadsPart, reads_between}
+use Rattle.page_jobs.proofs.BesideWork.{free_at}
 use Rattle.page_jobs.proofs.Deals.{start_first, start_last, start_le}
+use Rattle.page_jobs.proofs.ListedParts.{DoParts}
 use Rattle.page_jobs.proofs.Staying.{stays_none}
 use Rattle.page_jobs.proofs.Texts.{text_last}
 use Rattle.page_jobs.proofs.Sums.{reads_totals-append, sum_none}
@@ -55,25 +58,25 @@ module _ {L G : Type 0} (contents : L → Option Pages) (m : Manager L G) (rel :
   reads_part : (lines : Lines) (from to : ℕ) (p q : PassState) (text text' : List ℕ) (t u : ScanTotals) (end : Result Unit JobError) → DoesPart contents m rel fork lines from to p q text text' t u end → ReadsPart contents m rel fork from to p q
   reads_part lines from to p q text text' t u end d = record { stays = d.stays; spent = d.spent; reads = d.printed ++ d.unprinted; calls = d.calls; known = d.known; places = d.places; within = d.within }
 
-  parts_long : (lines : Lines) (n k number : ℕ) (ps : List PassState) (xs : List Worker) → DoParts contents m rel fork lines n k number ps xs → length (map (λ (x : Worker). x.pass) xs) ≡ length ps
+  parts_long : (lines : Lines) (n k number : ℕ) (ps : List PassState) (xs : List (Worker Lister)) → DoParts contents m rel fork lines n k number ps xs → length (map (λ (x : Worker Lister). x.pass) xs) ≡ length ps
   parts_long lines n k number [] [] d = refl
   parts_long lines n k number [] (x ∷ xs) d = absurd d
   parts_long lines n k number (p ∷ ps) [] d = absurd d
   parts_long lines n k number (p ∷ ps) (x ∷ xs) d = ap suc (parts_long lines n k (number + 1) ps xs d.1)
 
-  part_at : (lines : Lines) (n k number w j : ℕ) (ps : List PassState) (xs : List Worker) (p q : PassState) → DoParts contents m rel fork lines n k number ps xs → j ≡ number + w → get_elem? ps w ≡ some p → get_elem? (map (λ (x : Worker). x.pass) xs) w ≡ some q
+  part_at : (lines : Lines) (n k number w j : ℕ) (ps : List PassState) (xs : List (Worker Lister)) (p q : PassState) → DoParts contents m rel fork lines n k number ps xs → j ≡ number + w → get_elem? ps w ≡ some p → get_elem? (map (λ (x : Worker Lister). x.pass) xs) w ≡ some q
       → ReadsPart contents m rel fork (part_start n k j) (part_start n k (j + 1)) p q
   part_at lines n k number w j [] xs p q d e at there = absurd (some-ne-none p (sym at))
   part_at lines n k number w j (p' ∷ ps) [] p q d e at there = absurd d
   part_at lines n k number zero j (p' ∷ ps) (x ∷ xs) p q d e at there =
       let same : number ≡ j = omega arith in
-      let part = reads_part lines (part_start n k number) (part_start n k (number + 1)) p' x.pass [] x.printed.text.items no_totals x.printed.totals x.end d.0 in
+      let part = reads_part lines (part_start n k number) (part_start n k (number + 1)) p' x.pass [] x.task.printed.text.items no_totals x.task.printed.totals x.end d.0 in
       subst (λ (i : ℕ). ReadsPart contents m rel fork (part_start n k i) (part_start n k (i + 1)) p q) same
       (subst (λ (y : PassState). ReadsPart contents m rel fork (part_start n k number) (part_start n k (number + 1)) y q) (some-injective p' p at)
       (subst (λ (y : PassState). ReadsPart contents m rel fork (part_start n k number) (part_start n k (number + 1)) p' y) (some-injective x.pass q there) part))
   part_at lines n k number (suc w) j (p' ∷ ps) (x ∷ xs) p q d e at there = part_at lines n k (number + 1) w j ps xs p q d.1 (omega arith) at there
 
-  pub read_parts : (lines : Lines) (n : ℕ) (ps : List PassState) (xs : List Worker) → n ≡ blocks_in m rel fork → DoParts contents m rel fork lines n (length ps) 0 ps xs → ReadParts contents m rel fork ps (map (λ (x : Worker). x.pass) xs)
+  pub read_parts : (lines : Lines) (n : ℕ) (ps : List PassState) (xs : List (Worker Lister)) → n ≡ blocks_in m rel fork → DoParts contents m rel fork lines n (length ps) 0 ps xs → ReadParts contents m rel fork ps (map (λ (x : Worker Lister). x.pass) xs)
   read_parts lines n ps xs size d = record {
     counted = parts_long lines n (length ps) 0 ps xs d;
     each = λ w p q at there.
@@ -82,28 +85,28 @@ module _ {L G : Type 0} (contents : L → Option Pages) (m : Manager L G) (rel :
   }
 
   -- What the workers read, where all are done
-  record Merged (lines : Lines) (n k number : ℕ) (ps : List PassState) (xs : List Worker) : Type 0 where
+  record Merged (lines : Lines) (n k number : ℕ) (ps : List PassState) (xs : List (Worker Lister)) : Type 0 where
     pub reads : List BlockRead
     pub long : part_start n k number + length reads ≡ part_start n k (number + length ps)
     pub known : AreKnown contents m rel fork (part_start n k number) reads
     pub text : job_text [] xs ≡ reads_lines lines (part_start n k number) reads
     pub totals : job_totals xs ≡ reads_totals reads
-    pub calls : (w j : ℕ) (p q : PassState) → j ≡ number + w → get_elem? ps w ≡ some p → get_elem? (map (λ (x : Worker). x.pass) xs) w ≡ some q
+    pub calls : (w j : ℕ) (p q : PassState) → j ≡ number + w → get_elem? ps w ≡ some p → get_elem? (map (λ (x : Worker Lister). x.pass) xs) w ≡ some q
         → q.view.calls ≡ p.view.calls ++ calls_of_reads p.view.number rel fork (part_start n k j) (take (part_start n k (j + 1) - part_start n k j) (drop (part_start n k j - part_start n k number) reads))
-    pub met : (w : ℕ) (p q : PassState) → get_elem? ps w ≡ some p → get_elem? (map (λ (x : Worker). x.pass) xs) w ≡ some q → q.view.met ≡ p.view.met
+    pub met : (w : ℕ) (p q : PassState) → get_elem? ps w ≡ some p → get_elem? (map (λ (x : Worker Lister). x.pass) xs) w ≡ some q → q.view.met ≡ p.view.met
 
   -- one worker whose end is well
-  record Done (lines : Lines) (from to : ℕ) (p : PassState) (x : Worker) : Type 0 where
+  record Done (lines : Lines) (from to : ℕ) (p : PassState) (x : Worker Lister) : Type 0 where
     pub reads : List BlockRead
     pub long : from + length reads ≡ to
     pub known : AreKnown contents m rel fork from reads
     pub places : AllReads (λ b r. IsWithinFront x.pass.view.front r) from reads
-    pub text : x.printed.text.items ≡ reads_lines lines from reads
-    pub totals : x.printed.totals ≡ reads_totals reads
+    pub text : x.task.printed.text.items ≡ reads_lines lines from reads
+    pub totals : x.task.printed.totals ≡ reads_totals reads
     pub calls : x.pass.view.calls ≡ p.view.calls ++ calls_of_reads p.view.number rel fork from reads
     pub met : x.pass.view.met ≡ p.view.met
 
-  done_well : (lines : Lines) (from to : ℕ) (p : PassState) (x : Worker) → DoesPart contents m rel fork lines from to p x.pass [] x.printed.text.items no_totals x.printed.totals x.end → x.end ≡ Ok tt → Done lines from to p x
+  done_well : (lines : Lines) (from to : ℕ) (p : PassState) (x : Worker Lister) → DoesPart contents m rel fork lines from to p x.pass [] x.task.printed.text.items no_totals x.task.printed.totals x.end → x.end ≡ Ok tt → Done lines from to p x
   done_well lines from to p x d ok =
       let f = subst (λ (r : Result Unit JobError). OnOk r ((d.unprinted ≡ []) × (from + length d.printed ≡ to) × (x.pass.view.met ≡ p.view.met))) ok d.done in
       let whole : d.printed ++ d.unprinted ≡ d.printed = ap (λ (l : List BlockRead). d.printed ++ l) f.0 ∙ append-nil d.printed in
@@ -118,7 +121,7 @@ module _ {L G : Type 0} (contents : L → Option Pages) (m : Manager L G) (rel :
         met = f.2;
       }
 
-  merge_one : (lines : Lines) (n k number : ℕ) (p : PassState) (ps : List PassState) (x : Worker) (xs : List Worker) → 0 < k → Done lines (part_start n k number) (part_start n k (number + 1)) p x → x.end ≡ Ok tt → Merged lines n k (number + 1) ps xs
+  merge_one : (lines : Lines) (n k number : ℕ) (p : PassState) (ps : List PassState) (x : Worker Lister) (xs : List (Worker Lister)) → 0 < k → Done lines (part_start n k number) (part_start n k (number + 1)) p x → x.end ≡ Ok tt → Merged lines n k (number + 1) ps xs
       → Merged lines n k number (p ∷ ps) (x ∷ xs)
   merge_one lines n k number p ps x xs many d ok r =
       let from = part_start n k number in
@@ -128,7 +131,7 @@ module _ {L G : Type 0} (contents : L → Option Pages) (m : Manager L G) (rel :
         reads = d.reads ++ r.reads;
         long = let e = length-append d.reads r.reads in let f = r.long in let g = ap (part_start n k) (let h : number + 1 + length ps ≡ number + suc (length ps) = omega arith in h) in omega (arith, at, e, f, g);
         known = all_append (λ b y. IsKnown contents m (tag_of_parts rel fork b) y) from d.reads r.reads d.known (subst (λ (b : ℕ). AreKnown contents m rel fork b r.reads) (sym at) r.known);
-        text = ap (λ (e : Result Unit JobError). x.printed.text.items ++ text_if_done e (job_text [] xs)) ok
+        text = ap (λ (e : Result Unit JobError). x.task.printed.text.items ++ text_if_done e (job_text [] xs)) ok
             ∙ ap (λ (l : List ℕ). l ++ job_text [] xs) d.text
             ∙ ap (λ (l : List ℕ). reads_lines lines from d.reads ++ l) (r.text ∙ ap (λ (b : ℕ). reads_lines lines b r.reads) (sym at))
             ∙ sym (lines-append lines from d.reads r.reads);
@@ -137,7 +140,7 @@ module _ {L G : Type 0} (contents : L → Option Pages) (m : Manager L G) (rel :
         met = merged_met;
       }
     where
-      merged_calls : (w j : ℕ) (p' q : PassState) → j ≡ number + w → get_elem? (p ∷ ps) w ≡ some p' → get_elem? (x.pass ∷ map (λ (y : Worker). y.pass) xs) w ≡ some q
+      merged_calls : (w j : ℕ) (p' q : PassState) → j ≡ number + w → get_elem? (p ∷ ps) w ≡ some p' → get_elem? (x.pass ∷ map (λ (y : Worker Lister). y.pass) xs) w ≡ some q
           → q.view.calls ≡ p'.view.calls ++ calls_of_reads p'.view.number rel fork (part_start n k j) (take (part_start n k (j + 1) - part_start n k j) (drop (part_start n k j - part_start n k number) (d.reads ++ r.reads)))
       merged_calls zero j p' q e at there =
           let same : number ≡ j = omega arith in
@@ -155,11 +158,11 @@ module _ {L G : Type 0} (contents : L → Option Pages) (m : Manager L G) (rel :
           ∙ ap (λ (s : List BlockRead). p'.view.calls ++ calls_of_reads p'.view.number rel fork (part_start n k j) (take (part_start n k (j + 1) - part_start n k j) s))
           (sym (drop_after d.reads r.reads (part_start n k j - part_start n k number) (part_start n k j - part_start n k (number + 1)) (omega arith)))
 
-      merged_met : (w : ℕ) (p' q : PassState) → get_elem? (p ∷ ps) w ≡ some p' → get_elem? (x.pass ∷ map (λ (y : Worker). y.pass) xs) w ≡ some q → q.view.met ≡ p'.view.met
+      merged_met : (w : ℕ) (p' q : PassState) → get_elem? (p ∷ ps) w ≡ some p' → get_elem? (x.pass ∷ map (λ (y : Worker Lister). y.pass) xs) w ≡ some q → q.view.met ≡ p'.view.met
       merged_met zero p' q at there = ap (λ (y : PassState). y.view.met) (sym (some-injective x.pass q there)) ∙ d.met ∙ ap (λ (y : PassState). y.view.met) (some-injective p p' at)
       merged_met (suc w) p' q at there = r.met w p' q at there
 
-  merge : (lines : Lines) (n k number : ℕ) (ps : List PassState) (xs : List Worker) → 0 < k → DoParts contents m rel fork lines n k number ps xs → AllDone xs → Merged lines n k number ps xs
+  merge : (lines : Lines) (n k number : ℕ) (ps : List PassState) (xs : List (Worker Lister)) → 0 < k → DoParts contents m rel fork lines n k number ps xs → AllDone xs → Merged lines n k number ps xs
   merge lines n k number [] [] many d done = record {
     reads = [];
     long = let e = ap (part_start n k) (let h : number ≡ number + 0 = omega arith in h) in omega (arith, e);
@@ -174,8 +177,8 @@ module _ {L G : Type 0} (contents : L → Option Pages) (m : Manager L G) (rel :
   merge lines n k number (p ∷ ps) (x ∷ xs) many d done =
       merge_one lines n k number p ps x xs many (done_well lines (part_start n k number) (part_start n k (number + 1)) p x d.0 done.0) done.0 (merge lines n k (number + 1) ps xs many d.1 done.1)
 
-  pub reads_all : (lines : Lines) (n : ℕ) (ps : List PassState) (xs : List Worker) (old new : Option (List ℕ)) (totals : Totals) → n ≡ blocks_in m rel fork → 0 < length ps → DoParts contents m rel fork lines n (length ps) 0 ps xs → AllDone xs
-      → new ≡ option_map (λ b. b ++ job_text (totals_line (job_totals xs)) xs) old → totals ≡ totals_of_scan (job_totals xs) → ReadsAll contents m rel fork lines ps (map (λ (x : Worker). x.pass) xs) old new totals
+  pub reads_all : (lines : Lines) (n : ℕ) (ps : List PassState) (xs : List (Worker Lister)) (old new : Option (List ℕ)) (totals : Totals) → n ≡ blocks_in m rel fork → 0 < length ps → DoParts contents m rel fork lines n (length ps) 0 ps xs → AllDone xs
+      → new ≡ option_map (λ b. b ++ job_text (totals_line (job_totals xs)) xs) old → totals ≡ totals_of_scan (job_totals xs) → ReadsAll contents m rel fork lines ps (map (λ (x : Worker Lister). x.pass) xs) old new totals
   reads_all lines n ps xs old new totals size many d done put total =
       let k = length ps in
       let r = merge lines n k 0 ps xs many d done in
@@ -199,31 +202,31 @@ module _ {L G : Type 0} (contents : L → Option Pages) (m : Manager L G) (rel :
       }
 
   -- why the job ended
-  any_meets : (lines : Lines) (n k number : ℕ) (ps : List PassState) (xs : List Worker) (e : JobError) → DoParts contents m rel fork lines n k number ps xs → AnyEnds e xs → (e ≡ Memory) ⊎ AnyMeets contents m rel fork ps (map (λ (x : Worker). x.pass) xs) e
+  any_meets : (lines : Lines) (n k number : ℕ) (ps : List PassState) (xs : List (Worker Lister)) (e : JobError) → DoParts contents m rel fork lines n k number ps xs → AnyEnds e xs → (e ≡ Memory) ⊎ AnyMeets contents m rel fork ps (map (λ (x : Worker Lister). x.pass) xs) e
   any_meets lines n k number [] [] e d a = absurd a
   any_meets lines n k number [] (x ∷ xs) e d a = absurd d
   any_meets lines n k number (p ∷ ps) [] e d a = absurd d
   any_meets lines n k number (p ∷ ps) (x ∷ xs) e d (inl is) = one (subst (λ (r : Result Unit JobError). IfErr r (EndsFor contents m rel fork p x.pass)) is d.0.cause)
     where
-      one : EndsFor contents m rel fork p x.pass e → (e ≡ Memory) ⊎ (MeetsFault contents m rel fork p x.pass e ⊎ AnyMeets contents m rel fork ps (map (λ (x : Worker). x.pass) xs) e)
+      one : EndsFor contents m rel fork p x.pass e → (e ≡ Memory) ⊎ (MeetsFault contents m rel fork p x.pass e ⊎ AnyMeets contents m rel fork ps (map (λ (x : Worker Lister). x.pass) xs) e)
       one (inl memory) = inl memory
       one (inr meets) = inr (inl meets)
   any_meets lines n k number (p ∷ ps) (x ∷ xs) e d (inr a) = other (any_meets lines n k (number + 1) ps xs e d.1 a)
     where
-      other : (e ≡ Memory) ⊎ AnyMeets contents m rel fork ps (map (λ (x : Worker). x.pass) xs) e → (e ≡ Memory) ⊎ (MeetsFault contents m rel fork p x.pass e ⊎ AnyMeets contents m rel fork ps (map (λ (x : Worker). x.pass) xs) e)
+      other : (e ≡ Memory) ⊎ AnyMeets contents m rel fork ps (map (λ (x : Worker Lister). x.pass) xs) e → (e ≡ Memory) ⊎ (MeetsFault contents m rel fork p x.pass e ⊎ AnyMeets contents m rel fork ps (map (λ (x : Worker Lister). x.pass) xs) e)
       other (inl memory) = inl memory
       other (inr meets) = inr (inr meets)
 
-  module _ (lines : Lines) (n : ℕ) (ps : List PassState) (xs : List Worker) (p q : PassState) (end : Result Unit JobError) (outs outs_now : ℕ)
+  module _ (lines : Lines) (n : ℕ) (ps : List PassState) (xs : List (Worker Lister)) (p q : PassState) (end : Result Unit JobError) (outs outs_now : ℕ)
       (d : DoParts contents m rel fork lines n (length ps) 0 ps xs) (beside : EndsBeside contents m p q end) where
     abbrev JobEndsFor : JobError → Type 0
-    JobEndsFor e = (e ≡ Memory) ⊎ (AnyMeets contents m rel fork ps (map (λ (x : Worker). x.pass) xs) e ⊎ (WorkIsRefused contents m p q e ⊎ ((e ≡ OutFault) × Rose outs outs_now)))
+    JobEndsFor e = (e ≡ Memory) ⊎ (AnyMeets contents m rel fork ps (map (λ (x : Worker Lister). x.pass) xs) e ⊎ (WorkIsRefused contents m p q e ⊎ ((e ≡ OutFault) × Rose outs outs_now)))
 
     cause_of : (e : JobError) → (e ≡ Memory) ⊎ (AnyEnds e xs ⊎ ((end ≡ Err e) ⊎ ((e ≡ OutFault) × Rose outs outs_now))) → JobEndsFor e
     cause_of e (inl memory) = inl memory
     cause_of e (inr (inl ends)) = of (any_meets lines n (length ps) 0 ps xs e d ends)
       where
-        of : (e ≡ Memory) ⊎ AnyMeets contents m rel fork ps (map (λ (x : Worker). x.pass) xs) e → JobEndsFor e
+        of : (e ≡ Memory) ⊎ AnyMeets contents m rel fork ps (map (λ (x : Worker Lister). x.pass) xs) e → JobEndsFor e
         of (inl memory) = inl memory
         of (inr meets) = inr (inl meets)
     cause_of e (inr (inr (inl refused))) = inr (inr (inl (subst (λ (r : Result Unit JobError). IfErr r (WorkIsRefused contents m p q)) refused beside.cause)))
@@ -234,7 +237,7 @@ module _ {L G : Type 0} (contents : L → Option Pages) (m : Manager L G) (rel :
     job_cause (Err e) c = cause_of e c
 
   -- the workers' totals
-  pub parts_counted : (lines : Lines) (n k number : ℕ) (ps : List PassState) (xs : List Worker) → DoParts contents m rel fork lines n k number ps xs → TotalsAreInRange xs
+  pub parts_counted : (lines : Lines) (n k number : ℕ) (ps : List PassState) (xs : List (Worker Lister)) → DoParts contents m rel fork lines n k number ps xs → TotalsAreInRange xs
   parts_counted lines n k number [] [] d = tt
   parts_counted lines n k number [] (x ∷ xs) d = absurd d
   parts_counted lines n k number (p ∷ ps) [] d = absurd d
@@ -247,27 +250,22 @@ module _ {L G : Type 0} (contents : L → Option Pages) (m : Manager L G) (rel :
       let b = ap (λ (u : ScanTotals). u.blocks) (d.totals_is ∙ sum_none (reads_totals d.printed)) ∙ totals_long d.printed in
       omega arith
 
-  pub parts_few : (lines : Lines) (n k number : ℕ) (ps : List PassState) (xs : List Worker) → DoParts contents m rel fork lines n k number ps xs → part_start n k number + (job_totals xs).blocks ≤ part_start n k (number + length ps)
+  pub parts_few : (lines : Lines) (n k number : ℕ) (ps : List PassState) (xs : List (Worker Lister)) → DoParts contents m rel fork lines n k number ps xs → part_start n k number + (job_totals xs).blocks ≤ part_start n k (number + length ps)
   parts_few lines n k number [] [] d = let e = ap (part_start n k) (let z : number + 0 ≡ number = omega arith in z) in omega (arith, e)
   parts_few lines n k number [] (x ∷ xs) d = absurd d
   parts_few lines n k number (p ∷ ps) [] d = absurd d
   parts_few lines n k number (p ∷ ps) (x ∷ xs) d =
-      let one = one_few lines (part_start n k number) (part_start n k (number + 1)) p x.pass [] x.printed.text.items x.printed.totals x.end d.0 in
+      let one = one_few lines (part_start n k number) (part_start n k (number + 1)) p x.pass [] x.task.printed.text.items x.task.printed.totals x.end d.0 in
       let rest = parts_few lines n k (number + 1) ps xs d.1 in
       let e = ap (part_start n k) (let z : number + 1 + length ps ≡ number + suc (length ps) = omega arith in z) in
       omega (arith, one, rest, e)
 
-  pub all_few : (lines : Lines) (n : ℕ) (ps : List PassState) (xs : List Worker) → n < 4294967296 → 0 < length ps → DoParts contents m rel fork lines n (length ps) 0 ps xs → (job_totals xs).blocks ≤ 4294967296
+  pub all_few : (lines : Lines) (n : ℕ) (ps : List PassState) (xs : List (Worker Lister)) → n < 4294967296 → 0 < length ps → DoParts contents m rel fork lines n (length ps) 0 ps xs → (job_totals xs).blocks ≤ 4294967296
   all_few lines n ps xs fits many d =
       let few = parts_few lines n (length ps) 0 ps xs d in
       let last = start_last n (length ps) many in
       let e = ap (part_start n (length ps)) (let z : 0 + length ps ≡ length ps = omega arith in z) in
       omega (arith, few, last, e, fits)
-
-  pub free_at : (ps : List PassState) (w : ℕ) (p : PassState) → HaveNoTokens contents m ps → get_elem? ps w ≡ some p → HasNoTokens contents m p
-  free_at [] w p free at = absurd (some-ne-none p (sym at))
-  free_at (x ∷ ps) zero p free at = subst (HasNoTokens contents m) (some-injective x p at) free.0
-  free_at (x ∷ ps) (suc w) p free at = free_at ps w p free.1 at
 
   -- where no worker began
   pub unread_parts : (ps : List PassState) → 0 < length ps → HaveNoTokens contents m ps → ReadParts contents m rel fork ps ps
@@ -275,7 +273,7 @@ module _ {L G : Type 0} (contents : L → Option Pages) (m : Manager L G) (rel :
     counted = refl;
     each = λ w p q at there.
         let same : p ≡ q = some-injective p q (sym at ∙ there) in
-        let f = free_at ps w p free at in
+        let f = free_at contents m ps w p free at in
         let le = start_le (blocks_in m rel fork) (length ps) w many in
         subst (λ (y : PassState). ReadsPart contents m rel fork (part_start (blocks_in m rel fork) (length ps) w) (part_start (blocks_in m rel fork) (length ps) (w + 1)) p y) same record {
           stays = stays_none contents m p f.belongs;
@@ -289,11 +287,11 @@ module _ {L G : Type 0} (contents : L → Option Pages) (m : Manager L G) (rel :
   }
 
   -- the whole, where the job is done
-  pub job_done : (lines : Lines) (n : ℕ) (ps : List PassState) (xs : List Worker) (old new : Option (List ℕ)) (r : Result Totals JobError) (F : Type 0) → n ≡ blocks_in m rel fork → 0 < length ps → DoParts contents m rel fork lines n (length ps) 0 ps xs
-      → OnOk r (F × AllDone xs) → IfOk r (λ totals. totals ≡ totals_of_scan (job_totals xs)) → Puts (job_text (totals_line (job_totals xs)) xs) old new (as_done r) → IfOk r (ReadsAll contents m rel fork lines ps (map (λ (x : Worker). x.pass) xs) old new)
+  pub job_done : (lines : Lines) (n : ℕ) (ps : List PassState) (xs : List (Worker Lister)) (old new : Option (List ℕ)) (r : Result Totals JobError) (F : Type 0) → n ≡ blocks_in m rel fork → 0 < length ps → DoParts contents m rel fork lines n (length ps) 0 ps xs
+      → OnOk r (F × AllDone xs) → IfOk r (λ totals. totals ≡ totals_of_scan (job_totals xs)) → Puts (job_text (totals_line (job_totals xs)) xs) old new (as_done r) → IfOk r (ReadsAll contents m rel fork lines ps (map (λ (x : Worker Lister). x.pass) xs) old new)
   job_done lines n ps xs old new (Ok totals) F size many d ok total puts = reads_all lines n ps xs old new totals size many d ok.1 puts.ok total
   job_done lines n ps xs old new (Err e) F size many d ok total puts = tt
 
-pub all_done : {A : Type 0} (xs : List Worker) (r : Result A JobError) (F : Type 0) → OnOk r (F × AllDone xs) → OnOk r (AllDone xs)
+pub all_done : {A : Type 0} (xs : List (Worker Lister)) (r : Result A JobError) (F : Type 0) → OnOk r (F × AllDone xs) → OnOk r (AllDone xs)
 all_done xs (Ok a) F ok = ok.1
 all_done xs (Err e) F ok = tt

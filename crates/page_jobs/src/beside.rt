@@ -1,8 +1,10 @@
 //! Work beside the workers of a job.
-ghost use Rattle.std.specs.Prelude.{◌≡◌, IfErr, IsOk, OnOk};
+ghost use Rattle.std.specs.Prelude.{◌≡◌, Result, Ok, IfErr, IsOk, OnOk};
+ghost use Rattle.backend_pass.specs.declared.errors.FlushError.{FlushError};
+ghost use Rattle.backend_pass.specs.declared.manager.Manager.{Manager};
 ghost use Rattle.backend_pass.specs.FrameFlushes.{RefusesFrame};
 ghost use Rattle.backend_pass.specs.Managers.{Belongs};
-ghost use Rattle.backend_pass.specs.Passes.{KeepsCallers, KeepsMark, SamePass};
+ghost use Rattle.backend_pass.specs.Passes.{KeepsCallers, KeepsMark, PassState, SamePass};
 ghost use Rattle.backend_pass.specs.Reading.{NothingFails};
 ghost use Rattle.page_jobs.specs.Beside.{EndsBeside, fault_of_flush};
 ghost use Rattle.page_jobs.specs.Reads.{HasNoTokens};
@@ -15,6 +17,9 @@ use std::sync::Wait;
 
 /// What the last pass of a job does while the others work on the blocks, as rounds of a background writer are.
 pub trait Beside<L: BlockLane, G: LogDevice> {
+    // What its work did, between two states of it and of the pass, and how that ended.
+    ghost works: { Manager L G → Self → Self → PassState → PassState → Result Unit FlushError → Type 0 };
+
     /// Works with the pass, once for a job. It may write pages that are dirty; it reads and puts none.
     fn work<R: Wait>(
         &mut self,
@@ -23,6 +28,7 @@ pub trait Beside<L: BlockLane, G: LogDevice> {
         pass: &mut Pass,
     ) -> Result<(), FlushError>
         requires free { HasNoTokens L.contents manager.now pass.old }
+        ensures works { works manager.now self.old self.new pass.old pass.new result }
         ensures belongs { Belongs L.contents manager.now pass.new }
         ensures same { SamePass pass.old pass.new }
         ensures callers { KeepsCallers pass.old pass.new }
@@ -39,6 +45,8 @@ pub trait Beside<L: BlockLane, G: LogDevice> {
 pub struct NoBeside;
 
 impl<L: BlockLane, G: LogDevice> Beside<L, G> for NoBeside {
+    ghost works = { λ _ _ _ p q end. (q ≡ p) × (end ≡ Ok tt) };
+
     fn work<R: Wait>(
         &mut self,
         _manager: &Manager<L, G>,
@@ -70,6 +78,7 @@ pub(crate) fn work_last<L: BlockLane, G: LogDevice, R: Wait, B: Beside<L, G>>(
 ) -> Result<(), JobError>
     requires free { HasNoTokens L.contents manager.now last.old }
     ensures ends { EndsBeside L.contents manager.now last.old last.new result }
+    ensures works { OnOk result (B.works manager.now beside.old beside.new last.old last.new (Ok tt)) }
 {
     match beside.work(manager, rt, last) {
         Ok(()) => Ok(()),

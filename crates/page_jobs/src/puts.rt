@@ -8,20 +8,21 @@ ghost use Rattle.page_jobs.specs.Ending.{as_done, totals_of_scan};
 ghost use Rattle.page_jobs.specs.Printed.{totals_line};
 
 use crate::ending::{JobError, Totals};
+use crate::listing::Lister;
 use crate::working::Worker;
 use log_device::{Failed, Sink};
 use page_layout::ScanTotals;
 use std::alloc::Global;
 
 /// Puts the texts of the workers in their order; at a fault that of the first one that met one, up to its fault, and nothing after it.
-fn put_texts<O: Sink>(workers: &[Worker], out: &mut O) -> Result<(), JobError>
+fn put_texts<O: Sink>(workers: &[Worker<Lister>], out: &mut O) -> Result<(), JobError>
     ensures text { Puts (job_text [] workers.now) (O.bytes out.old) (O.bytes out.new) result }
     ensures later { O.faults out.old ≤ O.faults out.new }
     ensures ok { OnOk result ((O.faults out.new ≡ O.faults out.old) × AllDone workers.now) }
     ensures cause { IfErr result (λ e. AnyEnds e workers.now ⊎ ((e ≡ OutFault) × Rose (O.faults out.old) (O.faults out.new))) }
 {
     for worker in workers {
-        let put = out.put(&worker.printed.text);
+        let put = out.put(&worker.task.printed.text);
         if let Err(error) = worker.end {
             return Err(error);
         }
@@ -33,14 +34,14 @@ fn put_texts<O: Sink>(workers: &[Worker], out: &mut O) -> Result<(), JobError>
 }
 
 /// The totals of all workers.
-fn sum_totals(workers: &[Worker]) -> ScanTotals
+fn sum_totals(workers: &[Worker<Lister>]) -> ScanTotals
     requires counts { TotalsAreInRange workers.now }
     requires few { (job_totals workers.now).blocks ≤ 2 ^ 32 }
     ensures { result ≡ job_totals workers.now }
 {
     let mut totals = ScanTotals::none();
     for worker in workers {
-        totals.add(&worker.printed.totals);
+        totals.add(&worker.task.printed.totals);
     }
     totals
 }
@@ -62,7 +63,7 @@ fn put_totals<O: Sink>(alloc: Global, totals: ScanTotals, out: &mut O) -> Result
 /// Puts the texts of the workers, and then the line of their totals, which isn't put where the work beside them was refused.
 pub(crate) fn put_all<O: Sink>(
     alloc: Global,
-    workers: &[Worker],
+    workers: &[Worker<Lister>],
     beside_end: Result<(), JobError>,
     out: &mut O,
 ) -> Result<Totals, JobError>

@@ -7,31 +7,22 @@ ghost use Rattle.backend_pass.specs.Locks.{HasLock};
 ghost use Rattle.backend_pass.specs.Managers.{Belongs};
 ghost use Rattle.page_layout.specs.Outcomes.{IsRewriteWithin, no_rewrite_totals};
 ghost use Rattle.frame_table.specs.Seats.{relations_of};
-ghost use Rattle.page_jobs.specs.Parts.{blocks_in};
 ghost use Rattle.page_jobs.specs.Reads.{HasNoTokens, RefusesBlock};
 ghost use Rattle.page_jobs.specs.Rewriting.{LocksOne, RewritesBlock, RewritesHeld, RewritesLocked, RewritesPart, fault_of_put};
 
 use crate::ending::JobError;
 use crate::gate::Gate;
 use crate::reading::{fault_of, pin_block};
-use crate::working::Worker;
+use crate::working::{BlockTask, Buffers};
 use access_rings::{Ring, RingKind};
 use backend_pass::{Exclusive, Manager, Pass, PutError, ReadError, Refused};
-use block_tag::{Fork, RelNo, Tag};
+use block_tag::Tag;
 use log_device::LogDevice;
-use page_layout::{Page, PageRewrite, Rewrite, RewriteTotals, rewritten};
+use page_layout::{PageRewrite, Rewrite, RewriteTotals, rewritten};
 use segment_store::BlockLane;
-use std::alloc::Global;
+use std::alloc::{AllocError, Global};
 use std::sync::Wait;
 use std::thread;
-
-/// What a worker rewrites with: room for the page that it reads and for what becomes of it, and the ring of a vacuum.
-#[derive(Drop)]
-pub(crate) struct RewriteBuffers {
-    pub(crate) page: Page,
-    pub(crate) after: Page,
-    pub(crate) ring: Option<Ring>,
-}
 
 /// Takes the cleanup lock of a block, which it pins. Where another backend waits for that lock it gives up its pin, which the other one waits for, and tries again.
 fn lock_block<L: BlockLane, G: LogDevice, R: Wait>(
@@ -65,7 +56,7 @@ fn rewrite_locked<L: BlockLane, G: LogDevice, R: Wait, T: Gate>(
     worker: u32,
     pass: &mut Pass,
     exclusive: &mut Exclusive,
-    buffers: &mut RewriteBuffers,
+    buffers: &mut Buffers,
 ) -> Result<PageRewrite, PutError>
     requires belongs { Belongs L.contents manager.now pass.old }
     requires pinned { IsPinnedFor exclusive.old.pinned.tag exclusive.old.pinned.frame pass.old.tokens }
@@ -93,7 +84,7 @@ fn rewrite_held<L: BlockLane, G: LogDevice, R: Wait, T: Gate>(
     worker: u32,
     pass: &mut Pass,
     mut exclusive: Exclusive,
-    buffers: &mut RewriteBuffers,
+    buffers: &mut Buffers,
 ) -> Result<PageRewrite, PutError>
     requires belongs { Belongs L.contents manager.now pass.old }
     requires pinned { IsPinnedFor exclusive.pinned.tag exclusive.pinned.frame pass.old.tokens }
@@ -119,14 +110,14 @@ fn fault_of_put(why: PutError) -> JobError
 }
 
 /// Rewrites a block.
-pub(crate) fn rewrite_block<L: BlockLane, G: LogDevice, R: Wait, T: Gate>(
+fn rewrite_block<L: BlockLane, G: LogDevice, R: Wait, T: Gate>(
     manager: &Manager<L, G>,
     rt: &R,
     gate: &T,
     worker: u32,
     pass: &mut Pass,
     tag: Tag,
-    buffers: &mut RewriteBuffers,
+    buffers: &mut Buffers,
 ) -> Result<PageRewrite, JobError>
     requires free { HasNoTokens L.contents manager.now pass.old }
     requires block { tag.block < blocks_at (relations_of manager.now.table) tag.rel.0 tag.fork }
@@ -144,129 +135,52 @@ pub(crate) fn rewrite_block<L: BlockLane, G: LogDevice, R: Wait, T: Gate>(
     }
 }
 
-/// Rewrites a block, and counts it.
-fn rewrite_counted<L: BlockLane, G: LogDevice, R: Wait, T: Gate>(
-    manager: &Manager<L, G>,
-    rt: &R,
-    gate: &T,
-    worker: u32,
-    pass: &mut Pass,
-    tag: Tag,
-    buffers: &mut RewriteBuffers,
-    totals: &mut RewriteTotals,
-) -> Result<(), JobError>
-    requires free { HasNoTokens L.contents manager.now pass.old }
-    requires block { tag.block < blocks_in manager.now tag.rel.0 tag.fork }
-    requires within { IsRewriteWithin totals.now totals.now.blocks }
-    requires room { totals.now.blocks < 2 ^ 32 }
-    ensures rewrites { RewritesPart L.contents manager.now tag.rel.0 tag.fork tag.block (tag.block + 1) pass.old pass.new totals.entry.now totals.exit.now result }
-{
-    gate.before(worker, tag.block);
-    let what = rewrite_block(manager, rt, gate, worker, pass, tag, buffers)?;
-    totals.count(&what);
-    Ok(())
+/// Blocks are rewritten, and this became of them so far.
+#[derive(Drop)]
+pub(crate) struct Rewriter {
+    pub(crate) totals: RewriteTotals,
 }
 
-/// Rewrites the blocks from `from` up to, not including, `to`, in order.
-fn rewrite_blocks<L: BlockLane, G: LogDevice, R: Wait, T: Gate>(
-    manager: &Manager<L, G>,
-    rt: &R,
-    gate: &T,
-    worker: u32,
-    pass: &mut Pass,
-    rel: RelNo,
-    fork: Fork,
-    from: u32,
-    to: u32,
-    buffers: &mut RewriteBuffers,
-    totals: &mut RewriteTotals,
-) -> Result<(), JobError>
-    requires free { HasNoTokens L.contents manager.now pass.old }
-    requires part { (from ≤ to) × (to ≤ blocks_in manager.now rel.0 fork) }
-    requires none { totals.now ≡ no_rewrite_totals }
-    ensures rewrites { RewritesPart L.contents manager.now rel.0 fork from to pass.old pass.new totals.entry.now totals.exit.now result }
-{
-    for block in from..to {
-        let tag = Tag { rel, fork, block };
-        rewrite_counted(manager, rt, gate, worker, pass, tag, buffers, totals)?;
+impl Rewriter {
+    /// One that has rewritten none.
+    pub(crate) fn none() -> Rewriter
+        ensures { result.totals ≡ no_rewrite_totals }
+    {
+        Rewriter {
+            totals: RewriteTotals::none(),
+        }
     }
-    Ok(())
 }
 
-/// Rewrites the blocks of a part, with buffers of its own.
-pub(crate) fn rewrite_part<L: BlockLane, G: LogDevice, R: Wait, T: Gate>(
-    manager: &Manager<L, G>,
-    rt: &R,
-    alloc: Global,
-    gate: &T,
-    worker: u32,
-    pass: &mut Pass,
-    rel: RelNo,
-    fork: Fork,
-    from: u32,
-    to: u32,
-    totals: &mut RewriteTotals,
-) -> Result<(), JobError>
-    requires free { HasNoTokens L.contents manager.now pass.old }
-    requires part { (from ≤ to) × (to ≤ blocks_in manager.now rel.0 fork) }
-    requires none { totals.now ≡ no_rewrite_totals }
-    ensures rewrites { RewritesPart L.contents manager.now rel.0 fork from to pass.old pass.new totals.entry.now totals.exit.now result }
-{
-    let mut buffers = RewriteBuffers {
-        page: Page::zeroed(alloc)?,
-        after: Page::zeroed(alloc)?,
-        ring: Some(Ring::build(alloc, RingKind::Vacuum, manager.frames())?),
-    };
-    rewrite_blocks(
-        manager,
-        rt,
-        gate,
-        worker,
-        pass,
-        rel,
-        fork,
-        from,
-        to,
-        &mut buffers,
-        totals,
-    )
-}
+impl<L: BlockLane, G: LogDevice> BlockTask<L, G> for Rewriter {
+    ghost does = { λ m rel fork block p q k l end. RewritesPart L.contents m rel fork block (block + 1) p q k.totals l.totals end };
 
-/// The blocks that a job rewrites: those of a fork.
-#[derive(Clone, Copy)]
-pub(crate) struct ForkBlocks {
-    pub(crate) rel: RelNo,
-    pub(crate) fork: Fork,
-}
+    ghost begins = { λ _ l. l.totals ≡ no_rewrite_totals };
 
-impl Worker {
-    /// Rewrites the blocks of its part, and notes its end.
-    pub(crate) fn rewrite<L: BlockLane, G: LogDevice, R: Wait, T: Gate>(
+    ghost fits = { λ k n. IsRewriteWithin k.totals k.totals.blocks × (k.totals.blocks + n ≤ 2 ^ 32) };
+
+    fn begin(&self, _alloc: Global) -> Rewriter {
+        Rewriter::none()
+    }
+
+    fn ring(&self, alloc: Global, _blocks: u32, frames: u32) -> Result<Option<Ring>, AllocError> {
+        let ring = Ring::build(alloc, RingKind::Vacuum, frames)?;
+        Ok(Some(ring))
+    }
+
+    fn work_block<R: Wait, T: Gate>(
         &mut self,
         manager: &Manager<L, G>,
         rt: &R,
-        alloc: Global,
+        _alloc: Global,
         gate: &T,
-        blocks: ForkBlocks,
-    )
-        requires free { HasNoTokens L.contents manager.now self.old.pass }
-        requires part { (self.old.from ≤ self.old.to) × (self.old.to ≤ blocks_in manager.now blocks.rel.0 blocks.fork) }
-        requires none { self.old.rewritten ≡ no_rewrite_totals }
-        ensures same { (self.new.number ≡ self.old.number) × (self.new.from ≡ self.old.from) × (self.new.to ≡ self.old.to) }
-        ensures rewrites { RewritesPart L.contents manager.now blocks.rel.0 blocks.fork self.old.from self.old.to self.old.pass self.new.pass self.old.rewritten self.new.rewritten self.new.end }
-    {
-        self.end = rewrite_part(
-            manager,
-            rt,
-            alloc,
-            gate,
-            self.number,
-            &mut self.pass,
-            blocks.rel,
-            blocks.fork,
-            self.from,
-            self.to,
-            &mut self.rewritten,
-        );
+        worker: u32,
+        pass: &mut Pass,
+        tag: Tag,
+        buffers: &mut Buffers,
+    ) -> Result<(), JobError> {
+        let what = rewrite_block(manager, rt, gate, worker, pass, tag, buffers)?;
+        self.totals.count(&what);
+        Ok(())
     }
 }

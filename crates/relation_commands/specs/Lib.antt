@@ -1,4 +1,5 @@
 pub mod Limits
+pub mod Rounds
 pub mod Listings
 pub mod Starting
 pub mod Request

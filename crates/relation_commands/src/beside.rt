@@ -1,5 +1,6 @@
 //! Rounds of the background writer beside a job.
 ghost use Rattle.std.specs.Prelude.{◌≡◌};
+ghost use Rattle.relation_commands.specs.Rounds.{MakesRounds};
 
 use backend_pass::{FlushError, Manager, Pass};
 use bg_writer::round;
@@ -21,6 +22,8 @@ impl Rounds {
 }
 
 impl<L: BlockLane, G: LogDevice> Beside<L, G> for Rounds {
+    ghost works = { λ m rounds _ p q end. MakesRounds L.contents m rounds.count p q end };
+
     fn work<R: Wait>(
         &mut self,
         manager: &Manager<L, G>,

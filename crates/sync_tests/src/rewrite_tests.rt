@@ -1,4 +1,6 @@
 //! Rewrites that are run.
+ghost use Rattle.std.specs.Prelude.{◌≡◌, Ok};
+
 use crate::devices::TestCall::{Append, ReadBlock, SyncLane, SyncLog, WriteBlock};
 use crate::devices::{ByteLog, Failing, Journal, PageLane};
 use crate::rewriting::rewrite_then_checkpoint;
@@ -140,6 +142,8 @@ struct MeetWorker<'a> {
 }
 
 impl<'a, L: BlockLane, G: LogDevice> Beside<L, G> for MeetWorker<'a> {
+    ghost works = { λ _ _ _ p q end. (q ≡ p) × (end ≡ Ok tt) };
+
     fn work<R: Wait>(
         &mut self,
         _manager: &Manager<L, G>,

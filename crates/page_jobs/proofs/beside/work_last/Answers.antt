@@ -10,4 +10,5 @@ returns-in-Err g c =
         met = tt;
         cause = work_is_refused {L = g.row.L.Denot} {G = g.row.G.Denot} g.L.BlockLane.contents c.args.manager.now c.in-Err.why c.fault_of_flush.result c.args.last.now c.work.new.pass e.cause c.fault_of_flush.ensures;
       };
+      works = tt;
     }

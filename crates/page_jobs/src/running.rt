@@ -1,0 +1,172 @@
+//! A job from its passes to its workers' ends, whatever it does with the blocks.
+ghost use Rattle.std.specs.Prelude.{◌≡◌, ℕ, true, ◌+◌, ◌<◌, ◌≤◌, ◌++◌, [], ◌∷◌, Ok, IfErr, IfOk, OnOk, map, vec_capacity, vec_len, All};
+ghost use Rattle.block_tag.specs.Names.{names_block, tag_of_parts};
+ghost use Rattle.page_jobs.specs.declared.working.Worker.{Worker};
+ghost use Rattle.page_jobs.specs.Beside.{EndsBeside};
+ghost use Rattle.page_jobs.specs.Dealt.{HasRun, IsReady};
+ghost use Rattle.page_jobs.specs.Jobs.{HaveNoTokens};
+ghost use Rattle.page_jobs.specs.Parts.{blocks_in};
+ghost use Rattle.page_jobs.specs.Reads.{HasNoTokens};
+ghost use Rattle.page_jobs.specs.Working.{CanBegin, HaveWorked};
+
+use crate::beside::{Beside, work_last};
+use crate::dealing::{deal, gather};
+use crate::ending::{JobEnd, JobError, Totals};
+use crate::gate::Gate;
+use crate::working::{BlockTask, ForkBlocks, Worker, work};
+use backend_pass::{Manager, Pass};
+use log_device::LogDevice;
+use segment_store::BlockLane;
+use std::alloc::Global;
+use std::sync::Wait;
+use std::thread;
+use std::thread::Threads;
+
+/// The workers of a job, once all have ended; the pass that worked beside them, and how its work ended; and the room of the passes that the job was given.
+pub(crate) struct Ran<K> {
+    pub(crate) workers: Vec<Worker<K>>,
+    pub(crate) beside_end: Result<(), JobError>,
+    last: Pass,
+    passes: Vec<Pass>,
+}
+
+/// All workers at once, each in a thread of its own where one can be made.
+fn work_all<
+    L: BlockLane + Send,
+    G: LogDevice + Send,
+    R: Threads + Wait + Sync,
+    T: Gate + Sync,
+    K: BlockTask<L, G> + Send,
+>(
+    manager: &Manager<L, G>,
+    rt: &R,
+    alloc: Global,
+    gate: &T,
+    blocks: ForkBlocks,
+    workers: &mut Vec<Worker<K>>,
+)
+    requires some { 0 < vec_len workers.old }
+    requires ready { All (IsReady L.contents manager.now blocks.rel.0 blocks.fork K.fits) workers.old.items }
+    ensures count { vec_len workers.new ≡ vec_len workers.old }
+    ensures worked { HaveWorked (K.does manager.now blocks.rel.0 blocks.fork) workers.old.items workers.new.items }
+{
+    let threads = workers.len();
+    thread::for_each_mut(
+        rt,
+        workers.as_mut_slice(),
+        threads,
+        &|_place, worker| { work(manager, rt, alloc, gate, blocks, worker) },
+    );
+}
+
+/// All workers at once, and the last pass beside them.
+fn work_beside<
+    L: BlockLane + Send,
+    G: LogDevice + Send,
+    R: Threads + Wait + Sync,
+    T: Gate + Sync,
+    B: Beside<L, G>,
+    K: BlockTask<L, G> + Send,
+>(
+    manager: &Manager<L, G>,
+    rt: &R,
+    alloc: Global,
+    workers: &mut Vec<Worker<K>>,
+    last: &mut Pass,
+    blocks: ForkBlocks,
+    gate: &T,
+    beside: &mut B,
+) -> Result<(), JobError>
+    requires some { 0 < vec_len workers.old }
+    requires ready { All (IsReady L.contents manager.now blocks.rel.0 blocks.fork K.fits) workers.old.items }
+    requires free { HasNoTokens L.contents manager.now last.old }
+    ensures count { vec_len workers.new ≡ vec_len workers.old }
+    ensures worked { HaveWorked (K.does manager.now blocks.rel.0 blocks.fork) workers.old.items workers.new.items }
+    ensures beside { EndsBeside L.contents manager.now last.old last.new result }
+    ensures works { OnOk result (B.works manager.now beside.old beside.new last.old last.new (Ok tt)) }
+{
+    let (_, end) = thread::join_mut(
+        rt,
+        &mut ||
+            requires { (0 < vec_len workers.now)
+                × All (IsReady L.contents manager.now blocks.rel.0 blocks.fork K.fits) workers.now.items }
+            ensures { (vec_len workers.exit.now ≡ vec_len workers.entry.now)
+                × HaveWorked (K.does manager.entry.now blocks.rel.0 blocks.fork) workers.entry.now.items workers.exit.now.items }
+        { work_all(manager, rt, alloc, gate, blocks, workers) },
+        &mut || work_last(manager, rt, last, beside),
+    );
+    end
+}
+
+/// Runs a job to its workers' ends: all passes but the last one work, each on its part of the blocks, and the last one does other work beside them. Out of memory, the passes are given back.
+pub(crate) fn run_job<
+    L: BlockLane + Send,
+    G: LogDevice + Send,
+    R: Threads + Wait + Sync,
+    T: Gate + Sync,
+    B: Beside<L, G>,
+    K: BlockTask<L, G> + Send,
+>(
+    manager: &Manager<L, G>,
+    rt: &R,
+    alloc: Global,
+    mut passes: Vec<Pass>,
+    blocks: ForkBlocks,
+    task: &K,
+    gate: &T,
+    beside: &mut B,
+) -> Result<Ran<K>, Vec<Pass>>
+    requires several { 2 ≤ vec_len passes }
+    requires few { vec_len passes ≤ 64 }
+    requires free { HaveNoTokens L.contents manager.now passes.items }
+    ensures ran { IfOk result (HasRun L.contents manager.now blocks.rel.0 blocks.fork (K.does manager.now blocks.rel.0 blocks.fork) (λ k. K.begins task.now k × CanBegin K.fits k) (λ p q. B.works manager.now beside.old beside.new p q (Ok tt)) passes.items) }
+    ensures refused { IfErr result (λ given. given.items ≡ passes.items) }
+    ensures named { (block : ℕ) → block < blocks_in manager.now blocks.rel.0 blocks.fork → names_block (tag_of_parts blocks.rel.0 blocks.fork block) ≡ true }
+{
+    let mut last = passes.take_last();
+    let count = manager.blocks(blocks.rel, blocks.fork);
+    match deal(alloc, count, &mut passes, task) {
+        Ok(mut workers) => {
+            let beside_end = work_beside(
+                manager,
+                rt,
+                alloc,
+                &mut workers,
+                &mut last,
+                blocks,
+                gate,
+                beside,
+            );
+            Ok(Ran {
+                workers,
+                beside_end,
+                last,
+                passes,
+            })
+        }
+        Err(_) => {
+            passes.push_reserved(last);
+            Err(passes)
+        }
+    }
+}
+
+impl<K: Drop> Ran<K> {
+    /// The end of the job, with the passes in their order.
+    pub(crate) fn give_back(self, end: Result<Totals, JobError>) -> JobEnd
+        requires none { self.passes.items ≡ [] }
+        requires room { vec_len self.workers < vec_capacity self.passes }
+        ensures passes { result.passes.items ≡ map (λ (w : Worker K). w.pass) self.workers.items ++ self.last ∷ [] }
+        ensures end { result.end ≡ end }
+    {
+        let Ran {
+            workers,
+            beside_end: _,
+            last,
+            mut passes,
+        } = self;
+        gather(workers, &mut passes);
+        passes.push_reserved(last);
+        JobEnd { passes, end }
+    }
+}
