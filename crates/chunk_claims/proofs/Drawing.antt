@@ -63,11 +63,9 @@ drawn w word id claimants v are at part =
           (at_set claimants id j u h there);
     }
 
--- so what one seat drew is at most what all drew
-drawn_within : (w : Work) (word id : ℕ) (claimants : List Claimant) (v u : Claimant) → get_elem? claimants id ≡ some v → AreClaimed w (word + 1) (set claimants id u) → (g : ℕ → ℕ) → total g u.drawn ≤ sum_below (word + 1) g
-drawn_within w word id claimants v u at are g =
-    let one = term_le (λ (c : Claimant). total g c.drawn) (set claimants id u) id u (set_here claimants id v u at) in
-    omega (arith, one, are.drawn g)
+-- what one seat drew is at most what all drew
+drawn_within : (w : Work) (word id : ℕ) (claimants : List Claimant) (u : Claimant) → get_elem? claimants id ≡ some u → AreClaimed w word claimants → (g : ℕ → ℕ) → total g u.drawn ≤ sum_below word g
+drawn_within w word id claimants u at are g = omega (arith, term_le (λ (c : Claimant). total g c.drawn) claimants id u at, are.drawn g)
 
 pub draws_there : (w : Work) (slots id : ℕ) (me : Me (Unit {0}) Claimant) → me.0.past < me.0.parts → Allows (ClaimsHold w) slots id me 0 (λ n. (n + 1) % 2 ^ 64) (Draws (step slots 0 1 0 none) me)
 draws_there w slots id me part s h counted at low =
@@ -86,7 +84,7 @@ draws_there w slots id me part s h counted at low =
         few = h.few;
         are = more;
       },
-      (refl, λ g. subst (λ (k : ℕ). total g (v.drawn ++ word ∷ []) ≤ sum_below (k + 1) g) (sym is) (drawn_within w h.word id s.views v (with_draw word v) at more g)),
+      (refl, λ g. subst (λ (k : ℕ). total g (v.drawn ++ word ∷ []) ≤ sum_below (k + 1) g) (sym is) (drawn_within w (h.word + 1) id (set s.views id (with_draw word v)) (with_draw word v) (set_here s.views id v (with_draw word v) at) more g)),
     )
 
 pub counts_there : (w : Work) (slots id : ℕ) (me : Me (Unit {0}) Claimant) → Allows (ClaimsHold w) slots id me 0 (λ n. n) (Counts (step slots 0 0 0 none) me)
@@ -106,6 +104,7 @@ counts_there w slots id me s h counted at low =
       },
       (
         refl,
+        (λ g. subst (λ (k : ℕ). total g v.drawn ≤ sum_below k g) (sym is) (drawn_within w h.word id s.views v at are g)),
         (λ some.
             let known = (are.each id v at).some some in
             let chunks : v.chunks ≡ w.chunks = known.0 in

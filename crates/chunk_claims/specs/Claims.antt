@@ -63,9 +63,12 @@ pub record ClaimsHold (w : Work) (s : State (Unit {0}) Claimant) : Type 0 where
 abbrev pub Draws : Step (Unit {0}) → Me (Unit {0}) Claimant → ℕ → Me (Unit {0}) Claimant → Type 0
 Draws s v found w = (w ≡ (with_draw found v.0, v.1)) × ((g : ℕ → ℕ) → total g w.0.drawn ≤ sum_below (found + 1) g)
 
--- Nothing changed. The number found is at most the chunks and the workers together; and a seat that has the parts of all workers drew the numbers below it, each once
+-- Nothing changed. What the seat drew is at most what there is below the number found. With a part, that number is at most the chunks and the workers together; with the parts of all workers, the seat drew the numbers below it, each once
 abbrev pub Counts : Step (Unit {0}) → Me (Unit {0}) Claimant → ℕ → Me (Unit {0}) Claimant → Type 0
-Counts s v found w = (w ≡ v) × (0 < v.0.parts → (found ≤ v.0.chunks + v.0.workers) × (v.0.parts ≡ v.0.workers → (g : ℕ → ℕ) → total g v.0.drawn ≡ sum_below found g))
+Counts s v found w =
+    (w ≡ v)
+    × ((g : ℕ → ℕ) → total g v.0.drawn ≤ sum_below found g)
+    × (0 < v.0.parts → (found ≤ v.0.chunks + v.0.workers) × (v.0.parts ≡ v.0.workers → (g : ℕ → ℕ) → total g v.0.drawn ≡ sum_below found g))
 
 -- A seat of this table, which holds no slot
 pub record SitsAt (id : TableId) (seat : Seat (Unit {0}) Claimant) : Type 0 where

@@ -102,11 +102,12 @@ impl Claims {
         }
     }
 
-    /// How many numbers were drawn, at most one by each worker after the last chunk. A seat that has the parts of all workers drew them all, each once.
+    /// How many numbers were drawn: as many as this seat drew at least, and at most one by each worker after the last chunk. A seat that has the parts of all workers drew them all, each once.
     pub fn claimed(&self, seat: &mut Seat<(), Claimant>) -> u64
         requires seat { SitsAt self.now.table.shared.table_id seat.old }
         ensures same { seat.new.me ≡ seat.old.me }
         ensures seat { SitsAt self.now.table.shared.table_id seat.new }
+        ensures least { (g : ℕ → ℕ) → total g seat.old.me.0.drawn ≤ sum_below result g }
         ensures bound { 0 < seat.old.me.0.parts → result ≤ seat.old.me.0.chunks + seat.old.me.0.workers }
         ensures each { 0 < seat.old.me.0.parts → seat.old.me.0.parts ≡ seat.old.me.0.workers → (g : ℕ → ℕ) → total g seat.old.me.0.drawn ≡ sum_below result g }
     {
