@@ -26,7 +26,7 @@ pub struct Claims {
 }
 
 impl Claims {
-    /// So many chunks of which none is claimed, with a seat that has the parts of all workers.
+    /// The claims of so many chunks, none claimed yet, and a seat that has the parts of all workers.
     pub fn build(
         alloc: Global,
         chunks: u32,
@@ -91,8 +91,8 @@ impl Claims {
         ensures seat { SitsAt self.now.table.shared.table_id seat.new }
         ensures some { IfSome result (λ n. (n < self.now.chunks) × (seat.new.me.0 ≡ with_draw n seat.old.me.0)) }
         ensures none { IfNone result ((n : ℕ) × (self.now.chunks ≤ n) × (seat.new.me.0 ≡ with_draw n seat.old.me.0)) }
-        // What a seat claimed is at most the whole, however its chunks are weighed.
-        ensures within { IfSome result (λ _. (g : ℕ → ℕ) → total g seat.new.me.0.drawn ≤ sum_below self.now.chunks g) }
+        // What a seat claimed is at most what there is up to this chunk, however chunks are weighed; so this chunk comes after those that it claimed before.
+        ensures within { IfSome result (λ n. (g : ℕ → ℕ) → total g seat.new.me.0.drawn ≤ sum_below (n + 1) g) }
     {
         let number = self.draw(seat);
         if number < self.chunks {

@@ -1,4 +1,4 @@
-//! Work that is cut into chunks, and the workers that claim them: each chunk is claimed once, by the worker whose turn it is. The chunks are numbered from 0, and the table has one word, the next number.
+//! Work that is cut into chunks, and the workers that claim them: each chunk is claimed once, by whichever worker asks first. The chunks are numbered from 0, and the table has one word, the next number.
 #![tactic(auto)]
 
 mod claimant;

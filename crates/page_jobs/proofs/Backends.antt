@@ -29,10 +29,11 @@ use Rattle.backend_pass.proofs.Joining.{first_here, fronted_each, spent_each}
 use Rattle.backend_pass.proofs.Ended.{writes-both}
 use Rattle.page_jobs.specs.declared.ending.JobError.TheVariants.{OutFault, ReadFault}
 use Rattle.page_jobs.specs.Printed.{BlockRead, copied, unsound}
-use Rattle.page_jobs.specs.Parts.{MeetsFault}
+use Rattle.page_jobs.specs.Chunks.{Claimed, blocks_in_all}
+use Rattle.page_jobs.specs.Parts.{MeetsFault, blocks_in}
 use Rattle.page_jobs.specs.Reads.{calls_of_reads, fault_of_refusal}
 use Rattle.page_jobs.specs.Beside.{StaysBeside, WorksBeside, fault_of_flush}
-use Rattle.page_jobs.specs.Jobs.{AllAtBase, AnyMeets, HaveNoTokens, ReadParts, ReadsPart, workers_in}
+use Rattle.page_jobs.specs.Jobs.{AllAtBase, AnyMeets, HaveNoTokens, ReadParts, ReadsChunks, workers_in}
 use Rattle.page_jobs.specs.Relations.{MeetNothing}
 use Rattle.page_jobs.proofs.Standing.{inside, length_front, taken, taken_from, there}
 
@@ -41,11 +42,12 @@ at_base_each base [] each = tt
 at_base_each base (p ∷ ps) each = (each 0 p refl, at_base_each base ps (λ i. each (suc i)))
 
 -- reads put nothing
-reads_put_nothing : (backend : ℕ) (fork : Fork) (block : ℕ) (rs : List BlockRead) → writes_in (calls_of_reads backend 0 fork block rs) ≡ 0
+reads_put_nothing : (backend : ℕ) (fork : Fork) (blocks : List ℕ) (rs : List BlockRead) → writes_in (calls_of_reads backend 0 fork blocks rs) ≡ 0
 unfolding total
-reads_put_nothing backend fork block [] = refl
-reads_put_nothing backend fork block (copied page place ∷ rs) = omega (arith, reads_put_nothing backend fork (block + 1) rs)
-reads_put_nothing backend fork block (unsound ∷ rs) = reads_put_nothing backend fork (block + 1) rs
+reads_put_nothing backend fork blocks [] = refl
+reads_put_nothing backend fork [] (r ∷ rs) = refl
+reads_put_nothing backend fork (b ∷ blocks) (copied page place ∷ rs) = omega (arith, reads_put_nothing backend fork blocks rs)
+reads_put_nothing backend fork (b ∷ blocks) (unsound ∷ rs) = reads_put_nothing backend fork blocks rs
 
 pub puts_nothing : writes_in [] ≡ 0
 unfolding total
@@ -232,12 +234,13 @@ module _ {L G : Type 0} (contents : L → Option Pages) (m : Manager L G) (fork 
       puts = new_put_nothing n ps new i p at;
     }
 
-    worked : (i from to : ℕ) (p q : PassState) → HasOnlyRead n i p → ReadsPart contents m 0 fork from to p q → HasOnlyRead n i q
-    worked i from to p q h r = record {
+    worked : (i : ℕ) (c : Claimed BlockRead) (p q : PassState) → HasOnlyRead n i p → ReadsChunks contents m 0 fork c p q → HasOnlyRead n i q
+    worked i c p q h r = record {
       given = worked_given n i p q h.given r.stays.same r.stays.belongs.front r.spent;
       mark = r.stays.mark ∙ h.mark;
-      puts = let both = writes-both p.view.calls (calls_of_reads p.view.number 0 fork from r.reads) in
-          let none = reads_put_nothing p.view.number fork from r.reads in
+      puts = let blocks = blocks_in_all (blocks_in m 0 fork) c.chunks in
+          let both = writes-both p.view.calls (calls_of_reads p.view.number 0 fork blocks c.items) in
+          let none = reads_put_nothing p.view.number fork blocks c.items in
           let before = h.puts in
           ap writes_in r.calls ∙ omega arith;
     }
@@ -252,7 +255,11 @@ module _ {L G : Type 0} (contents : L → Option Pages) (m : Manager L G) (fork 
     each : (i : ℕ) (q : PassState) → get_elem? qs i ≡ some q → HasOnlyRead n i q
     each i q at = let c = came_from i q at in ⊎_elim
         (λ (w : WorksBeside contents m c.before q). stood_by i c.before q (fresh i c.before c.at) w)
-        (λ (t : (get_elem? (workers_in ps) i ≡ some c.before) × (get_elem? (workers_in qs) i ≡ some q)). worked i _ _ c.before q (fresh i c.before c.at) (parts.each i c.before q t.0 t.1))
+        (λ (t : (get_elem? (workers_in ps) i ≡ some c.before) × (get_elem? (workers_in qs) i ≡ some q)).
+        let long = parts.listed in
+        let below = inside (workers_in ps) i c.before t.0 in
+        let claimed = there parts.claimed i (omega (arith, long, below)) in
+        worked i claimed.0 c.before q (fresh i c.before c.at) (parts.each i c.before q claimed.0 t.0 t.1 claimed.1))
         c.either
 
     pub all_given : AreAll m qs

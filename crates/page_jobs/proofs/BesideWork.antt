@@ -19,7 +19,6 @@ use Rattle.page_jobs.specs.declared.ending.JobError.{JobError}
 use Rattle.page_jobs.specs.declared.ending.JobError.TheVariants.{LogDown, Memory, OutFault}
 use Rattle.page_jobs.specs.declared.ending.Totals.{Totals}
 use Rattle.page_jobs.specs.Beside.{LastDid, LastIsRefused, StaysBeside, WorkIsRefused, WorksBeside, fault_of_flush}
-use Rattle.page_jobs.specs.declared.printing.Lines.{Lines}
 use Rattle.page_jobs.specs.Jobs.{AnyMeets, EndsJob, HaveNoTokens, ReadsAll, workers_in}
 use Rattle.page_jobs.specs.Reads.{HasNoTokens}
 use Rattle.page_jobs.specs.Relations.{MeetNothing}
@@ -74,16 +73,20 @@ module _ {L G : Type 0} (contents : L → Option Pages) (m : Manager L G) where
   pub work_is_refused : (why : FlushError) (e : JobError) (p q : PassState) → RefusesFrame contents m.table p q why → e ≡ fault_of_flush why → WorkIsRefused contents m p q e
   work_is_refused why e p q r is = record { why = why; fault = sym is; refuses = r; down = λ at said. shows_down why at p q r (sym is ∙ said) }
 
-  pub reads_met : (rel : ℕ) (fork : Fork) (lines : Lines) (ps qs : List PassState) (old new : Option (List ℕ)) (r : Result Totals JobError) → IfOk r (ReadsAll contents m rel fork lines ps qs old new) → OnOk r (MeetNothing ps qs)
-  reads_met rel fork lines ps qs old new (Ok totals) reads = reads.met
-  reads_met rel fork lines ps qs old new (Err e) reads = tt
+  pub reads_met : (rel : ℕ) (fork : Fork) (ps qs : List PassState) (r : Result Totals JobError) → IfOk r (ReadsAll contents m rel fork ps qs) → OnOk r (MeetNothing ps qs)
+  reads_met rel fork ps qs (Ok totals) reads = λ w x y at after.
+      let below = inside ps w x at in
+      let long = reads.listed in
+      let c = there reads.claimed w (omega arith) in
+      (reads.each w x y c.0 at after c.1).met
+  reads_met rel fork ps qs (Err e) reads = tt
 
   pub rewrites_met : (rel : ℕ) (fork : Fork) (ps qs : List PassState) (r : Result Totals JobError) → IfOk r (RewritesFork contents m rel fork ps qs) → OnOk r (MeetNothing ps qs)
   rewrites_met rel fork ps qs (Ok totals) whole = λ w x y at after.
       let below = inside ps w x at in
       let long = whole.listed in
-      let os = there whole.outcomes w (omega arith) in
-      (whole.each w x y os.0 at after os.1).met
+      let claimed = there whole.claimed w (omega arith) in
+      (whole.each w x y claimed.0 at after claimed.1).met
   rewrites_met rel fork ps qs (Err e) whole = tt
 
   module _ (all all' ps qs : List PassState) (p q : PassState) (before : all ≡ ps ++ p ∷ []) (after : all' ≡ qs ++ q ∷ []) (long : length qs ≡ length ps) where
@@ -145,12 +148,12 @@ module _ {L G : Type 0} (contents : L → Option Pages) (m : Manager L G) where
       ends_job outs outs_now (Ok a) c = tt
       ends_job outs outs_now (Err e) c = ends_for outs outs_now e c
 
-      fails_for : (e : JobError) → (e ≡ Memory) ⊎ (FailsFirst contents m rel fork (length ps) 0 ps qs e ⊎ (((totals : Totals) × RewritesFork contents m rel fork ps qs totals) × WorkIsRefused contents m p q e))
+      fails_for : (e : JobError) → (e ≡ Memory) ⊎ (FailsFirst contents m rel fork ps qs e ⊎ (((totals : Totals) × RewritesFork contents m rel fork ps qs totals) × WorkIsRefused contents m p q e))
           → EndsRewrite contents m rel fork all all' e
       fails_for e (inl memory) = inl memory
       fails_for e (inr (inl fails)) = inr (inl
-          (subst (λ (l : List PassState). FailsFirst contents m rel fork (length l) 0 l (workers_in all') e) (sym worked)
-          (subst (λ (l : List PassState). FailsFirst contents m rel fork (length ps) 0 ps l e) (sym working) fails)))
+          (subst (λ (l : List PassState). FailsFirst contents m rel fork l (workers_in all') e) (sym worked)
+          (subst (λ (l : List PassState). FailsFirst contents m rel fork ps l e) (sym working) fails)))
       fails_for e (inr (inr t)) = inr (inr (
         (
           t.0.0,
@@ -161,7 +164,7 @@ module _ {L G : Type 0} (contents : L → Option Pages) (m : Manager L G) where
       ))
 
       pub ends_rewrite : {A : Type 0} (r : Result A JobError)
-          → IfErr r (λ e. (e ≡ Memory) ⊎ (FailsFirst contents m rel fork (length ps) 0 ps qs e ⊎ (((totals : Totals) × RewritesFork contents m rel fork ps qs totals) × WorkIsRefused contents m p q e)))
+          → IfErr r (λ e. (e ≡ Memory) ⊎ (FailsFirst contents m rel fork ps qs e ⊎ (((totals : Totals) × RewritesFork contents m rel fork ps qs totals) × WorkIsRefused contents m p q e)))
           → IfErr r (EndsRewrite contents m rel fork all all')
       ends_rewrite (Ok a) c = tt
       ends_rewrite (Err e) c = fails_for e c

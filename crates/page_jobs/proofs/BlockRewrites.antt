@@ -1,5 +1,5 @@
 -- A worker rewrites a block.
-use Rattle.std.proofs.Common.{◌≡◌, ◌<◌, ◌≤◌, ◌+◌, ℕ, Bool, true, false, List, [], ◌∷◌, ◌++◌, Option, Some, Result, Ok, Err, refl, sym, ap, ◌∙◌, subst, arith, append_assoc, inl, inr}
+use Rattle.std.proofs.Common.{◌≡◌, ◌<◌, ◌≤◌, ℕ, Bool, true, false, List, [], ◌∷◌, ◌++◌, Option, Some, Result, Ok, Err, refl, sym, ap, ◌∙◌, subst, arith, append_assoc, inl, inr}
 use Rattle.std.specs.Prelude.{IfOk}
 use Rattle.std.proofs.lemmas.List.{append-nil}
 use Rattle.std.proofs.lemmas.Result.{IfErr-weaker}
@@ -134,6 +134,7 @@ module _ {L G : Type 0} (contents : L → Option Pages) (m : Manager L G) where
     before = x.before;
     since = rises_on p.view q.view x.before.view s.same.keeps.advances x.since;
     refused = x.refused;
+    last = x.last;
     met = x.met ∙ ap (λ (n : FailedCalls). met_read_refused why n) met;
   }
 
@@ -226,6 +227,7 @@ module _ {L G : Type 0} (contents : L → Option Pages) (m : Manager L G) where
         after = r;
         since = same.keeps.advances;
         refuses = unput;
+        until = refl;
         met = met' ∙ ap (λ (n : FailedCalls). met_put (Err why) n) met;
         shows = unput.shows;
         was = page;
@@ -235,14 +237,15 @@ module _ {L G : Type 0} (contents : L → Option Pages) (m : Manager L G) where
     };
   }
 
-  fails_later : (tag : Tag) (p q r : PassState) (why : InsertError) → Quiet q r → r.view.saw_down ≡ q.view.saw_down → PutFails contents m tag p q why → PutFails contents m tag p r why
-  fails_later tag p q r why k down f = record {
+  fails_later : (tag : Tag) (p q r : PassState) (why : InsertError) → Quiet q r → r.view.saw_down ≡ q.view.saw_down → r.view.device_calls ≡ q.view.device_calls → PutFails contents m tag p q why → PutFails contents m tag p r why
+  fails_later tag p q r why k down devices f = record {
     frame = f.frame;
     page = f.page;
     before = f.before;
     after = f.after;
     since = f.since;
     refuses = f.refuses;
+    until = devices ∙ f.until;
     met = k.met ∙ f.met;
     shows = shows_later why q.view r.view down k.same.keeps.advances.end_seen f.shows;
     was = f.was;
@@ -251,8 +254,8 @@ module _ {L G : Type 0} (contents : L → Option Pages) (m : Manager L G) where
   }
 
   -- and then the lock of this frame and the pin were given up
-  pub held : (tag : Tag) (frame : ℕ) (p q r : PassState) (answer : Result PageRewrite InsertError) → RewritesLocked contents m tag p q answer → HasLock content.Exclusive frame p → Quiet q r → KeepsMark q r → HasLock content.Unlocked frame r → KeepsOtherLocks frame q r → r.tokens ≡ no_tokens → r.view.saw_down ≡ q.view.saw_down → RewritesHeld contents m tag frame p r answer
-  held tag frame p q r answer x locked k mark unlocked others spent down = record {
+  pub held : (tag : Tag) (frame : ℕ) (p q r : PassState) (answer : Result PageRewrite InsertError) → RewritesLocked contents m tag p q answer → HasLock content.Exclusive frame p → Quiet q r → KeepsMark q r → HasLock content.Unlocked frame r → KeepsOtherLocks frame q r → r.tokens ≡ no_tokens → r.view.saw_down ≡ q.view.saw_down → r.view.device_calls ≡ q.view.device_calls → RewritesHeld contents m tag frame p r answer
+  held tag frame p q r answer x locked k mark unlocked others spent down devices = record {
     goes = record { belongs = k.belongs; same = same_on p q r x.goes.same k.same; front = let a = x.goes.front in let b = k.calls.front in omega arith };
     tokens = spent;
     unlocked = unlocked;
@@ -265,7 +268,7 @@ module _ {L G : Type 0} (contents : L → Option Pages) (m : Manager L G) where
       follows = x.page.follows;
       mark = λ unput. mark ∙ x.page.mark unput;
       done = on_ok_value (λ what. (what ≡ result_of x.page.outcome) × IsEnded x.page.outcome × (q.view.met ≡ p.view.met)) (λ what. (what ≡ result_of x.page.outcome) × IsEnded x.page.outcome × (r.view.met ≡ p.view.met)) answer (λ what d. (d.0, d.1, k.met ∙ d.2)) x.page.done;
-      cause = IfErr-weaker answer (PutFails contents m tag p q) (PutFails contents m tag p r) (λ why f. fails_later tag p q r why k down f) x.page.cause;
+      cause = IfErr-weaker answer (PutFails contents m tag p q) (PutFails contents m tag p r) (λ why f. fails_later tag p q r why k down devices f) x.page.cause;
     };
   }
 
@@ -292,7 +295,7 @@ module _ {L G : Type 0} (contents : L → Option Pages) (m : Manager L G) where
       until = subst (λ (l : List Call). HoldsUntil e.pinned.frame (l ++ outcome_calls (rule_of tag.rel.0 tag.fork) x.page.outcome) q.view r.view) one.calls.calls x.until;
     }
 
-    blocks_after : (answer : Result PageRewrite InsertError) (x : RewritesHeld contents m tag e.pinned.frame q r answer) → RewritesBlocks contents m tag.rel.0 tag.fork tag.block (tag.block + 1) (x.page.outcome ∷ []) p r
+    blocks_after : (answer : Result PageRewrite InsertError) (x : RewritesHeld contents m tag e.pinned.frame q r answer) → RewritesBlocks contents m tag.rel.0 tag.fork (tag.block ∷ []) (x.page.outcome ∷ []) p r
     blocks_after answer x = record {
       goes = record { belongs = x.goes.belongs; same = same_on p q r one.goes.same x.goes.same; front = let a = one.goes.front in let b = x.goes.front in omega arith };
       spent = x.tokens;
@@ -301,7 +304,6 @@ module _ {L G : Type 0} (contents : L → Option Pages) (m : Manager L G) where
       calls = calls_after x.page.outcome x.page.calls;
       order = (x.page.block, tt);
       follow = (subst (λ (n : ℕ). FollowsRule contents m tag.rel.0 tag.fork n x.page.outcome) one.goes.same.keeps.number x.page.follows, tt);
-      within = omega arith;
       stopped = (inr refl, tt);
       locked = (for_read x.page.outcome (under answer x), tt);
     }
@@ -309,7 +311,7 @@ module _ {L G : Type 0} (contents : L → Option Pages) (m : Manager L G) where
     pub block_rewritten : (what : PageRewrite) → RewritesHeld contents m tag e.pinned.frame q r (Ok what) → RewritesBlock contents m tag.rel.0 tag.fork tag.block p r (Ok what)
     block_rewritten what x = record {
       outcomes = x.page.outcome ∷ [];
-      blocks = blocks_after (Ok what) x;
+      course = blocks_after (Ok what) x;
       done = (refl, ((x.page.done.0, x.page.done.1), tt), x.page.done.2 ∙ one.met);
       cause = tt;
     }
@@ -317,7 +319,7 @@ module _ {L G : Type 0} (contents : L → Option Pages) (m : Manager L G) where
     pub block_unput : (why : InsertError) → tag.block < blocks_in m tag.rel.0 tag.fork → RewritesHeld contents m tag e.pinned.frame q r (Err why) → RewritesBlock contents m tag.rel.0 tag.fork tag.block p r (Err (fault_of_put why))
     block_unput why inside x = record {
       outcomes = x.page.outcome ∷ [];
-      blocks = blocks_after (Err why) x;
+      course = blocks_after (Err why) x;
       done = tt;
       cause = let f = x.page.cause in inr (inr record {
         block = tag.block;
@@ -331,6 +333,7 @@ module _ {L G : Type 0} (contents : L → Option Pages) (m : Manager L G) where
           after = f.after;
           since = rises_on p.view q.view f.before.view one.goes.same.keeps.advances f.since;
           refuses = f.refuses;
+          until = f.until;
           met = f.met ∙ ap (λ (n : FailedCalls). met_put (Err why) n) one.met;
           shows = f.shows;
           was = f.was;
@@ -344,7 +347,7 @@ module _ {L G : Type 0} (contents : L → Option Pages) (m : Manager L G) where
   pub block_unread : (tag : Tag) (p q : PassState) (why : ReadError) (e : JobError) → tag.block < blocks_in m tag.rel.0 tag.fork → RefusesBlock contents m tag p q why → fault_of_refusal why ≡ Some e → RewritesBlock contents m tag.rel.0 tag.fork tag.block p q (Err e)
   block_unread tag p q why e inside x fault = record {
     outcomes = [];
-    blocks = record {
+    course = record {
       goes = record { belongs = x.stays.belongs; same = x.stays.same; front = x.stays.front };
       spent = x.spent;
       locks = x.stays.locks;
@@ -352,19 +355,18 @@ module _ {L G : Type 0} (contents : L → Option Pages) (m : Manager L G) where
       calls = x.calls ∙ sym (append-nil p.view.calls);
       order = tt;
       follow = tt;
-      within = omega arith;
       stopped = tt;
       locked = tt;
     };
     done = tt;
-    cause = inr (inl record { block = tag.block; inside = inside; why = why; fault = fault; before = x.before; since = x.since; refused = x.refused; met = x.met });
+    cause = inr (inl record { block = tag.block; inside = inside; why = why; fault = fault; before = x.before; since = x.since; refused = x.refused; last = x.last; met = x.met });
   }
 
   -- the page isn't sound
   pub block_unsound : (tag : Tag) (p q : PassState) → FindsUnsound contents m tag p q → RewritesBlock contents m tag.rel.0 tag.fork tag.block p q (Ok Invalid)
   block_unsound tag p q x = record {
     outcomes = unsound tag.block ∷ [];
-    blocks = record {
+    course = record {
       goes = record { belongs = x.stays.belongs; same = x.stays.same; front = x.stays.front };
       spent = x.spent;
       locks = x.stays.locks;
@@ -372,7 +374,6 @@ module _ {L G : Type 0} (contents : L → Option Pages) (m : Manager L G) where
       calls = x.calls ∙ sym (append-nil p.view.calls);
       order = (refl, tt);
       follow = (x.unsound, tt);
-      within = omega arith;
       stopped = (inr refl, tt);
       locked = (tt, tt);
     };

@@ -1,15 +1,20 @@
 -- A worker reads a block.
-use Rattle.std.proofs.Common.{◌≡◌, ◌+◌, ◌<◌, ◌≤◌, ℕ, true, false, List, [], ◌∷◌, ◌++◌, Option, None, Err, refl, sym, ap, ◌∙◌, subst, arith}
+use Rattle.std.proofs.Common.{◌≡◌, ◌+◌, ◌<◌, ◌≤◌, ℕ, Bool, true, false, List, [], ◌∷◌, ◌++◌, Option, None, Err, refl, sym, ap, ◌∙◌, subst, append_assoc, arith}
 use Rattle.block_tag.specs.declared.catalogue.RelEntry.{RelEntry}
 use Rattle.block_tag.specs.declared.tag.Tag.{Tag}
 use Rattle.block_tag.specs.Catalogue.{blocks_at}
-use Rattle.block_tag.specs.Names.{packed_tag}
+use Rattle.block_tag.specs.Names.{lane_number, packed_tag}
 use Rattle.segment_store.specs.Contents.{Pages}
 use Rattle.pin_core.specs.declared.view.FailedCalls.{FailedCalls}
 use Rattle.pin_core.specs.declared.view.Call.{Call}
 use Rattle.pin_core.specs.declared.view.Call.TheVariants.{Read}
+use Rattle.pin_core.specs.declared.view.DeviceCall.{DeviceCall}
+use Rattle.pin_core.specs.declared.view.DeviceCall.TheVariants.{LaneRead}
+use Rattle.buffer_frames.specs.declared.hinting.HintSeen.{HintSeen}
+use Rattle.pin_core.specs.declared.view.View.{View}
 use Rattle.pin_core.specs.State.{Page}
 use Rattle.frame_table.specs.Opened.{WasAtOpening}
+use Rattle.frame_table.specs.Seats.{lanes_in}
 use Rattle.held_pins.specs.Tokens.{IsNew, Tokens, no_tokens, tokens_less}
 use Rattle.backend_pass.specs.declared.errors.ReadError.{ReadError}
 use Rattle.backend_pass.specs.declared.errors.ReadError.TheVariants as read
@@ -17,9 +22,11 @@ use Rattle.backend_pass.specs.declared.manager.Manager.{Manager}
 use Rattle.backend_pass.specs.declared.pinned.Pinned.{Pinned}
 use Rattle.backend_pass.specs.Managers.{Belongs}
 use Rattle.buffer_frames.specs.PageReads.{ReadsPage}
+use Rattle.buffer_frames.specs.Reads.{Locates, looked_up, missed}
+use Rattle.buffer_frames.specs.VictimChoices.{ChoiceState}
 use Rattle.backend_pass.specs.Passes.{KeepsCalls, KeepsDevices, KeepsLocks, KeepsMark, PassState, SamePass}
-use Rattle.backend_pass.specs.Reading.{at_once_of, met_read_refused, refused_at_once}
-use Rattle.page_jobs.specs.Reads.{CopiesBlock, FindsUnsound, PinsOne, RefusesBlock, fault_of_refusal, is_crowding, is_tried_once}
+use Rattle.backend_pass.specs.Reading.{ReadingCalls, at_once_of, met_read_refused, refused_at_once}
+use Rattle.page_jobs.specs.Reads.{CopiesBlock, EndsAtRead, FindsUnsound, PinsOne, RefusesBlock, fault_of_refusal, is_crowding, is_tried_once}
 use Rattle.backend_pass.proofs.Seated.{same_on}
 
 -- a pass without tokens has none of the block
@@ -55,6 +62,24 @@ met_crowded (read.LogShort lsn end) m c = refl
 met_crowded (read.Unsound tag) m c = refl
 
 module _ {L G : Type 0} (contents : L → Option Pages) (m : Manager L G) where
+  module _ (tag : Tag) (held : Tokens) (ring : Bool) (seen : HintSeen) (c d : ChoiceState) where
+    -- the last calls of devices that were made for a block
+    last_calls : (f : ℕ) (last : List DeviceCall) (v w : View) → Locates contents m.table tag held ring seen c d f last v w → (calls : List DeviceCall) × (w.device_calls ≡ calls ++ last)
+    last_calls f last v w (looked_up pinned looks works made ticks same) = (v.device_calls, made)
+    last_calls f last v w (missed x brings) = (v.device_calls ++ x.calls.before, x.calls.calls ∙ sym (append_assoc v.device_calls x.calls.before last))
+
+    -- a read of a lane that failed was the last
+    pub ends_at_read : (why : ReadError) (v : View) (q : PassState) → ReadingCalls contents m.table tag held ring seen c d (lane_number tag (lanes_in m.table)) v q.view (Err why) → EndsAtRead contents m tag q why
+    ends_at_read (read.PastEnd block blocks) v q calls = tt
+    ends_at_read read.PinsFull v q calls = tt
+    ends_at_read (read.NoUnpinned frames) v q calls = tt
+    ends_at_read (read.ReadFault failed) v q calls = last_calls calls.0 (LaneRead (lane_number tag (lanes_in m.table)) (packed_tag tag) false ∷ []) v q.view calls.1.0
+    ends_at_read (read.WriteFault failed) v q calls = tt
+    ends_at_read read.LogFault v q calls = tt
+    ends_at_read (read.LogDown at) v q calls = tt
+    ends_at_read (read.LogShort lsn end) v q calls = tt
+    ends_at_read (read.Unsound failed) v q calls = tt
+
   -- a page is copied while its block is pinned, and the pin is given up
   pub copied_block : (tag : Tag) (page : Page) (place : ℕ) (pinned : Pinned) (p q r s : PassState) → PinsOne contents m tag p q pinned → Belongs contents m s → SamePass q r → SamePass r s → KeepsMark q r → KeepsMark r s → KeepsLocks q r → KeepsLocks r s
       → r.tokens ≡ q.tokens → s.tokens ≡ tokens_less pinned.frame r.tokens → KeepsDevices q r → KeepsDevices r s → ReadsPage contents m.table pinned.tag page place q.view r.view → KeepsCalls r s → CopiesBlock contents m tag page p s

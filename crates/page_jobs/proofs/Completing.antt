@@ -1,5 +1,5 @@
 -- A job ends well where nothing fails, but for memory.
-use Rattle.std.proofs.Common.{◌≡◌, ℕ, suc, ◌+◌, ◌-◌, true, false, List, [], ◌∷◌, length, Option, Some, Result, Ok, Err, refl, sym, ap, ◌∙◌, subst, inl, inr, arith}
+use Rattle.std.proofs.Common.{◌≡◌, ℕ, suc, ◌-◌, true, false, List, [], ◌∷◌, length, Option, Some, Result, Ok, Err, refl, sym, ap, ◌∙◌, subst, inl, inr, arith}
 use Rattle.std.specs.Prelude.{IfErr}
 use mathlib.Core.Option.{some}
 use lib.ListN.{get_elem?}
@@ -67,17 +67,17 @@ module _ {L G : Type 0} (contents : L → Option Pages) (m : Manager L G) (rel :
   job_ends ps qs outs outs_now e (inr (inr (inr out))) n quiet = absurd (none_rose outs outs_now quiet out.1)
 
   module _ (put_ends : (p q : PassState) (why : InsertError) → RefusalShows why q.view → Quiet p q → Ends (fault_of_put why)) where
-    fails_end : (workers number : ℕ) (ps qs : List PassState) (e : JobError) → QuietIn ps qs → FailsFirst contents m rel fork workers number ps qs e → Ends e
-    fails_end workers number [] [] e n fails = absurd fails
-    fails_end workers number [] (q ∷ qs) e n fails = absurd fails
-    fails_end workers number (p ∷ ps) [] e n fails = absurd fails
-    fails_end workers number (p ∷ ps) (q ∷ qs) e n (inl (inl x)) = read_ends (tag_of_parts rel fork x.block) p x.before q x.why e x.since x.fault x.refused x.met (n 0 p q refl refl)
-    fails_end workers number (p ∷ ps) (q ∷ qs) e n (inl (inr x)) = subst Ends x.fault (put_ends p q x.why x.fails.shows (n 0 p q refl refl))
-    fails_end workers number (p ∷ ps) (q ∷ qs) e n (inr later) = fails_end workers (number + 1) ps qs e (λ w. n (suc w)) later.1
+    fails_end : (ps qs : List PassState) (e : JobError) → QuietIn ps qs → FailsFirst contents m rel fork ps qs e → Ends e
+    fails_end [] [] e n fails = absurd fails
+    fails_end [] (q ∷ qs) e n fails = absurd fails
+    fails_end (p ∷ ps) [] e n fails = absurd fails
+    fails_end (p ∷ ps) (q ∷ qs) e n (inl (inl x)) = read_ends (tag_of_parts rel fork x.block) p x.before q x.why e x.since x.fault x.refused x.met (n 0 p q refl refl)
+    fails_end (p ∷ ps) (q ∷ qs) e n (inl (inr x)) = subst Ends x.fault (put_ends p q x.why x.fails.shows (n 0 p q refl refl))
+    fails_end (p ∷ ps) (q ∷ qs) e n (inr later) = fails_end ps qs e (λ w. n (suc w)) later.1
 
     rewrite_ends : (ps qs : List PassState) (e : JobError) → EndsRewrite contents m rel fork ps qs e → QuietIn ps qs → Ends e
     rewrite_ends ps qs e (inl memory) n = subst Ends (sym memory) memory_ends
-    rewrite_ends ps qs e (inr (inl fails)) n = fails_end (length (workers_in ps)) 0 (workers_in ps) (workers_in qs) e (workers_quiet ps qs n) fails
+    rewrite_ends ps qs e (inr (inl fails)) n = fails_end (workers_in ps) (workers_in qs) e (workers_quiet ps qs n) fails
     rewrite_ends ps qs e (inr (inr last)) n = last_ends ps qs e n last.1
 
 module _ {L G : Type 0} (contents : L → Option Pages) (m : Manager L G) where

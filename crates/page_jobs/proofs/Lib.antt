@@ -3,31 +3,34 @@ mod Blocks
 mod Sums
 mod BlockWork
 pub mod Deals
+mod ChunkSums
 mod WorkerBlocks
-mod ListedParts
+mod ClaimedChunks
+mod RewriteSums
+mod Measures
+mod ListedChunks
+pub mod Standing
+mod Ascending
 mod BesideWork
 mod Texts
 mod Whole
 pub mod Origin
 mod ListedForks
 mod Crossing
-pub mod Standing
 pub mod ReadersLeave
 pub mod Backends
 pub mod Counted
 pub mod Starting
 pub mod Surveys
 mod BlockRewrites
-mod RewriteSums
 mod RewriteTotals
-mod PartRewrites
-mod RewrittenParts
+mod RewrittenBlocks
+mod RewrittenChunks
 mod RewriteWorkers
 mod RewrittenForks
 mod RewriteCounts
 mod RewriteClosed
 mod RewriteLanes
-mod RewriteRanges
 mod RewriteOrder
 mod RewriteCourse
 mod RewriteDevices

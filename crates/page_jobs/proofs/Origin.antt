@@ -1,10 +1,11 @@
 -- Where no worker has seen more of the log than its beginning, what was read are the pages of the blocks as the table was opened.
-use Rattle.std.proofs.Common.{◌≡◌, ℕ, zero, suc, ◌+◌, ◌<◌, ◌≤◌, ◌⊎◌, true, false, List, [], ◌∷◌, ◌++◌, length, map, drop, Option, Some, Result, Ok, Err, refl, sym, ap, ap₂, ◌∙◌, subst, arith, append_assoc, add-zero, inl, inr}
-use Rattle.std.specs.Prelude.{OnOk}
-use Rattle.std.proofs.lemmas.List.{append-nil, length-append}
-use Rattle.std.proofs.lemmas.Bool.{lt-ltb}
-use mathlib.Core.Option.{some}
+use Rattle.std.proofs.Common.{◌≡◌, ℕ, zero, suc, ◌+◌, ◌-◌, ◌*◌, ◌<◌, ◌≤◌, ◌⊎◌, true, false, List, [], ◌∷◌, ◌++◌, length, take, drop, Option, Some, Result, Ok, Err, refl, sym, ap, ap₂, ◌∙◌, subst, arith, append_assoc, add-zero, inl, inr, length-drop}
+use Rattle.std.specs.Prelude.{IfOk, OnOk, min}
+use Rattle.std.proofs.lemmas.List.{append-nil}
+use Rattle.std.proofs.lemmas.Bool.{cases_lt, lt-ltb}
+use mathlib.Core.Option.{some, some-injective, some-ne-none}
 use lib.ListN.{get_elem?}
+use Rattle.chunk_claims.specs.Claims.{sum_below}
 use Rattle.block_tag.specs.declared.tag.Fork.{Fork}
 use Rattle.block_tag.specs.declared.tag.Tag.{Tag}
 use Rattle.block_tag.specs.Names.{lane_number, names_block, tag_of_parts}
@@ -13,7 +14,7 @@ use Rattle.page_layout.specs.declared.scan.ScanTotals.{ScanTotals}
 use Rattle.page_layout.specs.declared.summary.PageSummary.{PageSummary}
 use Rattle.page_layout.specs.declared.summary.PageSummary.TheVariants.{Invalid}
 use Rattle.page_layout.specs.Dump.{dump_lines_from, dump_lines_of, dump_text, used_lines}
-use Rattle.page_layout.specs.Scan.{no_totals, scan_lines_from, scan_text, sum_of_totals, totals_of, totals_of_summaries}
+use Rattle.page_layout.specs.Scan.{scan_lines_from, scan_text, totals_of, totals_of_summaries}
 use Rattle.page_layout.specs.Soundness.{is_sound_page}
 use Rattle.page_layout.specs.Summary.{summary_of}
 use Rattle.page_layout.specs.Text.{line_of, scan_line_of}
@@ -25,21 +26,26 @@ use Rattle.frame_table.specs.Opened.{WasAtOpening}
 use Rattle.backend_pass.specs.declared.manager.Manager.{Manager}
 use Rattle.backend_pass.specs.Passes.{PassState}
 use Rattle.page_jobs.specs.declared.ending.JobError.{JobError}
+use Rattle.page_jobs.specs.declared.ending.Totals.{Totals}
 use Rattle.page_jobs.specs.declared.printing.Lines.{Lines}
 use Rattle.page_jobs.specs.declared.printing.Lines.TheVariants.{Dump, Scan}
 use Rattle.page_jobs.specs.declared.listing.Lister.{Lister}
 use Rattle.page_jobs.specs.declared.working.Worker.{Worker}
-use Rattle.page_jobs.specs.Ending.{as_done}
+use Rattle.page_jobs.specs.Blocks.{blocks_from}
+use Rattle.page_jobs.specs.Chunks.{Claimed, AreFirstTexts, blocks_in_all, blocks_of, chunk_count, chunk_size, chunk_start, items_in_all}
+use Rattle.page_jobs.specs.Ending.{as_done, totals_of_scan}
 use Rattle.page_jobs.specs.Printed.{BlockRead, copied, unsound, lines_from, page_lines, read_lines, read_summary, reads_lines, reads_totals, text_of_pages, totals_line}
 use Rattle.page_jobs.specs.Reads.{IsKnown, IsWithinFront}
-use Rattle.page_jobs.specs.Parts.{AllReads, AreKnown, DoesPart, blocks_in, part_start}
-use Rattle.page_jobs.specs.Dealt.{AllDone, job_text, job_totals, text_if_done}
-use Rattle.page_jobs.specs.Jobs.{AllAtBase, IsOrigin, WasKnownAtOpening}
-use Rattle.page_jobs.proofs.Deals.{start_first, start_last}
-use Rattle.page_jobs.proofs.ListedParts.{DoParts}
-use Rattle.page_jobs.proofs.Texts.{stopped_in, text_either, text_last}
-use Rattle.page_jobs.proofs.Sums.{reads_totals-append, sum_none}
-use Rattle.page_jobs.proofs.BlockWork.{all_append, lines-append}
+use Rattle.page_jobs.specs.Parts.{AllReads, AreKnown, blocks_in}
+use Rattle.page_jobs.specs.Dealt.{AllDone, HasText, PutsAll, job_totals}
+use Rattle.page_jobs.specs.Jobs.{AllAtBase, IsOrigin, IsTextOf, WasKnownAtOpening}
+use Rattle.page_jobs.proofs.BlockWork.{all_weaker}
+use Rattle.page_jobs.proofs.ClaimedChunks.{blocks_append, length_chunk}
+use Rattle.page_jobs.proofs.ListedChunks.{DoLists}
+use Rattle.page_jobs.proofs.Measures.{AddsUp, page_weight, pages_by, reads_all_by, totals_by}
+use Rattle.page_jobs.proofs.Standing.{there}
+use Rattle.page_jobs.proofs.Texts.{front_of, stopped_in}
+use Rattle.page_jobs.proofs.Whole.{DrewOnce, all_claimed, chunk_text, claimed_at, covers_at, passes_of, totals_read}
 
 -- the lines of a page that isn't sound
 unsound_summary : (page : Page) → is_sound_page page ≡ false → summary_of page ≡ Invalid
@@ -78,6 +84,77 @@ text_is : (lines : Lines) (pages : List Page) → text_of_pages lines pages ≡ 
 text_is Scan pages = scan_text_is pages ∙ ap (λ (l : List ℕ). l ++ totals_line (totals_of pages)) (sym (lines_are 0 pages))
 text_is Dump pages = dump_text_is pages ∙ ap (λ (l : List ℕ). l ++ totals_line (totals_of pages)) (sym (dumps_are 0 pages))
 
+-- the lines of the first pages, and of those after them
+lines_split : (lines : Lines) (block i : ℕ) (pages : List Page) → i ≤ length pages → lines_from lines block pages ≡ lines_from lines block (take i pages) ++ lines_from lines (block + i) (drop i pages)
+lines_split lines block zero pages le = ap (λ (b : ℕ). lines_from lines b pages) (sym (add-zero block))
+lines_split lines block (suc i) [] le = absurd (omega arith)
+lines_split lines block (suc i) (page ∷ pages) le =
+    let at : block + 1 + i ≡ block + suc i = omega arith in
+    ap (λ (l : List ℕ). page_lines lines block page ++ l) (lines_split lines (block + 1) i pages (omega arith))
+    ∙ sym (append_assoc (page_lines lines block page) (lines_from lines (block + 1) (take i pages)) (lines_from lines (block + 1 + i) (drop i pages)))
+    ∙ ap (λ (b : ℕ). (page_lines lines block page ++ lines_from lines (block + 1) (take i pages)) ++ lines_from lines b (drop i pages)) at
+
+lines_taken : (lines : Lines) (block i j : ℕ) (pages : List Page) → i ≤ length pages → lines_from lines block (take (i + j) pages) ≡ lines_from lines block (take i pages) ++ lines_from lines (block + i) (take j (drop i pages))
+lines_taken lines block zero j pages le =
+    let none : zero + j ≡ j = omega arith in
+    ap (λ (k : ℕ). lines_from lines block (take k pages)) none ∙ ap (λ (b : ℕ). lines_from lines b (take j pages)) (sym (add-zero block))
+lines_taken lines block (suc i) j [] le = absurd (omega arith)
+lines_taken lines block (suc i) j (page ∷ pages) le =
+    let more : suc i + j ≡ suc (i + j) = omega arith in
+    let at : block + 1 + i ≡ block + suc i = omega arith in
+    ap (λ (k : ℕ). lines_from lines block (take k (page ∷ pages))) more
+    ∙ ap (λ (l : List ℕ). page_lines lines block page ++ l) (lines_taken lines (block + 1) i j pages (omega arith))
+    ∙ sym (append_assoc (page_lines lines block page) (lines_from lines (block + 1) (take i pages)) (lines_from lines (block + 1 + i) (take j (drop i pages))))
+    ∙ ap (λ (b : ℕ). (page_lines lines block page ++ lines_from lines (block + 1) (take i pages)) ++ lines_from lines b (take j (drop i pages))) at
+
+take_all : (pages : List Page) → take (length pages) pages ≡ pages
+take_all [] = refl
+take_all (page ∷ pages) = ap (λ (l : List Page). page ∷ l) (take_all pages)
+
+weight_at : (f : ScanTotals → ℕ) (pages : List Page) (b : ℕ) (page : Page) → get_elem? pages b ≡ some page → page_weight f pages b ≡ f (totals_of (page ∷ []))
+weight_at f [] b page at = absurd (some-ne-none page (sym at))
+weight_at f (p ∷ pages) zero page at = ap (λ (x : Page). f (totals_of (x ∷ []))) (some-injective p page at)
+weight_at f (p ∷ pages) (suc b) page at = weight_at f pages b page at
+
+-- the reads of the first blocks, and of the others
+all_first : (P : ℕ → BlockRead → Type 0) (bs cs : List ℕ) (rs ss : List BlockRead) → length rs ≡ length bs → AllReads P (bs ++ cs) (rs ++ ss) → AllReads P bs rs
+all_first P bs cs [] ss e a = tt
+all_first P [] cs (r ∷ rs) ss e a = absurd (omega arith)
+all_first P (x ∷ bs) cs (r ∷ rs) ss e a = (a.0, all_first P bs cs rs ss (omega arith) a.1)
+
+all_rest : (P : ℕ → BlockRead → Type 0) (bs cs : List ℕ) (rs ss : List BlockRead) → length rs ≡ length bs → AllReads P (bs ++ cs) (rs ++ ss) → AllReads P cs ss
+all_rest P [] cs [] ss e a = a
+all_rest P (x ∷ bs) cs [] ss e a = absurd (omega arith)
+all_rest P [] cs (r ∷ rs) ss e a = absurd (omega arith)
+all_rest P (x ∷ bs) cs (r ∷ rs) ss e a = all_rest P bs cs rs ss (omega arith) a.1
+
+-- blocks of chunks of n blocks are below n
+abbrev AllBelow : ℕ → List ℕ → Type 0
+AllBelow n [] = Unit {0}
+AllBelow n (b ∷ bs) = (b < n) × AllBelow n bs
+
+below_from : (n block k : ℕ) → k ≤ n - block → AllBelow n (blocks_from block k)
+below_from n block zero le = tt
+below_from n block (suc k) le = (omega (arith, le), below_from n (block + 1) k (omega (arith, le)))
+
+below_append : (n : ℕ) (bs cs : List ℕ) → AllBelow n bs → AllBelow n cs → AllBelow n (bs ++ cs)
+below_append n [] cs a b = b
+below_append n (x ∷ bs) cs a b = (a.0, below_append n bs cs a.1 b)
+
+below_all : (n : ℕ) (chunks : List ℕ) → AllBelow n (blocks_in_all n chunks)
+below_all n [] = tt
+below_all n (c ∷ chunks) = below_append n (blocks_of n c) (blocks_in_all n chunks) (below_from n (chunk_start c) (chunk_size n c) (omega arith)) (below_all n chunks)
+
+all_inside : (P : ℕ → BlockRead → Type 0) (n : ℕ) (bs : List ℕ) (rs : List BlockRead) → AllBelow n bs → AllReads P bs rs → AllReads (λ b r. (b < n) × P b r) bs rs
+all_inside P n bs [] below a = tt
+all_inside P n [] (r ∷ rs) below a = absurd a
+all_inside P n (x ∷ bs) (r ∷ rs) below a = ((below.0, a.0), all_inside P n bs rs below.1 a.1)
+
+front_at : (base w : ℕ) (xs : List (Worker Lister)) (x : Worker Lister) → AllAtBase base (passes_of xs) → get_elem? xs w ≡ some x → x.pass.view.front ≡ base
+front_at base w [] x all at = absurd (some-ne-none x (sym at))
+front_at base zero (y ∷ xs) x all at = subst (λ (z : Worker Lister). z.pass.view.front ≡ base) (some-injective y x at) all.0
+front_at base (suc w) (y ∷ xs) x all at = front_at base w xs x all.1 at
+
 module _ {L G : Type 0} (contents : L → Option Pages) (m : Manager L G) where
   -- the page at the opening is one
   one_page : (tag : Tag) (page other : Page) → IsBlockOf (relations_of m.table) (lanes_in m.table) (lane_number tag (lanes_in m.table)) tag → WasAtOpening contents m.table tag page → WasKnownAtOpening contents m tag other → page ≡ other
@@ -103,8 +180,8 @@ module _ {L G : Type 0} (contents : L → Option Pages) (m : Manager L G) (rel :
   Origins block [] = Unit {0}
   Origins block (page ∷ pages) = IsBlockOf (relations_of m.table) (lanes_in m.table) (lane_number (tag_of_parts rel fork block) (lanes_in m.table)) (tag_of_parts rel fork block) × WasKnownAtOpening contents m (tag_of_parts rel fork block) page × Origins (block + 1) pages
 
-  abbrev pub AtBase : ℕ → List BlockRead → Type 0
-  AtBase block rs = AllReads (λ b r. IsAtBase contents m (tag_of_parts rel fork b) r) block rs
+  abbrev pub AtBase : List ℕ → List BlockRead → Type 0
+  AtBase bs rs = AllReads (λ b r. IsAtBase contents m (tag_of_parts rel fork b) r) bs rs
 
   pub origins : (pages : List Page) (block : ℕ) → ((b : ℕ) → b < block + length pages → IsBlockOf (relations_of m.table) (lanes_in m.table) (lane_number (tag_of_parts rel fork b) (lanes_in m.table)) (tag_of_parts rel fork b))
       → ((i b : ℕ) (page : Page) → b ≡ block + i → get_elem? pages i ≡ some page → WasKnownAtOpening contents m (tag_of_parts rel fork b) page) → Origins block pages
@@ -112,128 +189,160 @@ module _ {L G : Type 0} (contents : L → Option Pages) (m : Manager L G) (rel :
   origins (page ∷ pages) block named known =
       (named block (omega arith), known 0 block page (omega arith) refl, origins pages (block + 1) (λ b lt. named b (omega arith)) (λ i b p e at. known (suc i) b p (omega arith) at))
 
-  lines_origin : (lines : Lines) (block : ℕ) (rs : List BlockRead) (pages : List Page) → AtBase block rs → Origins block pages → length rs ≤ length pages
-      → lines_from lines block pages ≡ reads_lines lines block rs ++ lines_from lines (block + length rs) (drop (length rs) pages)
-  lines_origin lines block [] pages at o le = ap (λ (n : ℕ). lines_from lines n pages) (sym (add-zero block))
-  lines_origin lines block (r ∷ rs) [] at o le = absurd (omega arith)
-  lines_origin lines block (r ∷ rs) (page ∷ pages) at o le =
+  origins_after : (i block : ℕ) (pages : List Page) → Origins block pages → Origins (block + i) (drop i pages)
+  origins_after zero block pages o = subst (λ (b : ℕ). Origins b pages) (sym (add-zero block)) o
+  origins_after (suc i) block [] o = tt
+  origins_after (suc i) block (page ∷ pages) o =
+      let at : block + 1 + i ≡ block + suc i = omega arith in
+      subst (λ (b : ℕ). Origins b (drop i pages)) at (origins_after i (block + 1) pages o.2)
+
+  -- the page that a block had, and that it is one of the relation
+  pub record HadPage (block : ℕ) (page : Page) : Type 0 where
+    pub block_of : IsBlockOf (relations_of m.table) (lanes_in m.table) (lane_number (tag_of_parts rel fork block) (lanes_in m.table)) (tag_of_parts rel fork block)
+    pub known : WasKnownAtOpening contents m (tag_of_parts rel fork block) page
+
+  had_page : (i block b : ℕ) (pages : List Page) (page : Page) → Origins block pages → block + i ≡ b → get_elem? pages i ≡ some page → HadPage b page
+  had_page i block b [] page o e at = absurd (some-ne-none page (sym at))
+  had_page zero block b (first ∷ pages) page o e at =
+      let same : block ≡ b = omega (arith, e) in
+      subst (λ (k : ℕ). HadPage k page) same (subst (λ (x : Page). HadPage block x) (some-injective first page at) record { block_of = o.0; known = o.1 })
+  had_page (suc i) block b (first ∷ pages) page o e at = had_page i (block + 1) b pages page o.2 (omega (arith, e)) at
+
+  -- the lines of blocks that were read are those of their pages
+  lines_origin : (lines : Lines) (block k : ℕ) (rs : List BlockRead) (pages : List Page) → AtBase (blocks_from block k) rs → Origins block pages → length rs ≡ k → k ≤ length pages → reads_lines lines (blocks_from block k) rs ≡ lines_from lines block (take k pages)
+  lines_origin lines block zero [] pages at o e le = refl
+  lines_origin lines block zero (r ∷ rs) pages at o e le = absurd (omega arith)
+  lines_origin lines block (suc k) [] pages at o e le = absurd (omega arith)
+  lines_origin lines block (suc k) (r ∷ rs) [] at o e le = absurd (omega arith)
+  lines_origin lines block (suc k) (r ∷ rs) (page ∷ pages) at o e le =
       let one = read_is contents m lines block (tag_of_parts rel fork block) page r o.0 at.0 o.1 in
-      let n : block + 1 + length rs ≡ block + suc (length rs) = omega arith in
-      ap₂ (λ (a b : List ℕ). a ++ b) (sym one.0) (lines_origin lines (block + 1) rs pages at.1 o.2 (omega arith))
-      ∙ sym (append_assoc (read_lines lines block r) (reads_lines lines (block + 1) rs) (lines_from lines (block + 1 + length rs) (drop (length rs) pages)))
-      ∙ ap (λ (k : ℕ). (read_lines lines block r ++ reads_lines lines (block + 1) rs) ++ lines_from lines k (drop (length rs) pages)) n
+      ap₂ (λ (a b : List ℕ). a ++ b) one.0 (lines_origin lines (block + 1) k rs pages at.1 o.2 (omega arith) (omega arith))
 
-  pub summaries_origin : (block : ℕ) (rs : List BlockRead) (pages : List Page) → AtBase block rs → Origins block pages → length rs ≡ length pages → map read_summary rs ≡ map summary_of pages
-  summaries_origin block [] [] at o e = refl
-  summaries_origin block [] (page ∷ pages) at o e = absurd (omega arith)
-  summaries_origin block (r ∷ rs) [] at o e = absurd (omega arith)
-  summaries_origin block (r ∷ rs) (page ∷ pages) at o e =
-      let one = read_is contents m Scan block (tag_of_parts rel fork block) page r o.0 at.0 o.1 in
-      ap₂ (λ (a : PageSummary) (b : List PageSummary). a ∷ b) one.1 (summaries_origin (block + 1) rs pages at.1 o.2 (omega arith))
+  at_base : (front base : ℕ) (bs : List ℕ) (rs : List BlockRead) → base ≡ base_of m.table → front ≡ base → AreKnown contents m rel fork bs rs → AllReads (λ b r. IsWithinFront front r) bs rs → AtBase bs rs
+  at_base front base bs [] same here known places = tt
+  at_base front base [] (r ∷ rs) same here known places = absurd known
+  at_base front base (b ∷ bs) (r ∷ rs) same here known places =
+      ((known.0, subst (λ (f : ℕ). IsWithinFront f r) (here ∙ same) places.0), at_base front base bs rs same here known.1 places.1)
 
-  -- What was read and printed, up to the first fault
-  record ToldUntilFault (lines : Lines) (from to : ℕ) (xs : List (Worker Lister)) : Type 0 where
-    pub reads : List BlockRead
-    pub at : AtBase from reads
-    pub text : job_text [] xs ≡ reads_lines lines from reads
-    pub within : from + length reads ≤ to
-    pub all : AllDone xs → (from + length reads ≡ to) × (job_totals xs ≡ reads_totals reads)
+  -- the lines of the pages of a chunk of n blocks
+  abbrev chunk_lines : Lines → ℕ → List Page → ℕ → List ℕ
+  chunk_lines lines n pages chunk = lines_from lines (chunk_start chunk) (take (chunk_size n chunk) (drop (chunk_start chunk) pages))
 
-  at_base : (front base from : ℕ) (rs : List BlockRead) → base ≡ base_of m.table → front ≡ base → AreKnown contents m rel fork from rs → AllReads (λ b r. IsWithinFront front r) from rs → AtBase from rs
-  at_base front base from [] same here known places = tt
-  at_base front base from (r ∷ rs) same here known places =
-      ((known.0, subst (λ (f : ℕ). IsWithinFront f r) (here ∙ same) places.0), at_base front base (from + 1) rs same here known.1 places.1)
+  chunk_origin : (lines : Lines) (n : ℕ) (pages : List Page) (cs : List (Claimed BlockRead)) (chunk : ℕ) (text : List ℕ) → Origins 0 pages → length pages ≡ n → ((w : ℕ) (c : Claimed BlockRead) → get_elem? cs w ≡ some c → AtBase (blocks_in_all n c.chunks) c.items)
+      → IsTextOf lines n cs chunk text → text ≡ chunk_lines lines n pages chunk
+  chunk_origin lines n pages cs chunk text o long each h =
+      let P : ℕ → BlockRead → Type 0 = λ b r. IsAtBase contents m (tag_of_parts rel fork b) r in
+      let mine = blocks_of n chunk in
+      let after = blocks_in_all n h.after in
+      let split : blocks_in_all n h.pass.chunks ≡ blocks_in_all n h.before ++ (mine ++ after) = ap (λ (l : List ℕ). blocks_in_all n l) h.chunks ∙ blocks_append n h.before (chunk ∷ h.after) in
+      let all : AtBase (blocks_in_all n h.before ++ (mine ++ after)) (h.first ++ (h.reads ++ h.rest)) =
+      subst (λ (l : List BlockRead). AtBase (blocks_in_all n h.before ++ (mine ++ after)) l) h.items (subst (λ (l : List ℕ). AtBase l h.pass.items) split (each h.index h.pass h.there)) in
+      let at : AtBase mine h.reads = all_first P mine after h.reads h.rest h.whole (all_rest P (blocks_in_all n h.before) (mine ++ after) h.first (h.reads ++ h.rest) h.at all) in
+      let zero_start : 0 + chunk_start chunk ≡ chunk_start chunk = omega arith in
+      let left : length (drop (chunk_start chunk) pages) ≡ length pages - chunk_start chunk = length-drop (chunk_start chunk) pages in
+      let few : chunk_size n chunk ≤ n - chunk_start chunk = omega arith in
+      h.lines_are ∙ lines_origin lines (chunk_start chunk) (chunk_size n chunk) h.reads (drop (chunk_start chunk) pages) at
+      (subst (λ (b : ℕ). Origins b (drop (chunk_start chunk) pages)) zero_start (origins_after (chunk_start chunk) 0 pages o)) (h.whole ∙ length_chunk n chunk) (omega (arith, left, few, long))
 
-  first_part : (P : ℕ → BlockRead → Type 0) (from : ℕ) (rs ss : List BlockRead) → AllReads P from (rs ++ ss) → AllReads P from rs
-  first_part P from [] ss a = tt
-  first_part P from (r ∷ rs) ss a = (a.0, first_part P (from + 1) rs ss a.1)
+  -- the pages of chunks, one after the other
+  join_chunk : (lines : Lines) (n many : ℕ) (pages : List Page) → length pages ≡ n → (8 * many < n) ⊎ (n ≤ 8 * many) → lines_from lines 0 (take (min (8 * many) n) pages) ++ chunk_lines lines n pages many ≡ lines_from lines 0 (take (min (8 * suc many) n) pages)
+  join_chunk lines n many pages long (inl below) =
+      let first : min (8 * many) n ≡ 8 * many = omega (arith, below) in
+      let start : 8 * many ≡ 0 + 8 * many = omega arith in
+      let next : 8 * many + chunk_size n many ≡ min (8 * suc many) n = omega (arith, below) in
+      ap (λ (k : ℕ). lines_from lines 0 (take k pages) ++ chunk_lines lines n pages many) first
+      ∙ ap (λ (b : ℕ). lines_from lines 0 (take (8 * many) pages) ++ lines_from lines b (take (chunk_size n many) (drop (8 * many) pages))) start
+      ∙ sym (lines_taken lines 0 (8 * many) (chunk_size n many) pages (omega (arith, below, long)))
+      ∙ ap (λ (k : ℕ). lines_from lines 0 (take k pages)) next
+  join_chunk lines n many pages long (inr past) =
+      let none : chunk_size n many ≡ 0 = omega (arith, past) in
+      let same : min (8 * many) n ≡ min (8 * suc many) n = omega (arith, past) in
+      ap (λ (k : ℕ). lines_from lines 0 (take (min (8 * many) n) pages) ++ lines_from lines (8 * many) (take k (drop (8 * many) pages))) none
+      ∙ append-nil (lines_from lines 0 (take (min (8 * many) n) pages))
+      ∙ ap (λ (k : ℕ). lines_from lines 0 (take k pages)) same
 
-  told_one : (lines : Lines) (from next to : ℕ) (p : PassState) (x : Worker Lister) (xs : List (Worker Lister)) (end : Result Unit JobError) → x.end ≡ end → next ≤ to → DoesPart contents m rel fork lines from next p x.pass [] x.task.printed.text.items no_totals x.task.printed.totals end
-      → x.pass.view.front ≡ base_of m.table → ToldUntilFault lines next to xs → ToldUntilFault lines from to (x ∷ xs)
-  told_one lines from next to p x xs (Err e) ended le d front t =
-      let printed = at_base x.pass.view.front (base_of m.table) from (d.printed ++ d.unprinted) refl front d.known d.places in
-      record {
-        reads = d.printed;
-        at = first_part (λ b r. IsAtBase contents m (tag_of_parts rel fork b) r) from d.printed d.unprinted printed;
-        text = ap (λ (r : Result Unit JobError). x.task.printed.text.items ++ text_if_done r (job_text [] xs)) ended ∙ append-nil x.task.printed.text.items ∙ d.text_is;
-        within = let w = d.within in let l = length-append d.printed d.unprinted in omega arith;
-        all = λ done. absurd (let e : Err e ≡ Ok tt = sym ended ∙ done.0 in cc e);
-      }
-  told_one lines from next to p x xs (Ok done) ended le d front t =
-      let printed = at_base x.pass.view.front (base_of m.table) from (d.printed ++ d.unprinted) refl front d.known d.places in
-      let at = d.done.1 in
-      record {
-        reads = d.printed ++ t.reads;
-        at = all_append (λ b r. IsAtBase contents m (tag_of_parts rel fork b) r) from d.printed t.reads
-            (first_part (λ b r. IsAtBase contents m (tag_of_parts rel fork b) r) from d.printed d.unprinted printed)
-            (subst (λ (b : ℕ). AtBase b t.reads) (sym at) t.at);
-        text = ap (λ (r : Result Unit JobError). x.task.printed.text.items ++ text_if_done r (job_text [] xs)) ended
-            ∙ ap₂ (λ (a b : List ℕ). a ++ b) d.text_is (t.text ∙ ap (λ (b : ℕ). reads_lines lines b t.reads) (sym at))
-            ∙ sym (lines-append lines from d.printed t.reads);
-        within = let w = t.within in let l = length-append d.printed t.reads in omega arith;
-        all = λ done. let a = t.all done.1 in (
-          (let l = length-append d.printed t.reads in let e = a.0 in omega arith),
-          ap₂ (λ (u v : ScanTotals). sum_of_totals u v) (d.totals_is ∙ sum_none (reads_totals d.printed)) a.1 ∙ sym (reads_totals-append d.printed t.reads),
-        );
-      }
+  front_origin : (lines : Lines) (n many : ℕ) (pages : List Page) (t : List ℕ) → length pages ≡ n → AreFirstTexts (λ c s. s ≡ chunk_lines lines n pages c) many t → t ≡ lines_from lines 0 (take (min (8 * many) n) pages)
+  front_origin lines n zero pages t long h = let none : 0 ≡ min (8 * zero) n = omega arith in h ∙ ap (λ (k : ℕ). lines_from lines 0 (take k pages)) none
+  front_origin lines n (suc many) pages t long h =
+      h.2 ∙ ap₂ (λ (a b : List ℕ). a ++ b) (front_origin lines n many pages h.0 long h.3) h.4 ∙ join_chunk lines n many pages long (cases_lt (8 * many) n)
 
-  told : (lines : Lines) (n k number : ℕ) (ps : List PassState) (xs : List (Worker Lister)) → 0 < k → number + length ps ≡ k → DoParts contents m rel fork lines n k number ps xs → AllAtBase (base_of m.table) (map (λ (x : Worker Lister). x.pass) xs)
-      → ToldUntilFault lines (part_start n k number) n xs
-  told lines n k number [] [] many count d at =
-      let e : part_start n k number ≡ n = ap (part_start n k) (let s : number ≡ k = omega arith in s) ∙ start_last n k many in
-      record { reads = []; at = tt; text = refl; within = omega (arith, e); all = λ done. (omega (arith, e), refl) }
-  told lines n k number [] (x ∷ xs) many count d at = absurd d
-  told lines n k number (p ∷ ps) [] many count d at = absurd d
-  told lines n k number (p ∷ ps) (x ∷ xs) many count d at =
-      let t = told lines n k (number + 1) ps xs many (omega arith) d.1 at.1 in
-      told_one lines (part_start n k number) (part_start n k (number + 1)) n p x xs x.end refl (let w = t.within in omega arith) d.0 at.0 t
+  -- What is read at the base of the fork's pages
+  module _ (lines : Lines) (ps : List PassState) (xs : List (Worker Lister)) (cs : List (Claimed BlockRead)) (pages : List Page) (d : DoLists contents m rel fork lines ps xs cs)
+      (named : (b : ℕ) → b < blocks_in m rel fork → names_block (tag_of_parts rel fork b) ≡ true) (origin : IsOrigin contents m rel fork pages) (fronts : AllAtBase (base_of m.table) (passes_of xs)) where
+    abbrev blocks : ℕ
+    blocks = blocks_in m rel fork
 
-  -- the text of the pages begins with what was printed up to the first fault
-  text_begins : (lines : Lines) (n : ℕ) (xs : List (Worker Lister)) (pages : List Page) (t : ToldUntilFault lines 0 n xs) → n ≡ length pages → Origins 0 pages
-      → text_of_pages lines pages ≡ job_text [] xs ++ (lines_from lines (0 + length t.reads) (drop (length t.reads) pages) ++ totals_line (totals_of pages))
-  text_begins lines n xs pages t size o =
-      let first = lines_origin lines 0 t.reads pages t.at o (let w = t.within in omega arith) in
-      let rest = lines_from lines (0 + length t.reads) (drop (length t.reads) pages) in
-      text_is lines pages
-      ∙ ap (λ (l : List ℕ). l ++ totals_line (totals_of pages)) (first ∙ ap (λ (l : List ℕ). l ++ rest) (sym t.text))
-      ∙ append_assoc (job_text [] xs) rest (totals_line (totals_of pages))
+    are_origins : Origins 0 pages
+    are_origins =
+        let block : (b : ℕ) → b < 0 + length pages → IsBlockOf (relations_of m.table) (lanes_in m.table) (lane_number (tag_of_parts rel fork b) (lanes_in m.table)) (tag_of_parts rel fork b) =
+        λ b lt. record { named = named b (let c = origin.counted in omega (arith, c, lt)); listed = lt-ltb b blocks (let c = origin.counted in omega (arith, c, lt)); placed = refl } in
+        origins pages 0 block (λ i b page e there. subst (λ (k : ℕ). WasKnownAtOpening contents m (tag_of_parts rel fork k) page) (let s : i ≡ b = omega arith in s) (origin.each i page there))
 
-  drop_all : (l : List Page) (i : ℕ) → i ≡ length l → drop i l ≡ []
-  drop_all [] zero e = refl
-  drop_all [] (suc i) e = refl
-  drop_all (x ∷ l) zero e = absurd (omega arith)
-  drop_all (x ∷ l) (suc i) e = drop_all l i (omega arith)
+    claimed_base : (w : ℕ) (c : Claimed BlockRead) → get_elem? cs w ≡ some c → AtBase (blocks_in_all blocks c.chunks) c.items
+    claimed_base w c at =
+        let h = claimed_at contents m rel fork lines w ps xs cs c d at in
+        at_base h.worker.pass.view.front (base_of m.table) (blocks_in_all blocks c.chunks) c.items refl (front_at (base_of m.table) w xs h.worker fronts h.there) h.did.reads.known h.did.reads.places
 
-  -- and is the whole text where all are done
-  text_ends : (lines : Lines) (n : ℕ) (xs : List (Worker Lister)) (pages : List Page) → ToldUntilFault lines 0 n xs → n ≡ length pages → Origins 0 pages → AllDone xs → text_of_pages lines pages ≡ job_text (totals_line (job_totals xs)) xs
-  text_ends lines n xs pages t size o done =
-      let all = t.all done in
-      let long : length t.reads ≡ length pages = let a = all.0 in omega arith in
-      let totals : totals_of pages ≡ job_totals xs = ap totals_of_summaries (sym (summaries_origin 0 t.reads pages t.at o long)) ∙ sym all.1 in
-      text_begins lines n xs pages t size o
-      ∙ ap (λ (l : List Page). job_text [] xs ++ (lines_from lines (0 + length t.reads) l ++ totals_line (totals_of pages))) (drop_all pages (length t.reads) long)
-      ∙ ap (λ (u : ScanTotals). job_text [] xs ++ totals_line u) totals
-      ∙ sym (text_last (totals_line (job_totals xs)) xs done)
+    front_is : (many : ℕ) (front : List ℕ) → AreFirstTexts (HasText xs) many front → front ≡ lines_from lines 0 (take (min (8 * many) blocks) pages)
+    front_is many front h = front_origin lines blocks many pages front origin.counted
+        (front_of (HasText xs) (λ c s. s ≡ chunk_lines lines blocks pages c) many front
+        (λ k s t. chunk_origin lines blocks pages cs k s are_origins origin.counted claimed_base (chunk_text contents m rel fork lines ps xs cs k s d t)) h)
 
-  put_origin : {A : Type 0} (lines : Lines) (n : ℕ) (xs : List (Worker Lister)) (pages : List Page) (old new : Option (List ℕ)) (r : Result A JobError) → ToldUntilFault lines 0 n xs → n ≡ length pages → Origins 0 pages → OnOk r (AllDone xs)
-      → AllDone xs ⊎ (job_text (totals_line (job_totals xs)) xs ≡ job_text [] xs) → Puts (job_text (totals_line (job_totals xs)) xs) old new (as_done r) → Puts (text_of_pages lines pages) old new (as_done r)
-  put_origin lines n xs pages old new (Ok a) t size o ok f puts =
-      subst (λ (l : List ℕ). Puts {E = JobError} l old new (Ok tt)) (sym (text_ends lines n xs pages t size o ok)) puts
-  put_origin lines n xs pages old new (Err e) t size o ok (inl done) puts =
-      subst (λ (l : List ℕ). Puts {E = JobError} l old new (Err e)) (sym (text_ends lines n xs pages t size o done)) puts
-  put_origin lines n xs pages old new (Err e) t size o ok (inr same) puts =
-      stopped_in (text_of_pages lines pages) (job_text [] xs) (lines_from lines (0 + length t.reads) (drop (length t.reads) pages) ++ totals_line (totals_of pages)) old new e e (text_begins lines n xs pages t size o)
-      (subst (λ (l : List ℕ). Puts {E = JobError} l old new (Err e)) same puts)
+    -- what a block that was read weighs
+    weigh : (f : ScanTotals → ℕ) (block : ℕ) (r : BlockRead) → (block < blocks) × IsAtBase contents m (tag_of_parts rel fork block) r → f (reads_totals (r ∷ [])) ≡ page_weight f pages block
+    weigh f block r h =
+        let p = there pages block (let c = origin.counted in let b = h.0 in omega (arith, c, b)) in
+        let had = had_page block 0 block pages p.0 are_origins (omega arith) p.1 in
+        let one = read_is contents m lines block (tag_of_parts rel fork block) p.0 r had.block_of h.1 had.known in
+        ap (λ (s : PageSummary). f (totals_of_summaries (s ∷ []))) one.1 ∙ sym (weight_at f pages block p.0 p.1)
 
-  -- the text of the job is that of the pages, or a prefix of it
-  pub text_of_origin : {A : Type 0} (lines : Lines) (n : ℕ) (ps : List PassState) (xs : List (Worker Lister)) (pages : List Page) (old new : Option (List ℕ)) (r : Result A JobError) → n ≡ blocks_in m rel fork → 0 < length ps
-      → ((b : ℕ) → b < n → names_block (tag_of_parts rel fork b) ≡ true) → DoParts contents m rel fork lines n (length ps) 0 ps xs → OnOk r (AllDone xs) → IsOrigin contents m rel fork pages → AllAtBase (base_of m.table) (map (λ (x : Worker Lister). x.pass) xs)
-      → Puts (job_text (totals_line (job_totals xs)) xs) old new (as_done r) → Puts (text_of_pages lines pages) old new (as_done r)
-  text_of_origin lines n ps xs pages old new r size many named d ok origin at puts =
-      let t0 = told lines n (length ps) 0 ps xs many (omega arith) d at in
-      let t : ToldUntilFault lines 0 n xs = subst (λ (b : ℕ). ToldUntilFault lines b n xs) (start_first n (length ps)) t0 in
-      let count : n ≡ length pages = size ∙ sym origin.counted in
-      let block : (b : ℕ) → b < 0 + length pages → IsBlockOf (relations_of m.table) (lanes_in m.table) (lane_number (tag_of_parts rel fork b) (lanes_in m.table)) (tag_of_parts rel fork b) =
-      λ b lt. record { named = named b (omega arith); listed = lt-ltb b (blocks_in m rel fork) (let c = origin.counted in omega arith); placed = refl } in
-      let o : Origins 0 pages = origins pages 0 block (λ i b page e there. subst (λ (k : ℕ). WasKnownAtOpening contents m (tag_of_parts rel fork k) page) (let s : i ≡ b = omega arith in s) (origin.each i page there)) in
-      put_origin lines n xs pages old new r t count o ok (text_either (totals_line (job_totals xs)) xs) puts
+    weighed : (f : ScanTotals → ℕ) (w : ℕ) (c : Claimed BlockRead) → get_elem? cs w ≡ some c → AllReads (λ b r. f (reads_totals (r ∷ [])) ≡ page_weight f pages b) (blocks_in_all blocks c.chunks) c.items
+    weighed f w c at = all_weaker (λ b r. (b < blocks) × IsAtBase contents m (tag_of_parts rel fork b) r) (λ b r. f (reads_totals (r ∷ [])) ≡ page_weight f pages b) (blocks_in_all blocks c.chunks) c.items (weigh f)
+        (all_inside (λ b r. IsAtBase contents m (tag_of_parts rel fork b) r) blocks (blocks_in_all blocks c.chunks) c.items (below_all blocks c.chunks) (claimed_base w c at))
+
+    module _ (many : 0 < length ps) (once : DrewOnce xs) (done : AllDone xs) where
+      totals_by_weight : (f : ScanTotals → ℕ) → AddsUp f → f (reads_totals (items_in_all cs)) ≡ f (totals_of pages)
+      totals_by_weight f adds =
+          reads_all_by f adds blocks (page_weight f pages) cs (all_claimed contents m rel fork lines ps xs cs many d once done) (λ w c at. (covers_at contents m rel fork lines w ps xs cs c d done at, weighed f w c at))
+          ∙ ap (λ (n : ℕ). sum_below n (page_weight f pages)) (sym origin.counted)
+          ∙ sym (pages_by f adds pages)
+
+      totals_origin : job_totals xs ≡ totals_of pages
+      totals_origin = totals_read contents m rel fork lines ps xs cs d done ∙ totals_by (reads_totals (items_in_all cs)) (totals_of pages) totals_by_weight
+
+      text_whole : (front last : List ℕ) (count : ℕ) → AreFirstTexts (HasText xs) count front → count ≡ chunk_count blocks → last ≡ totals_line (job_totals xs) → text_of_pages lines pages ≡ front ++ last
+      text_whole front last count h all is =
+          let whole : min (8 * count) blocks ≡ length pages = let c = origin.counted in omega (arith, c, all) in
+          text_is lines pages
+          ∙ ap₂ (λ (a b : List ℕ). a ++ b)
+          (sym (front_is count front h ∙ ap (λ (k : ℕ). lines_from lines 0 (take k pages)) whole ∙ ap (lines_from lines 0) (take_all pages)))
+          (ap totals_line (sym totals_origin) ∙ sym is)
+
+    text_begins : (front : List ℕ) (count : ℕ) → AreFirstTexts (HasText xs) count front
+        → text_of_pages lines pages ≡ (front ++ []) ++ (lines_from lines (0 + min (8 * count) blocks) (drop (min (8 * count) blocks) pages) ++ totals_line (totals_of pages))
+    text_begins front count h =
+        let k = min (8 * count) blocks in
+        let rest = lines_from lines (0 + k) (drop k pages) in
+        let end = totals_line (totals_of pages) in
+        text_is lines pages
+        ∙ ap (λ (l : List ℕ). l ++ end) (lines_split lines 0 k pages (let c = origin.counted in omega (arith, c)) ∙ ap (λ (l : List ℕ). l ++ rest) (sym (front_is count front h) ∙ sym (append-nil front)))
+        ∙ append_assoc (front ++ []) rest end
+
+    stopped : (many : 0 < length ps) (once : DrewOnce xs) (old new : Option (List ℕ)) (e : JobError) (h : PutsAll xs (chunk_count blocks) old new (Err e)) → (h.last ≡ []) ⊎ ((h.many ≡ chunk_count blocks) × AllDone xs × (h.last ≡ totals_line (job_totals xs)))
+        → Puts (text_of_pages lines pages) old new (Err e)
+    stopped many once old new e h (inl none) =
+        stopped_in (text_of_pages lines pages) (h.text ++ []) (lines_from lines (0 + min (8 * h.many) blocks) (drop (min (8 * h.many) blocks) pages) ++ totals_line (totals_of pages)) old new e e (text_begins h.text h.many h.texts)
+        (subst (λ (l : List ℕ). Puts {E = JobError} (h.text ++ l) old new (Err e)) none h.puts)
+    stopped many once old new e h (inr all) =
+        subst (λ (l : List ℕ). Puts {E = JobError} l old new (Err e)) (sym (text_whole many once all.1 h.text h.last h.many h.texts all.0 all.2)) h.puts
+
+    -- the text of the job is that of the pages, or a prefix of it
+    pub text_of_origin : {A : Type 0} (old new : Option (List ℕ)) (r : Result A JobError) → 0 < length ps → DrewOnce xs → OnOk r (AllDone xs) → PutsAll xs (chunk_count blocks) old new (as_done r) → Puts (text_of_pages lines pages) old new (as_done r)
+    text_of_origin old new (Ok a) many once ok h =
+        subst (λ (l : List ℕ). Puts {E = JobError} l old new (Ok tt)) (sym (text_whole many once ok h.text h.last h.many h.texts h.whole.0 h.whole.1)) h.puts
+    text_of_origin old new (Err e) many once ok h = stopped many once old new e h h.ending
+
+    -- and so are its totals
+    pub totals_of_origin : (r : Result Totals JobError) → 0 < length ps → DrewOnce xs → OnOk r (AllDone xs) → IfOk r (λ totals. totals ≡ totals_of_scan (job_totals xs)) → IfOk r (λ totals. totals ≡ totals_of_scan (totals_of pages))
+    totals_of_origin (Ok totals) many once ok is = is ∙ ap totals_of_scan (totals_origin many once ok)
+    totals_of_origin (Err e) many once ok is = tt

@@ -22,8 +22,8 @@ module _ {L G : Type 0} (contents : L → Option Pages) (m : Manager L G) (fork 
         (λ (t : (get_elem? (workers_in ps) i ≡ some c.before) × (get_elem? (workers_in qs) i ≡ some q)).
         let below = inside (workers_in ps) i c.before t.0 in
         let long = parts.listed in
-        let os = there parts.outcomes i (omega arith) in
-        let d = parts.each i c.before q os.0 t.0 t.1 os.1 in
+        let claimed = there parts.claimed i (omega arith) in
+        let d = (parts.each i c.before q claimed.0 t.0 t.1 claimed.1).blocks in
         worked_given contents m fork n i c.before q (new_is_given contents m fork n i c.before fresh) d.goes.same d.goes.belongs.front d.spent)
         c.either
 

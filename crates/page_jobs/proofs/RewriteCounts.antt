@@ -12,8 +12,9 @@ use Rattle.history_core.specs.Log.{write_weight, weight_at, writes_in, writes_at
 use Rattle.grid.specs.Shape.{total}
 use Rattle.grid.proofs.Lists.{at_longer}
 use Rattle.grid.proofs.Sums.{terms_le, total-same}
+use Rattle.chunk_claims.specs.Claims.{sum_below}
 use Rattle.page_jobs.specs.Rewrites.{Rule, Outcome, unsound, kept, refused, changed, outcome_block, outcome_calls, calls_for}
-use Rattle.page_jobs.specs.RewriteEnds.{BackendCalls, calls_of_backends, all_done, WroteNothing, block_weight, times, sum_below}
+use Rattle.page_jobs.specs.RewriteEnds.{BackendCalls, calls_of_backends, all_done, WroteNothing, block_weight, times}
 
 -- what stands in the second of two lists
 pub at_right : {A : Type 0} (l m : List A) (k : ℕ) (a : A) → get_elem? m k ≡ some a → get_elem? (l ++ m) (length l + k) ≡ some a

@@ -1,5 +1,5 @@
 -- What the devices hold that a manager gives back after a rewrite.
-use Rattle.std.proofs.Common.{◌≡◌, ℕ, zero, suc, ◌%◌, ◌<◌, ◌≤◌, ◌⊎◌, Bool, true, false, List, [], ◌∷◌, ◌++◌, length, map, Option, Some, unwrap_or, refl, sym, ap, ap₂, ◌∙◌, subst, ⊎_elim, inl, inr, arith}
+use Rattle.std.proofs.Common.{◌≡◌, ℕ, zero, suc, ◌%◌, ◌<◌, ◌≤◌, ◌⊎◌, Bool, true, false, List, [], ◌∷◌, ◌++◌, Option, Some, unwrap_or, refl, sym, ap, ◌∙◌, subst, ⊎_elim, inl, inr, arith}
 use Rattle.std.specs.Prelude.{is_some, nat_lt}
 use Rattle.std.proofs.lemmas.Bool.{lt-ltb}
 use mathlib.Core.Option.{some, some-injective, some-ne-none}
@@ -9,6 +9,7 @@ use Rattle.block_tag.specs.declared.tag.Tag.{Tag}
 use Rattle.block_tag.specs.Names.{lane_number, packed_tag, tag_of_parts}
 use Rattle.page_layout.specs.declared.outcomes.PageRewrite.{PageRewrite}
 use Rattle.page_layout.specs.declared.outcomes.PageRewrite.TheVariants.{Invalid}
+use Rattle.page_layout.specs.declared.outcomes.RewriteTotals.{RewriteTotals}
 use Rattle.page_layout.specs.Outcomes.{is_changed_outcome, page_rewrite_of, rewrite_totals_of, totals_of_outcomes}
 use Rattle.page_layout.specs.Soundness.{is_sound_page}
 use Rattle.segment_store.specs.Contents.{Pages}
@@ -17,6 +18,8 @@ use Rattle.pin_core.specs.declared.view.View.{View}
 use Rattle.pin_core.specs.State.{Page}
 use Rattle.history_core.specs.Log.{Entry, image, tag_in, end_of, place_of, writes_in}
 use Rattle.history_core.specs.State.{stored, failed}
+use Rattle.grid.specs.Shape.{total}
+use Rattle.chunk_claims.specs.Claims.{sum_below}
 use Rattle.grid.proofs.Sums.{total-both}
 use Rattle.history_core.proofs.Calls.{at_both}
 use Rattle.table_rule.specs.declared.opening.Opening.{Opening}
@@ -31,19 +34,21 @@ use Rattle.backend_pass.specs.Managers.{first_in, is_first, others_in}
 use Rattle.backend_pass.specs.Passes.{PassState}
 use Rattle.backend_pass.proofs.Joining.{first_here, first_past, others_here, others_past}
 use Rattle.page_jobs.specs.declared.ending.Totals.{Totals}
+use Rattle.page_jobs.specs.Chunks.{Claimed, CoversAll, blocks_in_all, items_in_all}
 use Rattle.page_jobs.specs.Ending.{totals_of_rewrite}
-use Rattle.page_jobs.specs.Jobs.{IsOrigin}
+use Rattle.page_jobs.specs.Jobs.{IsOrigin, workers_in}
 use Rattle.page_jobs.specs.Parts.{blocks_in}
-use Rattle.page_jobs.specs.Rewrites.{Outcome, Rule, unsound, kept, refused, changed, outcome_block, outcome_totals, rule_of, result_of}
+use Rattle.page_jobs.specs.Rewrites.{AreOf, Outcome, Rule, unsound, kept, refused, changed, outcome_block, outcome_totals, rule_of, result_of}
 use Rattle.page_jobs.specs.RewriteCloses.{ClosesEither, ClosesRewritten, HasEntryPage, HoldEither, HoldRewritten, IsInLanes, RewritesAlone, RewritesAndStores}
 use Rattle.page_jobs.specs.RewriteEnds.{HasRewrites, IsAfter, IsFair, IsPageEntry, page_at_start, IsResult, WroteNothing, BackendCalls, Rewrites, RewritesAll, all_done, block_weight, times}
+use Rattle.page_jobs.specs.RewriteJobs.{RewriteParts}
 use Rattle.page_jobs.specs.Rewriting.{FollowsRule}
+use Rattle.page_jobs.proofs.Measures.{RewriteAddsUp, block_below, outcomes_all, outcomes_by, outcomes_once, rewrite_page_weight, rewrite_pages_by, rewrite_totals_by, times_below, times_one}
 use Rattle.page_jobs.proofs.RewriteClosed.{changed_read, has_rewrites, kept_read}
 use Rattle.page_jobs.proofs.RewriteCounts.{Each}
 use Rattle.page_jobs.proofs.RewriteCourse.{Parted, all_parted}
 use Rattle.page_jobs.proofs.RewriteLanes.{finishes, lanes_hold_either}
 use Rattle.page_jobs.proofs.RewriteOrder.{InOrder, calls_ordered, in_order}
-use Rattle.page_jobs.proofs.RewriteRanges.{from_at, parts_below, parts_once, whole_all, whole_from}
 use Rattle.page_jobs.proofs.Standing.{inside, there}
 use Rattle.page_jobs.proofs.ReadersLeave.{some_of}
 
@@ -51,12 +56,11 @@ told_invalid : (page : Page) → is_sound_page page ≡ false → page_rewrite_o
 unfolding page_rewrite_of
 told_invalid page bad = rw bad refl
 
--- where what is told of each outcome is what is told of a page the totals are those of the pages
-same_told : (os : List Outcome) (pages : List Page) → length os ≡ length pages → ((i : ℕ) (o : Outcome) (page : Page) → get_elem? os i ≡ some o → get_elem? pages i ≡ some page → result_of o ≡ page_rewrite_of page) → map result_of os ≡ map page_rewrite_of pages
-same_told [] [] long each = refl
-same_told [] (p ∷ pages) long each = absurd (omega arith)
-same_told (o ∷ os) [] long each = absurd (omega arith)
-same_told (o ∷ os) (p ∷ pages) long each = ap₂ (λ (a : PageRewrite) (b : List PageRewrite). a ∷ b) (each zero o p refl refl) (same_told os pages (omega arith) (λ i. each (suc i)))
+-- the weight of a page by its block
+page_weight_at : (f : RewriteTotals → ℕ) (pages : List Page) (b : ℕ) (page : Page) → get_elem? pages b ≡ some page → rewrite_page_weight f pages b ≡ f (totals_of_outcomes (page_rewrite_of page ∷ []))
+page_weight_at f [] b page at = absurd (some-ne-none page (sym at))
+page_weight_at f (p ∷ pages) zero page at = ap (λ (q : Page). f (totals_of_outcomes (page_rewrite_of q ∷ []))) (some-injective p page at)
+page_weight_at f (p ∷ pages) (suc b) page at = page_weight_at f pages b page at
 
 -- entries of pages that are one
 image_tag : (a b : ℕ) (p q : Page) → image a p ≡ image b q → a ≡ b
@@ -160,6 +164,17 @@ module _ {L G : Type 0} (d : Devices L G) (o : Opening L G) (zs : List PassState
         (hold_either r n result.rewritten.rewrites word tag before after closed page x was unfailed);
   }
 
+-- the outcomes of passes that claimed each chunk once at most are of different blocks
+pub claimed_weigh : {L G : Type 0} (contents : L → Option Pages) (m : Manager L G) (rel : ℕ) (fork : Fork) (ps qs : List PassState) (x : RewriteParts contents m rel fork ps qs) (g : ℕ → ℕ)
+    → total (λ (u : Outcome). g (outcome_block u)) (items_in_all x.claimed) ≤ sum_below (blocks_in m rel fork) g
+claimed_weigh contents m rel fork ps qs x g = outcomes_once (blocks_in m rel fork) x.claimed x.once (λ w c of.
+    let below = inside x.claimed w c of in
+    let listed = x.listed in
+    let counted = x.counted in
+    let p = there ps w (omega (arith, below, listed)) in
+    let q = there qs w (omega (arith, below, listed, counted)) in
+    (x.each w p.0 q.0 c p.1 q.1 of).blocks.order) g
+
 module _ {L G : Type 0} (d : Devices L G) (m : Manager L G) (rel : ℕ) (fork : Fork) (ps qs zs : List PassState) (lanes : List L) (log : G) (c : ClosesAll d m.table.table.shared.key zs lanes log) (x : RewritesAlone d.contents m rel fork ps qs zs) where
   abbrev rule : Rule
   rule = rule_of rel fork
@@ -192,26 +207,30 @@ module _ {L G : Type 0} (d : Devices L G) (m : Manager L G) (rel : ℕ) (fork : 
   fair number (refused b i p n) low f = f.2
   fair number (changed b i p n k) low f = (f.2, f.3)
 
-  module _ (W : Type 0) (oss : List (List Outcome)) (t : Parted d.contents m rel fork W 0 zs oss) where
+  -- However blocks are weighed, the outcomes weigh no more than all blocks
+  module _ (W : Type 0) (cs : List (Claimed Outcome)) (t : Parted d.contents m rel fork W zs cs) (once : (g : ℕ → ℕ) → total (λ (u : Outcome). g (outcome_block u)) (items_in_all cs) ≤ sum_below (blocks_in m rel fork) g) where
     ordered : InOrder rule zs t.parts
     ordered = in_order rule zs t.parts t.have t.reads
 
     abbrev in_turn : List BackendCalls
     in_turn = ordered.first ∷ ordered.others
 
-    times_in_turn : (b : ℕ) → times b (all_done in_turn) ≡ times b (all_done t.parts)
-    times_in_turn b = let a = total-both (block_weight b) ordered.first.done (all_done ordered.others) in let s = ordered.same b in omega arith
+    times_in_turn : (b : ℕ) → times b (all_done in_turn) ≡ times b (items_in_all cs)
+    times_in_turn b = let a = total-both (block_weight b) ordered.first.done (all_done ordered.others) in a ∙ ordered.same b ∙ ap (times b) t.dones
 
-    below_in_turn : (k : ℕ) (o : Outcome) → get_elem? (all_done in_turn) k ≡ some o → outcome_block o < blocks_in m rel fork
-    below_in_turn k o at = let y = ordered.among k o at in parts_below 0 (blocks_in m rel fork) t.parts t.fit y.0 o y.1
+    done_below : (k : ℕ) (u : Outcome) → get_elem? (all_done t.parts) k ≡ some u → outcome_block u < blocks_in m rel fork
+    done_below k u at = block_below (blocks_in m rel fork) (items_in_all cs) once k u (ap (λ (os : List Outcome). get_elem? os k) (sym t.dones) ∙ at)
+
+    below_in_turn : (k : ℕ) (u : Outcome) → get_elem? (all_done in_turn) k ≡ some u → outcome_block u < blocks_in m rel fork
+    below_in_turn k u at = let y = ordered.among k u at in done_below y.0 u y.1
 
     rewrites : Rewrites rule (blocks_in m rel fork) c.state.known c.state.origin (calls_in_order zs) in_turn
     rewrites = record {
       calls_are = calls_ordered rule zs t.parts ordered;
       reads = only_reads;
-      fair = λ k o at. let y = ordered.among k o at in let f = t.follow y.0 o y.1 in fair f.0 o (below_in_turn k o at) f.1;
+      fair = λ k u at. let y = ordered.among k u at in let f = t.follow y.0 u y.1 in fair f.0 u (below_in_turn k u at) f.1;
       below = below_in_turn;
-      once = λ b. let e = times_in_turn b in let l = parts_once (blocks_in m rel fork) t.parts t.fit b in omega arith;
+      once = λ b. let e = times_in_turn b in let l = times_below (blocks_in m rel fork) b (items_in_all cs) once in omega (arith, e, l);
       apart = λ a b low high same. numbers_apart rel fork a b same;
     }
       where
@@ -219,22 +238,46 @@ module _ {L G : Type 0} (d : Devices L G) (m : Manager L G) (rel : ℕ) (fork : 
         only_reads zero p at = subst (λ (q : BackendCalls). (writes_in q.before ≡ 0) × (writes_in q.after ≡ 0)) (some-injective ordered.first p at) ordered.first_reads
         only_reads (suc k) p at = ordered.other_reads k p at
 
-    rewrites_all : W → RewritesAll rule (blocks_in m rel fork) c.state.known c.state.origin (calls_in_order zs) in_turn
-    rewrites_all w = record {
+    rewrites_all : W → ((g : ℕ → ℕ) → total (λ (u : Outcome). g (outcome_block u)) (items_in_all cs) ≡ sum_below (blocks_in m rel fork) g) → RewritesAll rule (blocks_in m rel fork) c.state.known c.state.origin (calls_in_order zs) in_turn
+    rewrites_all w all = record {
       rewrites = rewrites;
-      all = λ b low. times_in_turn b ∙ whole_all b 0 (blocks_in m rel fork) t.parts (t.whole w) (omega arith) low;
-      ended = λ k o at. let y = ordered.among k o at in t.ended w y.0 o y.1;
+      all = λ b low. times_in_turn b ∙ times_one (blocks_in m rel fork) b (items_in_all cs) all low;
+      ended = λ k u at. let y = ordered.among k u at in t.ended w y.0 u y.1;
     }
 
   any_end : HasRewrites rule (blocks_in m rel fork) c.state.known c.state.origin c.state.log
-  any_end = has_rewrites c.history (rewrites ⊥ x.parts.outcomes (all_parted d.contents m rel fork ⊥ ps qs zs x.parts.outcomes x x.parts.listed (λ w p q os at there of. (x.parts.each w p q os at there of, λ no. absurd no))))
+  any_end =
+      let parts = x.parts in
+      has_rewrites c.history (rewrites ⊥ parts.claimed
+      (all_parted d.contents m rel fork ⊥ ps qs zs parts.claimed x parts.listed (λ w p q e at after of. ((parts.each w p q e at after of).blocks, λ no. absurd no)))
+      (claimed_weigh d.contents m rel fork (workers_in ps) (workers_in qs) parts))
 
 pub closes_either : {L G : Type 0} (d : Devices L G) (m : Manager L G) → ClosesEither d m
 closes_either d m rel fork ps qs zs lanes log x c = let has = any_end d m rel fork ps qs zs lanes log c x in (has, hold_either d m.table.table.shared.key zs lanes log c (rule_of rel fork) (blocks_in m rel fork) has)
 
 module _ {L G : Type 0} (d : Devices L G) (m : Manager L G) (rel : ℕ) (fork : Fork) (ps qs zs : List PassState) (totals : Totals) (upto : ℕ) (lanes : List L) (log : G) (c : ClosesAll d m.table.table.shared.key zs lanes log) (y : RewritesAndStores d.contents m rel fork ps qs zs totals upto) where
-  whole_parts_of : Parted d.contents m rel fork (Unit {0}) 0 zs y.all.outcomes
-  whole_parts_of = all_parted d.contents m rel fork (Unit {0}) ps qs zs y.all.outcomes y.alone y.all.listed (λ w p q os at there of. let z = y.all.each w p q os at there of in (z.blocks, λ yes. (z.whole, z.ended)))
+  abbrev claimed : List (Claimed Outcome)
+  claimed = y.all.claimed
+
+  whole_parts_of : Parted d.contents m rel fork (Unit {0}) zs claimed
+  whole_parts_of = all_parted d.contents m rel fork (Unit {0}) ps qs zs claimed y.alone y.all.listed (λ w p q e at after of. let z = y.all.each w p q e at after of in (z.course, λ yes. z.ended))
+
+  each_of : (w : ℕ) (e : Claimed Outcome) → get_elem? claimed w ≡ some e → AreOf (blocks_in_all (blocks_in m rel fork) e.chunks) e.items × CoversAll (blocks_in m rel fork) e
+  each_of w e of =
+      let below = inside claimed w e of in
+      let listed = y.all.listed in
+      let counted = y.alone.parts.counted in
+      let p = there (workers_in ps) w (omega (arith, below, listed)) in
+      let q = there (workers_in qs) w (omega (arith, below, listed, counted)) in
+      let z = y.all.each w p.0 q.0 e p.1 q.1 of in
+      (z.course.order, z.whole)
+
+  -- however blocks are weighed, the outcomes weigh what all blocks do
+  weigh_all : (g : ℕ → ℕ) → total (λ (u : Outcome). g (outcome_block u)) (items_in_all claimed) ≡ sum_below (blocks_in m rel fork) g
+  weigh_all g = outcomes_all (blocks_in m rel fork) claimed y.all.all each_of g
+
+  weigh_once : (g : ℕ → ℕ) → total (λ (u : Outcome). g (outcome_block u)) (items_in_all claimed) ≤ sum_below (blocks_in m rel fork) g
+  weigh_once g = let e = weigh_all g in omega (arith, e)
 
   all_known : (b : ℕ) → b < blocks_in m rel fork → c.state.known ((rule_of rel fork).tag b) ≡ true
   all_known b low =
@@ -246,11 +289,11 @@ module _ {L G : Type 0} (d : Devices L G) (m : Manager L G) (rel : ℕ) (fork : 
   all_reached : (k : ℕ) (e : Call) → get_elem? (calls_in_order zs) k ≡ some e → place_of e ≤ upto
   all_reached = each_in_order (λ (e : Call). place_of e ≤ upto) zs (λ i z at k e there. let f = (c.each i z at).front in let a = f.above k e there in let b = y.fronts i z at in omega arith)
 
-  all_rewrites : RewritesAll (rule_of rel fork) (blocks_in m rel fork) c.state.known c.state.origin (calls_in_order zs) (in_turn d m rel fork ps qs zs lanes log c y.alone (Unit {0}) y.all.outcomes whole_parts_of)
-  all_rewrites = rewrites_all d m rel fork ps qs zs lanes log c y.alone (Unit {0}) y.all.outcomes whole_parts_of tt
+  all_rewrites : RewritesAll (rule_of rel fork) (blocks_in m rel fork) c.state.known c.state.origin (calls_in_order zs) (in_turn d m rel fork ps qs zs lanes log c y.alone (Unit {0}) claimed whole_parts_of weigh_once)
+  all_rewrites = rewrites_all d m rel fork ps qs zs lanes log c y.alone (Unit {0}) claimed whole_parts_of weigh_once tt weigh_all
 
   all_result : IsResult (rule_of rel fork) (blocks_in m rel fork) c.state
-  all_result = finishes (rule_of rel fork) (blocks_in m rel fork) c.state (calls_in_order zs) (in_turn d m rel fork ps qs zs lanes log c y.alone (Unit {0}) y.all.outcomes whole_parts_of) upto record {
+  all_result = finishes (rule_of rel fork) (blocks_in m rel fork) c.state (calls_in_order zs) (in_turn d m rel fork ps qs zs lanes log c y.alone (Unit {0}) claimed whole_parts_of weigh_once) upto record {
     laws = c.laws;
     history = c.history;
     rewrites = all_rewrites;
@@ -264,10 +307,10 @@ module _ {L G : Type 0} (d : Devices L G) (m : Manager L G) (rel : ℕ) (fork : 
   told_at j o at = by_case o at
     where
       order : InOrder (rule_of rel fork) zs whole_parts_of.parts
-      order = ordered d m rel fork ps qs zs lanes log c y.alone (Unit {0}) y.all.outcomes whole_parts_of
+      order = ordered d m rel fork ps qs zs lanes log c y.alone (Unit {0}) claimed whole_parts_of weigh_once
 
       by_case : (u : Outcome) → get_elem? (all_done whole_parts_of.parts) j ≡ some u → result_of u ≡ page_rewrite_of (page_at_start c.state.origin ((rule_of rel fork).tag (outcome_block u)))
-      by_case (unsound b) e = let low = parts_below 0 (blocks_in m rel fork) whole_parts_of.parts whole_parts_of.fit j (unsound b) e in sym (unsound_told d m rel fork ps qs zs lanes log c y.alone b low (whole_parts_of.follow j (unsound b) e).1 (all_known b low))
+      by_case (unsound b) e = let low = done_below d m rel fork ps qs zs lanes log c y.alone (Unit {0}) claimed whole_parts_of weigh_once j (unsound b) e in sym (unsound_told d m rel fork ps qs zs lanes log c y.alone b low (whole_parts_of.follow j (unsound b) e).1 (all_known b low))
       by_case (kept b i p n) e = let k = order.onto j (kept b i p n) e in ap page_rewrite_of (kept_read c.history all_rewrites all_known k.0 b i p n k.1)
       by_case (refused b i p n) e = absurd (let bad : false ≡ true = whole_parts_of.ended tt j (refused b i p n) e in cc)
       by_case (changed b i p n l) e = let k = order.onto j (changed b i p n l) e in ap page_rewrite_of (changed_read c.history all_rewrites all_known k.0 b i p n l k.1)
@@ -281,16 +324,25 @@ module _ {L G : Type 0} (d : Devices L G) (m : Manager L G) (rel : ℕ) (fork : 
       let placed : IsPlaced (relations_of m.table) (lanes_in m.table) (lane_number tag (lanes_in m.table)) ((rule_of rel fork).tag b) tag = record { named = packed_is tag (y.alone.parts.named b low); listed = lt-ltb b (blocks_in m rel fork) low; placed = refl } in
       ap (λ (o : Option Page). unwrap_or o []) (sym w.is ∙ c.opened.origin (lane_number tag (lanes_in m.table)) w.lane w.pages ((rule_of rel fork).tag b) tag w.opened w.known placed)
 
+  -- so each outcome weighs what its block's page does
+  told_weight : (pages : List Page) → IsOrigin d.contents m rel fork pages → (f : RewriteTotals → ℕ) (k : ℕ) (o : Outcome) → get_elem? (items_in_all claimed) k ≡ some o → f (outcome_totals (o ∷ [])) ≡ rewrite_page_weight f pages (outcome_block o)
+  told_weight pages origin f k o at =
+      let done : get_elem? (all_done whole_parts_of.parts) k ≡ some o = ap (λ (os : List Outcome). get_elem? os k) whole_parts_of.dones ∙ at in
+      let low = done_below d m rel fork ps qs zs lanes log c y.alone (Unit {0}) claimed whole_parts_of weigh_once k o done in
+      let counted = origin.counted in
+      let page = there pages (outcome_block o) (omega (arith, low, counted)) in
+      ap (λ (r : PageRewrite). f (totals_of_outcomes (r ∷ []))) (told_at k o done ∙ ap page_rewrite_of (sym (origin_is pages origin (outcome_block o) page.0 page.1)))
+      ∙ sym (page_weight_at f pages (outcome_block o) page.0 page.1)
+
   totals_of_origin : (pages : List Page) → IsOrigin d.contents m rel fork pages → totals ≡ totals_of_rewrite (rewrite_totals_of pages)
-  totals_of_origin pages origin =
-      let os = all_done whole_parts_of.parts in
-      let all = whole_from 0 (blocks_in m rel fork) whole_parts_of.parts (whole_parts_of.whole tt) in
-      let same : map result_of os ≡ map page_rewrite_of pages = same_told os pages (let e = all.1 in let k = origin.counted in omega arith) (λ i o page at there.
-      let block : outcome_block o ≡ i = let e = from_at 0 os i o all.0 at in omega arith in
-      told_at i o at ∙ ap (λ (b : ℕ). page_rewrite_of (page_at_start c.state.origin ((rule_of rel fork).tag b))) block ∙ ap page_rewrite_of (sym (origin_is pages origin i page there))) in
-      y.all.totals_is
-      ∙ ap (λ (us : List Outcome). totals_of_rewrite (outcome_totals us)) (sym whole_parts_of.dones)
-      ∙ ap (λ (l : List PageRewrite). totals_of_rewrite (totals_of_outcomes l)) same
+  totals_of_origin pages origin = y.all.totals_is ∙ ap totals_of_rewrite (rewrite_totals_by (outcome_totals (items_in_all claimed)) (rewrite_totals_of pages) by)
+    where
+      by : (f : RewriteTotals → ℕ) → RewriteAddsUp f → f (outcome_totals (items_in_all claimed)) ≡ f (rewrite_totals_of pages)
+      by f adds =
+          outcomes_by f adds (rewrite_page_weight f pages) (items_in_all claimed) (told_weight pages origin f)
+          ∙ weigh_all (rewrite_page_weight f pages)
+          ∙ ap (λ (k : ℕ). sum_below k (rewrite_page_weight f pages)) (sym origin.counted)
+          ∙ sym (rewrite_pages_by f adds pages)
 
 pub closes_rewritten : {L G : Type 0} (d : Devices L G) (m : Manager L G) → ClosesRewritten d m
 closes_rewritten d m rel fork ps qs zs totals upto lanes log y c =

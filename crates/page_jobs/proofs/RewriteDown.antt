@@ -1,5 +1,5 @@
 -- Where a rewrite ended as the log failed, or was down, a pass has seen that, and the log's count of faults shows it at the close.
-use Rattle.std.proofs.Common.{◌≡◌, ℕ, zero, suc, ◌+◌, ◌-◌, ◌<◌, Bool, true, false, List, [], ◌∷◌, length, Option, Some, None, refl, sym, ap, ◌∙◌, subst, inl, inr, arith}
+use Rattle.std.proofs.Common.{◌≡◌, ℕ, zero, suc, ◌-◌, ◌<◌, Bool, true, false, List, [], ◌∷◌, length, Option, Some, None, refl, sym, ap, ◌∙◌, subst, inl, inr, arith}
 use mathlib.Core.Logic.{dite}
 use native.Mathlib.Decide.{ℕ_discrete}
 use mathlib.Core.Option.{some}
@@ -79,18 +79,18 @@ module _ {L G : Type 0} (contents : L → Option Pages) (m : Manager L G) where
   write_down p q (flush.LogShort lsn end) e is of_log x = absurd (let no : false ≡ true = ap is_of_log is ∙ of_log in cc)
 
   module _ (rel : ℕ) (fork : Fork) where
-    saw_first : (workers number : ℕ) (ps qs : List PassState) (e : JobError) → is_of_log e ≡ true → FailsFirst contents m rel fork workers number ps qs e → SawDown qs
-    saw_first workers number [] [] e of_log fails = absurd fails
-    saw_first workers number [] (q ∷ qs) e of_log fails = absurd fails
-    saw_first workers number (p ∷ ps) [] e of_log fails = absurd fails
-    saw_first workers number (p ∷ ps) (q ∷ qs) e of_log (inl (inl meets)) = record { place = zero; pass = q; is = refl; down = read_down (tag_of_parts rel fork meets.block) meets.before q meets.why e meets.fault of_log meets.refused }
-    saw_first workers number (p ∷ ps) (q ∷ qs) e of_log (inl (inr unput)) = record { place = zero; pass = q; is = refl; down = put_down unput.why e q.view unput.fault of_log unput.fails.shows }
-    saw_first workers number (p ∷ ps) (q ∷ qs) e of_log (inr later) = let x = saw_first workers (number + 1) ps qs e of_log later.1 in record { place = suc x.place; pass = x.pass; is = x.is; down = x.down }
+    saw_first : (ps qs : List PassState) (e : JobError) → is_of_log e ≡ true → FailsFirst contents m rel fork ps qs e → SawDown qs
+    saw_first [] [] e of_log fails = absurd fails
+    saw_first [] (q ∷ qs) e of_log fails = absurd fails
+    saw_first (p ∷ ps) [] e of_log fails = absurd fails
+    saw_first (p ∷ ps) (q ∷ qs) e of_log (inl (inl meets)) = record { place = zero; pass = q; is = refl; down = read_down (tag_of_parts rel fork meets.block) meets.before q meets.why e meets.fault of_log meets.refused }
+    saw_first (p ∷ ps) (q ∷ qs) e of_log (inl (inr unput)) = record { place = zero; pass = q; is = refl; down = put_down unput.why e q.view unput.fault of_log unput.fails.shows }
+    saw_first (p ∷ ps) (q ∷ qs) e of_log (inr later) = let x = saw_first ps qs e of_log later.1 in record { place = suc x.place; pass = x.pass; is = x.is; down = x.down }
 
     pub saw_down : (ps qs : List PassState) (e : JobError) → is_of_log e ≡ true → EndsRewrite contents m rel fork ps qs e → SawDown qs
     saw_down ps qs e of_log (inl memory) = absurd (let no : false ≡ true = sym (ap is_of_log memory) ∙ of_log in cc)
     saw_down ps qs e of_log (inr (inl fails)) =
-        let x = saw_first (length (workers_in ps)) 0 (workers_in ps) (workers_in qs) e of_log fails in
+        let x = saw_first (workers_in ps) (workers_in qs) e of_log fails in
         record { place = x.place; pass = x.pass; is = taken_from (length qs - 1) x.place qs x.pass x.is; down = x.down }
     saw_down ps qs e of_log (inr (inr last)) = let x = last.1 in record { place = length ps - 1; pass = x.after; is = x.is; down = write_down x.before x.after x.refused.why e x.refused.fault of_log x.refused.refuses }
 

@@ -33,16 +33,18 @@ use Rattle.page_jobs.specs.declared.ending.JobError.{JobError}
 use Rattle.page_jobs.specs.declared.ending.JobError.TheVariants.{LogFull}
 use Rattle.page_jobs.specs.Beside.{fault_of_flush}
 use Rattle.page_jobs.specs.Jobs.{workers_in}
+use Rattle.page_jobs.specs.Chunks.{Claimed, items_in_all}
 use Rattle.page_jobs.specs.Parts.{blocks_in}
 use Rattle.page_jobs.specs.Reads.{fault_of_refusal}
 use Rattle.page_jobs.specs.Rewrites.{Outcome, Rule, unsound, kept, refused, changed, calls_for, rule_of}
 use Rattle.page_jobs.specs.RewriteCloses.{ClosesFull, RewritesAndEnds}
-use Rattle.page_jobs.specs.RewriteJobs.{EndsRewrite, FailsFirst, outcomes_in_all}
+use Rattle.page_jobs.specs.RewriteJobs.{EndsRewrite, FailsFirst}
 use Rattle.page_jobs.specs.Rewriting.{PutIsRefused, RewritesBlocks, fault_of_put}
+use Rattle.page_jobs.proofs.Measures.{outcomes_few}
 use Rattle.page_jobs.proofs.RewriteCounts.{outcome_weight, writes_are}
 use Rattle.page_jobs.proofs.RewriteCourse.{Parted, all_parted}
+use Rattle.page_jobs.proofs.RewriteDevices.{claimed_weigh}
 use Rattle.page_jobs.proofs.RewriteOrder.{all_calls}
-use Rattle.page_jobs.proofs.RewriteRanges.{parts_long}
 use Rattle.page_jobs.proofs.Standing.{inside, length_front, taken, there}
 
 -- an outcome makes one write at most
@@ -78,19 +80,19 @@ weights_less r (changed b j q m k ∷ os) (c ∷ []) i t n p e = absurd (let w :
 weights_less r (changed b j q m k ∷ os) (c ∷ d ∷ others) i t n p e = let y = weights_less r os others i t n p (ap after_second e) in omega arith
 
 -- so it is with those of several passes, where it is with those of one
-all_less : (oss : List (List Outcome)) (k : ℕ) (os : List Outcome) → get_elem? oss k ≡ some os → total outcome_weight os < length os → total outcome_weight (outcomes_in_all oss) < length (outcomes_in_all oss)
-all_less [] k os at less = absurd (some-ne-none os (sym at))
-all_less (us ∷ oss) zero os at less =
-    let here : total outcome_weight us < length us = subst (λ (l : List Outcome). total outcome_weight l < length l) (sym (some-injective us os at)) less in
-    let both = total-both outcome_weight us (outcomes_in_all oss) in
-    let long = length-append us (outcomes_in_all oss) in
-    let rest = weights_few (outcomes_in_all oss) in
+all_less : (cs : List (Claimed Outcome)) (k : ℕ) (c : Claimed Outcome) → get_elem? cs k ≡ some c → total outcome_weight c.items < length c.items → total outcome_weight (items_in_all cs) < length (items_in_all cs)
+all_less [] k c at less = absurd (some-ne-none c (sym at))
+all_less (d ∷ cs) zero c at less =
+    let here : total outcome_weight d.items < length d.items = subst (λ (e : Claimed Outcome). total outcome_weight e.items < length e.items) (sym (some-injective d c at)) less in
+    let both = total-both outcome_weight d.items (items_in_all cs) in
+    let long = length-append d.items (items_in_all cs) in
+    let rest = weights_few (items_in_all cs) in
     omega (arith, here, both, long, rest)
-all_less (us ∷ oss) (suc k) os at less =
-    let here = weights_few us in
-    let both = total-both outcome_weight us (outcomes_in_all oss) in
-    let long = length-append us (outcomes_in_all oss) in
-    let rest = all_less oss k os at less in
+all_less (d ∷ cs) (suc k) c at less =
+    let here = weights_few d.items in
+    let both = total-both outcome_weight d.items (items_in_all cs) in
+    let long = length-append d.items (items_in_all cs) in
+    let rest = all_less cs k c at less in
     omega (arith, here, both, long, rest)
 
 -- the first pass's calls come first, and the writes are as many in any order
@@ -149,48 +151,48 @@ module _ {L G : Type 0} (contents : L → Option Pages) (m : Manager L G) (rel :
     is : get_elem? qs place ≡ some after
     unput : PutIsRefused contents m rel fork before after e
 
-  refused_at : (workers number : ℕ) (ps qs : List PassState) (end : ℕ) → FailsFirst contents m rel fork workers number ps qs (LogFull end) → RefusedAt ps qs (LogFull end)
-  refused_at workers number [] [] end fails = absurd fails
-  refused_at workers number [] (q ∷ qs) end fails = absurd fails
-  refused_at workers number (p ∷ ps) [] end fails = absurd fails
-  refused_at workers number (p ∷ ps) (q ∷ qs) end (inl (inl meets)) = absurd (never_read meets.why end meets.fault)
-  refused_at workers number (p ∷ ps) (q ∷ qs) end (inl (inr unput)) = record { place = zero; before = p; after = q; was = refl; is = refl; unput = unput }
-  refused_at workers number (p ∷ ps) (q ∷ qs) end (inr later) = let x = refused_at workers (number + 1) ps qs end later.1 in record { place = suc x.place; before = x.before; after = x.after; was = x.was; is = x.is; unput = x.unput }
+  refused_at : (ps qs : List PassState) (end : ℕ) → FailsFirst contents m rel fork ps qs (LogFull end) → RefusedAt ps qs (LogFull end)
+  refused_at [] [] end fails = absurd fails
+  refused_at [] (q ∷ qs) end fails = absurd fails
+  refused_at (p ∷ ps) [] end fails = absurd fails
+  refused_at (p ∷ ps) (q ∷ qs) end (inl (inl meets)) = absurd (never_read meets.why end meets.fault)
+  refused_at (p ∷ ps) (q ∷ qs) end (inl (inr unput)) = record { place = zero; before = p; after = q; was = refl; is = refl; unput = unput }
+  refused_at (p ∷ ps) (q ∷ qs) end (inr later) = let x = refused_at ps qs end later.1 in record { place = suc x.place; before = x.before; after = x.after; was = x.was; is = x.is; unput = x.unput }
 
   refused_in : (ps qs : List PassState) (end : ℕ) → EndsRewrite contents m rel fork ps qs (LogFull end) → RefusedAt (workers_in ps) (workers_in qs) (LogFull end)
   refused_in ps qs end (inl memory) = absurd (cc memory)
-  refused_in ps qs end (inr (inl fails)) = refused_at (length (workers_in ps)) 0 (workers_in ps) (workers_in qs) end fails
+  refused_in ps qs end (inr (inl fails)) = refused_at (workers_in ps) (workers_in qs) end fails
   refused_in ps qs end (inr (inr last)) = let x = last.1.refused in absurd (never_flush x.why end x.fault)
 
   -- that pass's last call is a read
-  last_read : (from to : ℕ) (os : List Outcome) (p q : PassState) (e : JobError) → RewritesBlocks contents m rel fork from to os p q → PutIsRefused contents m rel fork p q e → total outcome_weight os < length os
-  last_read from to os p q e did unput =
+  last_read : (bs : List ℕ) (os : List Outcome) (p q : PassState) (e : JobError) → RewritesBlocks contents m rel fork bs os p q → PutIsRefused contents m rel fork p q e → total outcome_weight os < length os
+  last_read bs os p q e did unput =
       let r = unput.fails.reads in
       weights_less (rule_of rel fork) os r.others _ _ r.place _ (append_cancel_left p.view.calls (calls_for (rule_of rel fork) os) _ (sym did.calls ∙ r.calls))
 
 module _ {L G : Type 0} (d : Devices L G) (m : Manager L G) (rel : ℕ) (fork : Fork) (ps qs zs : List PassState) (end : ℕ) (lanes : List L) (log : G) (x : RewritesAndEnds d.contents m rel fork ps qs zs (LogFull end)) (c : ClosesAll d m.table.table.shared.key zs lanes log) where
-  abbrev outcomes : List (List Outcome)
-  outcomes = x.alone.parts.outcomes
+  abbrev claimed : List (Claimed Outcome)
+  claimed = x.alone.parts.claimed
 
-  t : Parted d.contents m rel fork ⊥ 0 zs outcomes
-  t = all_parted d.contents m rel fork ⊥ ps qs zs outcomes x.alone x.alone.parts.listed (λ w p q os at there of. (x.alone.parts.each w p q os at there of, λ no. absurd no))
+  t : Parted d.contents m rel fork ⊥ zs claimed
+  t = all_parted d.contents m rel fork ⊥ ps qs zs claimed x.alone x.alone.parts.listed (λ w p q e at after of. ((x.alone.parts.each w p q e at after of).blocks, λ no. absurd no))
 
   refusal : RefusedAt d.contents m rel fork (workers_in ps) (workers_in qs) (LogFull end)
   refusal = refused_in d.contents m rel fork ps qs end x.ends
 
-  writes_all : writes_in (calls_in_order zs) ≡ total outcome_weight (outcomes_in_all outcomes)
+  writes_all : writes_in (calls_in_order zs) ≡ total outcome_weight (items_in_all claimed)
   writes_all = writes_ordered zs ∙ ap writes_in (all_calls (rule_of rel fork) zs t.parts t.have) ∙ writes_are (rule_of rel fork) t.parts t.reads ∙ ap (total outcome_weight) t.dones
 
-  less_than_all : total outcome_weight (outcomes_in_all outcomes) < length (outcomes_in_all outcomes)
+  less_than_all : total outcome_weight (items_in_all claimed) < length (items_in_all claimed)
   less_than_all =
       let r = refusal in
       let below = inside (workers_in ps) r.place r.before r.was in
       let listed = x.alone.parts.listed in
-      let os = there outcomes r.place (omega (arith, below, listed)) in
-      all_less outcomes r.place os.0 os.1 (last_read d.contents m rel fork _ _ os.0 r.before r.after (LogFull end) (x.alone.parts.each r.place r.before r.after os.0 r.was r.is os.1) r.unput)
+      let done = there claimed r.place (omega (arith, below, listed)) in
+      all_less claimed r.place done.0 done.1 (last_read d.contents m rel fork _ done.0.items r.before r.after (LogFull end) (x.alone.parts.each r.place r.before r.after done.0 r.was r.is done.1).blocks r.unput)
 
-  all_below : length (outcomes_in_all outcomes) ≤ blocks_in m rel fork
-  all_below = let l = parts_long 0 (blocks_in m rel fork) t.parts t.fit in let e = ap (λ (os : List Outcome). length os) t.dones in omega (arith, l, e)
+  all_below : length (items_in_all claimed) ≤ blocks_in m rel fork
+  all_below = outcomes_few (blocks_in m rel fork) (items_in_all claimed) (claimed_weigh d.contents m rel fork (workers_in ps) (workers_in qs) x.alone.parts)
 
   full_below : (last_position < end + record_size) × (end + record_size ≤ base_of m.table + record_size * blocks_in m rel fork)
   full_below =
@@ -203,7 +205,7 @@ module _ {L G : Type 0} (d : Devices L G) (m : Manager L G) (rel : ℕ) (fork : 
       let same = x.alone.counted in
       let z = there zs r.place (omega (arith, within, same)) in (
         seen.0,
-        below_all end r.after.view.end_seen z.0.view.end_seen c.state.end c.state.log.base (base_of m.table) (length c.state.log.entries) (writes_in (calls_in_order zs)) (length (outcomes_in_all outcomes)) (blocks_in m rel fork)
+        below_all end r.after.view.end_seen z.0.view.end_seen c.state.end c.state.log.base (base_of m.table) (length c.state.log.entries) (writes_in (calls_in_order zs)) (length (items_in_all claimed)) (blocks_in m rel fork)
             seen.1 (x.rises r.place r.after z.0 at z.1).end_seen (c.each r.place z.0 z.1).seen (c.laws.invariant.ends ∙ images_end c.state.log.base c.state.log.entries c.laws.invariant.log.chained (images_alone c.state c.laws c.opened.ranges)) c.opened.base c.history.counted (let w = writes_all in let l = less_than_all in omega (arith, w, l)) all_below,
       )
 

@@ -1,13 +1,16 @@
 -- What all workers of a rewrite did, together.
-use Rattle.std.proofs.Common.{◌≡◌, ℕ, zero, suc, ◌+◌, ◌<◌, ◌≤◌, ◌⊎◌, true, List, [], ◌∷◌, length, map, Option, Result, Ok, Err, refl, sym, ap, ap₂, ◌∙◌, subst, arith, inl, inr}
+use Rattle.std.proofs.Common.{◌≡◌, ℕ, zero, suc, ◌+◌, ◌*◌, ◌<◌, ◌≤◌, ◌⊎◌, true, List, [], ◌∷◌, length, map, Option, Result, Ok, Err, refl, sym, ap, ap₂, ◌∙◌, subst, arith, inl, inr}
 use Rattle.std.specs.Prelude.{OnOk, IfErr, IfOk}
+use Rattle.std.proofs.lemmas.List.{length-map}
 use mathlib.Core.Option.{some, some-injective, some-ne-none}
 use lib.ListN.{get_elem?}
 use Rattle.block_tag.specs.declared.tag.Fork.{Fork}
 use Rattle.block_tag.specs.Names.{names_block, tag_of_parts}
 use Rattle.page_layout.specs.declared.outcomes.RewriteTotals.{RewriteTotals}
-use Rattle.page_layout.specs.Outcomes.{no_rewrite_totals, sum_of_rewrite_totals}
+use Rattle.page_layout.specs.Outcomes.{sum_of_rewrite_totals}
 use Rattle.segment_store.specs.Contents.{Pages}
+use Rattle.grid.specs.Shape.{total}
+use Rattle.chunk_claims.specs.Claims.{past_weight, sum_below}
 use Rattle.backend_pass.specs.declared.manager.Manager.{Manager}
 use Rattle.backend_pass.specs.Passes.{PassState}
 use Rattle.page_jobs.specs.declared.ending.JobError.{JobError}
@@ -16,187 +19,216 @@ use Rattle.page_jobs.specs.declared.ending.Totals.{Totals}
 use Rattle.page_jobs.specs.declared.rewriting.Rewriter.{Rewriter}
 use Rattle.page_jobs.specs.declared.working.Worker.{Worker}
 use Rattle.page_jobs.specs.Beside.{EndsBeside, WorkIsRefused}
-use Rattle.page_jobs.specs.Dealt.{AllDone}
+use Rattle.page_jobs.specs.Chunks.{Claimed, CoversChunks, blocks_in_all, chunk_count, items_in_all}
+use Rattle.page_jobs.specs.Dealt.{AllDone, EndsFirst, total_drawn}
 use Rattle.page_jobs.specs.Ending.{totals_of_rewrite}
 use Rattle.page_jobs.specs.Jobs.{HaveNoTokens}
-use Rattle.page_jobs.specs.Parts.{blocks_in, part_start}
+use Rattle.page_jobs.specs.Parts.{MeetsFault, blocks_in}
+use Rattle.page_jobs.specs.Reads.{HasNoTokens}
 use Rattle.page_jobs.specs.Rewrites.{Outcome, outcome_totals}
-use Rattle.page_jobs.specs.Rewriting.{EndsRewriteFor, RewritesBlocks, RewritesWhole}
-use Rattle.page_jobs.specs.Rewriters.{AreRewritesCounted, EndsFirst, rewritten_totals}
-use Rattle.page_jobs.specs.RewriteJobs.{FailsFirst, RewriteParts, RewritesFork, outcomes_in_all}
+use Rattle.page_jobs.specs.Rewriting.{EndsRewriteFor, PutIsRefused, RewritesBlocks, RewritesWhole}
+use Rattle.page_jobs.specs.Rewriters.{AreRewritesCounted, rewritten_totals}
+use Rattle.page_jobs.specs.RewriteJobs.{FailsFirst, RewriteParts, RewritesChunks, RewritesFork}
 use Rattle.page_jobs.proofs.BesideWork.{free_at}
-use Rattle.page_jobs.proofs.Deals.{start_last, start_le}
-use Rattle.page_jobs.proofs.PartRewrites.{blocks_none}
-use Rattle.page_jobs.proofs.RewriteSums.{outcome_totals-append, rewrites_first}
-use Rattle.page_jobs.proofs.RewrittenParts.{DoRewrites}
+use Rattle.page_jobs.proofs.ClaimedChunks.{AllDrewPast, AreOfDrawn, claimed_all, claimed_once, none_at, none_long, none_of_each, none_once}
+use Rattle.page_jobs.proofs.RewriteSums.{outcome_totals-append}
+use Rattle.page_jobs.proofs.RewrittenBlocks.{blocks_none}
+use Rattle.page_jobs.proofs.RewrittenChunks.{DoRewrites, RewritesClaims}
+use Rattle.page_jobs.proofs.Standing.{inside, there}
 
--- no outcomes of each pass
-abbrev none_of_each : List PassState → List (List Outcome)
-none_of_each [] = []
-none_of_each (p ∷ ps) = [] ∷ none_of_each ps
+-- what each worker drew
+abbrev drawn_by : List (Worker Rewriter) → List (List ℕ)
+drawn_by xs = map (λ (x : Worker Rewriter). x.seat.me.0.drawn) xs
 
-none_long : (ps : List PassState) → length (none_of_each ps) ≡ length ps
-none_long [] = refl
-none_long (p ∷ ps) = ap suc (none_long ps)
-
-none_at : (ps : List PassState) (w : ℕ) (os : List Outcome) → get_elem? (none_of_each ps) w ≡ some os → [] ≡ os
-none_at [] w os at = absurd (some-ne-none os (sym at))
-none_at (p ∷ ps) zero os at = some-injective [] os at
-none_at (p ∷ ps) (suc w) os at = none_at ps w os at
+drawn_total : (g : ℕ → ℕ) (xs : List (Worker Rewriter)) → total (λ (l : List ℕ). total g l) (drawn_by xs) ≡ total_drawn g xs
+unfolding total
+drawn_total g [] = refl
+drawn_total g (x ∷ xs) = ap (λ (n : ℕ). total g x.seat.me.0.drawn + n) (drawn_total g xs)
 
 module _ {L G : Type 0} (contents : L → Option Pages) (m : Manager L G) (rel : ℕ) (fork : Fork) where
-  -- what each did
-  abbrev outcomes_of : (n k number : ℕ) (ps : List PassState) (xs : List (Worker Rewriter)) → DoRewrites contents m rel fork n k number ps xs → List (List Outcome)
-  outcomes_of n k number [] [] d = []
-  outcomes_of n k number [] (x ∷ xs) d = absurd d
-  outcomes_of n k number (p ∷ ps) [] d = absurd d
-  outcomes_of n k number (p ∷ ps) (x ∷ xs) d = d.0.outcomes ∷ outcomes_of n k (number + 1) ps xs d.1
+  abbrev Did : ℕ → List PassState → List (Worker Rewriter) → List (Claimed Outcome) → Type 0
+  Did n ps xs cs = DoRewrites contents m rel fork n ps xs cs
 
-  outcomes_long : (n k number : ℕ) (ps : List PassState) (xs : List (Worker Rewriter)) (d : DoRewrites contents m rel fork n k number ps xs) → length (outcomes_of n k number ps xs d) ≡ length ps
-  outcomes_long n k number [] [] d = refl
-  outcomes_long n k number [] (x ∷ xs) d = absurd d
-  outcomes_long n k number (p ∷ ps) [] d = absurd d
-  outcomes_long n k number (p ∷ ps) (x ∷ xs) d = ap suc (outcomes_long n k (number + 1) ps xs d.1)
+  pub workers_long : (n : ℕ) (ps : List PassState) (xs : List (Worker Rewriter)) (cs : List (Claimed Outcome)) → Did n ps xs cs → length xs ≡ length ps
+  workers_long n [] [] [] d = refl
+  workers_long n [] [] (c ∷ cs) d = absurd d
+  workers_long n [] (x ∷ xs) cs d = absurd d
+  workers_long n (p ∷ ps) [] cs d = absurd d
+  workers_long n (p ∷ ps) (x ∷ xs) [] d = absurd d
+  workers_long n (p ∷ ps) (x ∷ xs) (c ∷ cs) d = ap suc (workers_long n ps xs cs d.1)
 
-  passes_long : (n k number : ℕ) (ps : List PassState) (xs : List (Worker Rewriter)) → DoRewrites contents m rel fork n k number ps xs → length (map (λ (x : Worker Rewriter). x.pass) xs) ≡ length ps
-  passes_long n k number [] [] d = refl
-  passes_long n k number [] (x ∷ xs) d = absurd d
-  passes_long n k number (p ∷ ps) [] d = absurd d
-  passes_long n k number (p ∷ ps) (x ∷ xs) d = ap suc (passes_long n k (number + 1) ps xs d.1)
+  claims_long : (n : ℕ) (ps : List PassState) (xs : List (Worker Rewriter)) (cs : List (Claimed Outcome)) → Did n ps xs cs → length cs ≡ length ps
+  claims_long n [] [] [] d = refl
+  claims_long n [] [] (c ∷ cs) d = absurd d
+  claims_long n [] (x ∷ xs) cs d = absurd d
+  claims_long n (p ∷ ps) [] cs d = absurd d
+  claims_long n (p ∷ ps) (x ∷ xs) [] d = absurd d
+  claims_long n (p ∷ ps) (x ∷ xs) (c ∷ cs) d = ap suc (claims_long n ps xs cs d.1)
+
+  -- how a worker ended
+  abbrev HowEnded : PassState → PassState → Type 0
+  HowEnded p q = (q.view.met ≡ p.view.met) ⊎ ((e : JobError) × (MeetsFault contents m rel fork p q e ⊎ PutIsRefused contents m rel fork p q e))
+
+  ended_for : (p q : PassState) (e : JobError) → EndsRewriteFor contents m rel fork p q e → HowEnded p q
+  ended_for p q e (inl memory) = inl memory.1
+  ended_for p q e (inr fails) = inr (e, fails)
+
+  how_ended : (n : ℕ) (drawn : List ℕ) (p q : PassState) (u : RewriteTotals) (end : Result Unit JobError) (c : Claimed Outcome) → RewritesClaims contents m rel fork n drawn p q u end c → HowEnded p q
+  how_ended n drawn p q u (Ok done) c h = inl h.whole.met
+  how_ended n drawn p q u (Err e) c h = ended_for p q e h.cause
 
   -- the worker at a place
-  part_at : (n k number w j : ℕ) (ps : List PassState) (xs : List (Worker Rewriter)) (p q : PassState) (os : List Outcome) (d : DoRewrites contents m rel fork n k number ps xs) → j ≡ number + w
-      → get_elem? ps w ≡ some p → get_elem? (map (λ (x : Worker Rewriter). x.pass) xs) w ≡ some q → get_elem? (outcomes_of n k number ps xs d) w ≡ some os
-      → RewritesBlocks contents m rel fork (part_start n k j) (part_start n k (j + 1)) os p q × (AllDone xs → RewritesWhole contents m rel fork (part_start n k j) (part_start n k (j + 1)) os p q)
-  part_at n k number w j [] xs p q os d e at there of = absurd (some-ne-none p (sym at))
-  part_at n k number w j (p' ∷ ps) [] p q os d e at there of = absurd d
-  part_at n k number zero j (p' ∷ ps) (x ∷ xs) p q os d e at there of =
-      let same : number ≡ j = omega arith in
-      let Both : ℕ → List Outcome → PassState → PassState → Type 0 = λ i us y z. RewritesBlocks contents m rel fork (part_start n k i) (part_start n k (i + 1)) us y z × (AllDone (x ∷ xs) → RewritesWhole contents m rel fork (part_start n k i) (part_start n k (i + 1)) us y z) in
-      let here : Both number d.0.outcomes p' x.pass = (d.0.blocks, λ done. subst (λ (r : Result Unit JobError). OnOk r (RewritesWhole contents m rel fork (part_start n k number) (part_start n k (number + 1)) d.0.outcomes p' x.pass)) done.0 d.0.whole) in
-      subst (λ (i : ℕ). Both i os p q) same
-      (subst (λ (us : List Outcome). Both number us p q) (some-injective d.0.outcomes os of)
-      (subst (λ (y : PassState). Both number d.0.outcomes y q) (some-injective p' p at)
-      (subst (λ (z : PassState). Both number d.0.outcomes p' z) (some-injective x.pass q there) here)))
-  part_at n k number (suc w) j (p' ∷ ps) (x ∷ xs) p q os d e at there of = let rest = part_at n k (number + 1) w j ps xs p q os d.1 (omega arith) at there of in (rest.0, λ done. rest.1 done.1)
+  abbrev DidClaim : ℕ → Type 0 → PassState → PassState → Claimed Outcome → Type 0
+  DidClaim n done p q c = RewritesBlocks contents m rel fork (blocks_in_all n c.chunks) c.items p q × CoversChunks n c × HowEnded p q × (done → RewritesWhole contents m rel fork (blocks_in_all n c.chunks) c.items p q)
 
-  pub rewrite_parts : (n : ℕ) (ps : List PassState) (xs : List (Worker Rewriter)) → n ≡ blocks_in m rel fork → ((block : ℕ) → block < n → names_block (tag_of_parts rel fork block) ≡ true) → DoRewrites contents m rel fork n (length ps) 0 ps xs
-      → RewriteParts contents m rel fork ps (map (λ (x : Worker Rewriter). x.pass) xs)
-  rewrite_parts n ps xs size named d = record {
-    counted = passes_long n (length ps) 0 ps xs d;
-    outcomes = outcomes_of n (length ps) 0 ps xs d;
-    listed = outcomes_long n (length ps) 0 ps xs d;
-    each = λ w p q os at there of.
-        subst (λ (b : ℕ). RewritesBlocks contents m rel fork (part_start b (length ps) w) (part_start b (length ps) (w + 1)) os p q) size
-        (part_at n (length ps) 0 w w ps xs p q os d (omega arith) at there of).0;
-    named = λ block below. named block (omega arith);
-  }
+  claim_at : (n w : ℕ) (ps : List PassState) (xs : List (Worker Rewriter)) (cs : List (Claimed Outcome)) (p q : PassState) (c : Claimed Outcome) → Did n ps xs cs
+      → get_elem? ps w ≡ some p → get_elem? (map (λ (x : Worker Rewriter). x.pass) xs) w ≡ some q → get_elem? cs w ≡ some c → DidClaim n (AllDone xs) p q c
+  claim_at n w [] xs cs p q c d at there of = absurd (some-ne-none p (sym at))
+  claim_at n w (p' ∷ ps) [] cs p q c d at there of = absurd d
+  claim_at n w (p' ∷ ps) (x ∷ xs) [] p q c d at there of = absurd d
+  claim_at n zero (p' ∷ ps) (x ∷ xs) (c' ∷ cs) p q c d at there of =
+      let here : DidClaim n (AllDone (x ∷ xs)) p' x.pass c' = (d.0.blocks, d.0.covers, how_ended n x.seat.me.0.drawn p' x.pass x.task.totals x.end c' d.0, λ done. subst (λ (r : Result Unit JobError). OnOk r (RewritesWhole contents m rel fork (blocks_in_all n c'.chunks) c'.items p' x.pass)) done.0 d.0.whole) in
+      subst (λ (z : Claimed Outcome). DidClaim n (AllDone (x ∷ xs)) p q z) (some-injective c' c of)
+      (subst (λ (y : PassState). DidClaim n (AllDone (x ∷ xs)) y q c') (some-injective p' p at)
+      (subst (λ (z : PassState). DidClaim n (AllDone (x ∷ xs)) p' z c') (some-injective x.pass q there) here))
+  claim_at n (suc w) (p' ∷ ps) (x ∷ xs) (c' ∷ cs) p q c d at there of = let rest = claim_at n w ps xs cs p q c d.1 at there of in (rest.0, rest.1, rest.2, λ done. rest.3 done.1)
 
-  -- where no worker began
-  pub undone_parts : (n : ℕ) (ps : List PassState) → n ≡ blocks_in m rel fork → ((block : ℕ) → block < n → names_block (tag_of_parts rel fork block) ≡ true) → 0 < length ps → HaveNoTokens contents m ps → RewriteParts contents m rel fork ps ps
-  undone_parts n ps size named many free = record {
-    counted = refl;
-    outcomes = none_of_each ps;
-    listed = none_long ps;
-    each = λ w p q os at there of.
-        let from = part_start (blocks_in m rel fork) (length ps) w in
-        let to = part_start (blocks_in m rel fork) (length ps) (w + 1) in
-        subst (λ (y : PassState). RewritesBlocks contents m rel fork from to os p y) (some-injective p q (sym at ∙ there))
-        (subst (λ (us : List Outcome). RewritesBlocks contents m rel fork from to us p p) (none_at ps w os of)
-        (blocks_none contents m rel fork from to p (free_at contents m ps w p free at) (start_le (blocks_in m rel fork) (length ps) w many)));
-    named = λ block below. named block (omega arith);
-  }
+  of_drawn : (n : ℕ) (ps : List PassState) (xs : List (Worker Rewriter)) (cs : List (Claimed Outcome)) → Did n ps xs cs → AreOfDrawn n cs (drawn_by xs)
+  of_drawn n [] [] [] d = tt
+  of_drawn n [] [] (c ∷ cs) d = absurd d
+  of_drawn n [] (x ∷ xs) cs d = absurd d
+  of_drawn n (p ∷ ps) [] cs d = absurd d
+  of_drawn n (p ∷ ps) (x ∷ xs) [] d = absurd d
+  of_drawn n (p ∷ ps) (x ∷ xs) (c ∷ cs) d = (d.0.drew, of_drawn n ps xs cs d.1)
+
+  drew_past : (n : ℕ) (ps : List PassState) (xs : List (Worker Rewriter)) (cs : List (Claimed Outcome)) → Did n ps xs cs → AllDone xs → AllDrewPast n (drawn_by xs)
+  drew_past n [] [] [] d done = tt
+  drew_past n [] [] (c ∷ cs) d done = absurd d
+  drew_past n [] (x ∷ xs) cs d done = absurd d
+  drew_past n (p ∷ ps) [] cs d done = absurd d
+  drew_past n (p ∷ ps) (x ∷ xs) [] d done = absurd d
+  drew_past n (p ∷ ps) (x ∷ xs) (c ∷ cs) d done = (
+    subst (λ (r : Result Unit JobError). OnOk r (1 ≤ total (past_weight (chunk_count n)) x.seat.me.0.drawn)) done.0 d.0.past,
+    drew_past n ps xs cs d.1 done.1,
+  )
 
   -- the workers' totals
-  pub rewrites_counted : (n k number : ℕ) (ps : List PassState) (xs : List (Worker Rewriter)) → DoRewrites contents m rel fork n k number ps xs → AreRewritesCounted xs
-  rewrites_counted n k number [] [] d = tt
-  rewrites_counted n k number [] (x ∷ xs) d = absurd d
-  rewrites_counted n k number (p ∷ ps) [] d = absurd d
-  rewrites_counted n k number (p ∷ ps) (x ∷ xs) d = (d.0.within, rewrites_counted n k (number + 1) ps xs d.1)
+  pub rewrites_counted : (n : ℕ) (ps : List PassState) (xs : List (Worker Rewriter)) (cs : List (Claimed Outcome)) → Did n ps xs cs → AreRewritesCounted xs
+  rewrites_counted n [] [] [] d = tt
+  rewrites_counted n [] [] (c ∷ cs) d = absurd d
+  rewrites_counted n [] (x ∷ xs) cs d = absurd d
+  rewrites_counted n (p ∷ ps) [] cs d = absurd d
+  rewrites_counted n (p ∷ ps) (x ∷ xs) [] d = absurd d
+  rewrites_counted n (p ∷ ps) (x ∷ xs) (c ∷ cs) d = (d.0.within, rewrites_counted n ps xs cs d.1)
 
-  rewrites_few : (n k number : ℕ) (ps : List PassState) (xs : List (Worker Rewriter)) → DoRewrites contents m rel fork n k number ps xs → part_start n k number + (rewritten_totals xs).blocks ≤ part_start n k (number + length ps)
-  rewrites_few n k number [] [] d = let e = ap (part_start n k) (let z : number + 0 ≡ number = omega arith in z) in omega (arith, e)
-  rewrites_few n k number [] (x ∷ xs) d = absurd d
-  rewrites_few n k number (p ∷ ps) [] d = absurd d
-  rewrites_few n k number (p ∷ ps) (x ∷ xs) d =
-      let one = d.0.few in
-      let within = d.0.blocks.within in
-      let rest = rewrites_few n k (number + 1) ps xs d.1 in
-      let e = ap (part_start n k) (let z : number + 1 + length ps ≡ number + suc (length ps) = omega arith in z) in
-      omega (arith, one, within, rest, e)
+  pub rewrites_few : (n : ℕ) (ps : List PassState) (xs : List (Worker Rewriter)) (cs : List (Claimed Outcome)) → n < 4294967296 → Did n ps xs cs → (rewritten_totals xs).blocks ≤ 4294967296 * length ps
+  rewrites_few n [] [] [] low d = omega arith
+  rewrites_few n [] [] (c ∷ cs) low d = absurd d
+  rewrites_few n [] (x ∷ xs) cs low d = absurd d
+  rewrites_few n (p ∷ ps) [] cs low d = absurd d
+  rewrites_few n (p ∷ ps) (x ∷ xs) [] low d = absurd d
+  rewrites_few n (p ∷ ps) (x ∷ xs) (c ∷ cs) low d = let one = d.0.few in let rest = rewrites_few n ps xs cs low d.1 in omega (arith, one, rest, low)
 
-  pub all_rewrites_few : (n : ℕ) (ps : List PassState) (xs : List (Worker Rewriter)) → n < 4294967296 → 0 < length ps → DoRewrites contents m rel fork n (length ps) 0 ps xs → (rewritten_totals xs).blocks ≤ 4294967296
-  all_rewrites_few n ps xs fits many d =
-      let few = rewrites_few n (length ps) 0 ps xs d in
-      let last = start_last n (length ps) many in
-      let e = ap (part_start n (length ps)) (let z : 0 + length ps ≡ length ps = omega arith in z) in
-      omega (arith, few, last, e, fits)
+  totals_done : (n : ℕ) (ps : List PassState) (xs : List (Worker Rewriter)) (cs : List (Claimed Outcome)) → Did n ps xs cs → AllDone xs → rewritten_totals xs ≡ outcome_totals (items_in_all cs)
+  totals_done n [] [] [] d done = refl
+  totals_done n [] [] (c ∷ cs) d done = absurd d
+  totals_done n [] (x ∷ xs) cs d done = absurd d
+  totals_done n (p ∷ ps) [] cs d done = absurd d
+  totals_done n (p ∷ ps) (x ∷ xs) [] d done = absurd d
+  totals_done n (p ∷ ps) (x ∷ xs) (c ∷ cs) d done =
+      let one : x.task.totals ≡ outcome_totals c.items = subst (λ (r : Result Unit JobError). OnOk r (x.task.totals ≡ outcome_totals c.items)) done.0 d.0.totals in
+      ap₂ (λ (t u : RewriteTotals). sum_of_rewrite_totals t u) one (totals_done n ps xs cs d.1 done.1) ∙ sym (outcome_totals-append c.items (items_in_all cs))
 
-  totals_done : (n k number : ℕ) (ps : List PassState) (xs : List (Worker Rewriter)) (d : DoRewrites contents m rel fork n k number ps xs) → AllDone xs → rewritten_totals xs ≡ outcome_totals (outcomes_in_all (outcomes_of n k number ps xs d))
-  totals_done n k number [] [] d done = refl
-  totals_done n k number [] (x ∷ xs) d done = absurd d
-  totals_done n k number (p ∷ ps) [] d done = absurd d
-  totals_done n k number (p ∷ ps) (x ∷ xs) d done =
-      let one : x.task.totals ≡ sum_of_rewrite_totals no_rewrite_totals (outcome_totals d.0.outcomes) = subst (λ (r : Result Unit JobError). OnOk r (x.task.totals ≡ sum_of_rewrite_totals no_rewrite_totals (outcome_totals d.0.outcomes))) done.0 d.0.totals in
-      let rest = totals_done n k (number + 1) ps xs d.1 done.1 in
-      ap₂ (λ (t u : RewriteTotals). sum_of_rewrite_totals t u) (one ∙ rewrites_first (outcome_totals d.0.outcomes)) rest
-      ∙ sym (outcome_totals-append d.0.outcomes (outcomes_in_all (outcomes_of n k (number + 1) ps xs d.1)))
+  -- why the first of the workers that ended early did
+  one_fails : (e : JobError) (p q : PassState) (ps qs : List PassState) → EndsRewriteFor contents m rel fork p q e → (e ≡ Memory) ⊎ FailsFirst contents m rel fork (p ∷ ps) (q ∷ qs) e
+  one_fails e p q ps qs (inl memory) = inl memory.0
+  one_fails e p q ps qs (inr fails) = inr (inl fails)
 
-  rewrites_fork : (n : ℕ) (ps : List PassState) (xs : List (Worker Rewriter)) (totals : Totals) → n ≡ blocks_in m rel fork → DoRewrites contents m rel fork n (length ps) 0 ps xs → AllDone xs → totals ≡ totals_of_rewrite (rewritten_totals xs)
-      → RewritesFork contents m rel fork ps (map (λ (x : Worker Rewriter). x.pass) xs) totals
-  rewrites_fork n ps xs totals size d done total = record {
-    outcomes = outcomes_of n (length ps) 0 ps xs d;
-    listed = outcomes_long n (length ps) 0 ps xs d;
-    each = λ w p q os at there of.
-        subst (λ (b : ℕ). RewritesWhole contents m rel fork (part_start b (length ps) w) (part_start b (length ps) (w + 1)) os p q) size
-        ((part_at n (length ps) 0 w w ps xs p q os d (omega arith) at there of).1 done);
-    totals_is = total ∙ ap totals_of_rewrite (totals_done n (length ps) 0 ps xs d done);
+  other_fails : (e : JobError) (p q : PassState) (ps qs : List PassState) (c : Claimed Outcome) → RewritesWhole contents m rel fork (blocks_in_all (blocks_in m rel fork) c.chunks) c.items p q
+      → (e ≡ Memory) ⊎ FailsFirst contents m rel fork ps qs e → (e ≡ Memory) ⊎ FailsFirst contents m rel fork (p ∷ ps) (q ∷ qs) e
+  other_fails e p q ps qs c whole (inl memory) = inl memory
+  other_fails e p q ps qs c whole (inr fails) = inr (inr ((c, whole), fails))
+
+  first_fails : (ps : List PassState) (xs : List (Worker Rewriter)) (cs : List (Claimed Outcome)) (e : JobError) → Did (blocks_in m rel fork) ps xs cs → EndsFirst e xs → (e ≡ Memory) ⊎ FailsFirst contents m rel fork ps (map (λ (x : Worker Rewriter). x.pass) xs) e
+  first_fails ps [] cs e d ends = absurd ends
+  first_fails [] (x ∷ xs) cs e d ends = absurd d
+  first_fails (p ∷ ps) (x ∷ xs) [] e d ends = absurd d
+  first_fails (p ∷ ps) (x ∷ xs) (c ∷ cs) e d (inl is) = one_fails e p x.pass ps (map (λ (y : Worker Rewriter). y.pass) xs) (subst (λ (r : Result Unit JobError). IfErr r (EndsRewriteFor contents m rel fork p x.pass)) is d.0.cause)
+  first_fails (p ∷ ps) (x ∷ xs) (c ∷ cs) e d (inr later) = other_fails e p x.pass ps (map (λ (y : Worker Rewriter). y.pass) xs) c
+      (subst (λ (r : Result Unit JobError). OnOk r (RewritesWhole contents m rel fork (blocks_in_all (blocks_in m rel fork) c.chunks) c.items p x.pass)) later.0 d.0.whole) (first_fails ps xs cs e d.1 later.1)
+
+  -- where no worker began
+  pub undone_parts : (ps : List PassState) → ((block : ℕ) → block < blocks_in m rel fork → names_block (tag_of_parts rel fork block) ≡ true) → HaveNoTokens contents m ps → RewriteParts contents m rel fork ps ps
+  undone_parts ps named free = record {
+    counted = refl;
+    claimed = none_of_each ps;
+    listed = none_long Outcome ps;
+    each = λ w p q c at there of.
+        subst (λ (y : PassState). RewritesChunks contents m rel fork c p y) (some-injective p q (sym at ∙ there))
+        (subst (λ (d : Claimed Outcome). RewritesChunks contents m rel fork d p p) (sym (none_at ps w c of)) (none p (free_at contents m ps w p free at)));
+    ended = λ w p q at after. inl (ap (λ (y : PassState). y.view.met) (some-injective q p (sym after ∙ at)));
+    once = none_once Outcome (blocks_in m rel fork) ps;
+    named = named;
   }
-
-  pub rewrite_done : (n : ℕ) (ps : List PassState) (xs : List (Worker Rewriter)) (r : Result Totals JobError) → n ≡ blocks_in m rel fork → DoRewrites contents m rel fork n (length ps) 0 ps xs
-      → IfOk r (λ totals. (totals ≡ totals_of_rewrite (rewritten_totals xs)) × AllDone xs) → IfOk r (RewritesFork contents m rel fork ps (map (λ (x : Worker Rewriter). x.pass) xs))
-  rewrite_done n ps xs (Ok totals) size d ok = rewrites_fork n ps xs totals size d ok.1 ok.0
-  rewrite_done n ps xs (Err e) size d ok = tt
-
-  -- why the job ended
-  fails_first : (n k number : ℕ) (ps : List PassState) (xs : List (Worker Rewriter)) (e : JobError) → n ≡ blocks_in m rel fork → DoRewrites contents m rel fork n k number ps xs → EndsFirst e xs → (e ≡ Memory) ⊎ FailsFirst contents m rel fork k number ps (map (λ (x : Worker Rewriter). x.pass) xs) e
-  fails_first n k number [] [] e size d ends = absurd ends
-  fails_first n k number [] (x ∷ xs) e size d ends = absurd d
-  fails_first n k number (p ∷ ps) [] e size d ends = absurd d
-  fails_first n k number (p ∷ ps) (x ∷ xs) e size d (inl is) = one (subst (λ (r : Result Unit JobError). IfErr r (EndsRewriteFor contents m rel fork p x.pass)) is d.0.cause)
     where
-      one : EndsRewriteFor contents m rel fork p x.pass e → (e ≡ Memory) ⊎ FailsFirst contents m rel fork k number (p ∷ ps) (x.pass ∷ map (λ (y : Worker Rewriter). y.pass) xs) e
-      one (inl memory) = inl memory
-      one (inr meets) = inr (inl meets)
-  fails_first n k number (p ∷ ps) (x ∷ xs) e size d (inr later) = other (fails_first n k (number + 1) ps xs e size d.1 later.1)
-    where
-      Whole : ℕ → Type 0
-      Whole b = RewritesWhole contents m rel fork (part_start b k number) (part_start b k (number + 1)) d.0.outcomes p x.pass
+      none : (p : PassState) → HasNoTokens contents m p → RewritesChunks contents m rel fork record { chunks = []; items = [] } p p
+      none p free = record { blocks = blocks_none contents m rel fork [] p free; covers = record { whole = []; last = []; ascend = tt; split = refl; at_most_one = omega arith; covered = omega arith; within = omega arith } }
 
-      whole : Whole n
-      whole = subst (λ (r : Result Unit JobError). OnOk r (Whole n)) later.0 d.0.whole
+  -- The numbers that the workers drew are those below one, each once
+  module _ (ps : List PassState) (xs : List (Worker Rewriter)) (cs : List (Claimed Outcome)) (d : Did (blocks_in m rel fork) ps xs cs) (word : ℕ) (once : (g : ℕ → ℕ) → total_drawn g xs ≡ sum_below word g) where
+    abbrev blocks : ℕ
+    blocks = blocks_in m rel fork
 
-      other : (e ≡ Memory) ⊎ FailsFirst contents m rel fork k (number + 1) ps (map (λ (y : Worker Rewriter). y.pass) xs) e → (e ≡ Memory) ⊎ FailsFirst contents m rel fork k number (p ∷ ps) (x.pass ∷ map (λ (y : Worker Rewriter). y.pass) xs) e
-      other (inl memory) = inl memory
-      other (inr fails) = inr (inr ((d.0.outcomes, subst Whole size whole), fails))
+    abbrev ended : List PassState
+    ended = map (λ (x : Worker Rewriter). x.pass) xs
 
-  module _ (n : ℕ) (ps : List PassState) (xs : List (Worker Rewriter)) (p q : PassState) (end : Result Unit JobError)
-      (size : n ≡ blocks_in m rel fork) (d : DoRewrites contents m rel fork n (length ps) 0 ps xs) (beside : EndsBeside contents m p q end) where
-    abbrev RewriteEndsFor : JobError → Type 0
-    RewriteEndsFor e = (e ≡ Memory) ⊎ (FailsFirst contents m rel fork (length ps) 0 ps (map (λ (x : Worker Rewriter). x.pass) xs) e
-        ⊎ (((totals : Totals) × RewritesFork contents m rel fork ps (map (λ (x : Worker Rewriter). x.pass) xs) totals) × WorkIsRefused contents m p q e))
+    drawn_once : (g : ℕ → ℕ) → total (λ (l : List ℕ). total g l) (drawn_by xs) ≡ sum_below word g
+    drawn_once g = drawn_total g xs ∙ once g
 
-    cause_of : (e : JobError) → EndsFirst e xs ⊎ (AllDone xs × (end ≡ Err e)) → RewriteEndsFor e
-    cause_of e (inl ends) = of (fails_first n (length ps) 0 ps xs e size d ends)
-      where
-        of : (e ≡ Memory) ⊎ FailsFirst contents m rel fork (length ps) 0 ps (map (λ (x : Worker Rewriter). x.pass) xs) e → RewriteEndsFor e
-        of (inl memory) = inl memory
-        of (inr fails) = inr (inl fails)
-    cause_of e (inr t) = inr (inr (
-      (totals_of_rewrite (rewritten_totals xs), rewrites_fork n ps xs (totals_of_rewrite (rewritten_totals xs)) size d t.0 refl),
-      subst (λ (r : Result Unit JobError). IfErr r (WorkIsRefused contents m p q)) t.1 beside.cause,
-    ))
+    pub rewrite_parts : ((block : ℕ) → block < blocks_in m rel fork → names_block (tag_of_parts rel fork block) ≡ true) → RewriteParts contents m rel fork ps ended
+    rewrite_parts named = record {
+      counted = length-map xs (λ (x : Worker Rewriter). x.pass) ∙ workers_long blocks ps xs cs d;
+      claimed = cs;
+      listed = claims_long blocks ps xs cs d;
+      each = λ w p q c at there of. let did = claim_at blocks w ps xs cs p q c d at there of in record { blocks = did.0; covers = did.1 };
+      ended = λ w p q at after.
+          let below = inside ps w p at in
+          let listed = claims_long blocks ps xs cs d in
+          let c = there cs w (omega (arith, below, listed)) in
+          (claim_at blocks w ps xs cs p q c.0 d at after c.1).2;
+      once = claimed_once blocks word cs (drawn_by xs) (of_drawn blocks ps xs cs d) drawn_once;
+      named = named;
+    }
 
-    pub rewrite_cause : {A : Type 0} (r : Result A JobError) → IfErr r (λ e. EndsFirst e xs ⊎ (AllDone xs × (end ≡ Err e))) → IfErr r RewriteEndsFor
-    rewrite_cause (Ok a) c = tt
-    rewrite_cause (Err e) c = cause_of e c
+    module _ (several : 0 < length ps) where
+      rewrites_fork : (totals : Totals) → AllDone xs → totals ≡ totals_of_rewrite (rewritten_totals xs) → RewritesFork contents m rel fork ps ended totals
+      rewrites_fork totals done are = record {
+        claimed = cs;
+        listed = claims_long blocks ps xs cs d;
+        each = λ w p q c at there of. (claim_at blocks w ps xs cs p q c d at there of).3 done;
+        all = claimed_all blocks word cs (drawn_by xs) (of_drawn blocks ps xs cs d) drawn_once (let drawn = length-map xs (λ (x : Worker Rewriter). x.seat.me.0.drawn) in let long = workers_long blocks ps xs cs d in omega (arith, drawn, long, several)) (drew_past blocks ps xs cs d done);
+        totals_is = are ∙ ap totals_of_rewrite (totals_done blocks ps xs cs d done);
+      }
+
+      pub rewrite_done : (r : Result Totals JobError) → IfOk r (λ totals. (totals ≡ totals_of_rewrite (rewritten_totals xs)) × AllDone xs) → IfOk r (RewritesFork contents m rel fork ps ended)
+      rewrite_done (Ok totals) ok = rewrites_fork totals ok.1 ok.0
+      rewrite_done (Err e) ok = tt
+
+      module _ (p q : PassState) (end : Result Unit JobError) (beside : EndsBeside contents m p q end) where
+        abbrev RewriteEndsFor : JobError → Type 0
+        RewriteEndsFor e = (e ≡ Memory) ⊎ (FailsFirst contents m rel fork ps ended e ⊎ (((totals : Totals) × RewritesFork contents m rel fork ps ended totals) × WorkIsRefused contents m p q e))
+
+        failed : (e : JobError) → (e ≡ Memory) ⊎ FailsFirst contents m rel fork ps ended e → RewriteEndsFor e
+        failed e (inl memory) = inl memory
+        failed e (inr fails) = inr (inl fails)
+
+        cause_of : (e : JobError) → EndsFirst e xs ⊎ (AllDone xs × (end ≡ Err e)) → RewriteEndsFor e
+        cause_of e (inl ends) = failed e (first_fails ps xs cs e d ends)
+        cause_of e (inr t) = inr (inr (
+          (totals_of_rewrite (rewritten_totals xs), rewrites_fork (totals_of_rewrite (rewritten_totals xs)) t.0 refl),
+          subst (λ (r : Result Unit JobError). IfErr r (WorkIsRefused contents m p q)) t.1 beside.cause,
+        ))
+
+        pub rewrite_cause : {A : Type 0} (r : Result A JobError) → IfErr r (λ e. EndsFirst e xs ⊎ (AllDone xs × (end ≡ Err e))) → IfErr r RewriteEndsFor
+        rewrite_cause (Ok a) c = tt
+        rewrite_cause (Err e) c = cause_of e c

@@ -1,17 +1,22 @@
--- The texts of workers, put one after the other.
-use Rattle.std.proofs.Common.{◌≡◌, ℕ, zero, suc, ◌+◌, ◌≤◌, ◌⊎◌, List, [], ◌∷◌, ◌++◌, length, drop, Option, Some, None, Result, Ok, Err, refl, sym, ap, ◌∙◌, subst, arith, append_assoc, inl, inr}
+-- The texts of chunks, put in their order.
+use Rattle.std.proofs.Common.{◌≡◌, ℕ, zero, suc, ◌+◌, ◌<◌, ◌≤◌, List, [], ◌∷◌, ◌++◌, length, drop, get_or, Option, Some, None, Result, Ok, Err, refl, sym, ap, ◌∙◌, subst, arith, append_assoc, inl, inr}
 use Rattle.std.specs.Prelude.{option_map, IfSome, IsSomeAnd}
 use Rattle.std.proofs.lemmas.List.{append-nil}
 use mathlib.Core.Option.{some, some-injective, some-ne-none}
 use lib.ListN.{get_elem?}
-use Rattle.atomic_table.proofs.Lists.{drop_at}
+use Rattle.atomic_table.proofs.Lists.{at_index, drop_at}
 use Rattle.log_device.specs.Bytes.{GainsPrefix, Puts}
+use Rattle.log_device.specs.declared.device.Failed.{Failed}
 use Rattle.page_layout.specs.declared.scan.ScanTotals.{ScanTotals}
 use Rattle.page_layout.specs.Scan.{IsWithin, sum_of_totals}
 use Rattle.page_jobs.specs.declared.ending.JobError.{JobError}
+use Rattle.page_jobs.specs.declared.listing.ChunkText.{ChunkText}
 use Rattle.page_jobs.specs.declared.listing.Lister.{Lister}
 use Rattle.page_jobs.specs.declared.working.Worker.{Worker}
-use Rattle.page_jobs.specs.Dealt.{AllDone, AnyEnds, TotalsAreInRange, job_text, job_totals, text_if_done}
+use Rattle.page_jobs.specs.Chunks.{AreFirstTexts}
+use Rattle.page_jobs.specs.Dealt.{AllDone, AnyEnds, EndsFirst, HasNext, HasText, PutsAll, PutsFirst, TotalsAreInRange, job_totals}
+use Rattle.page_jobs.specs.Printed.{totals_line}
+use Rattle.page_jobs.proofs.Standing.{inside, standing_or}
 use Rattle.page_jobs.proofs.Sums.{sum_assoc}
 
 -- two texts put one after the other
@@ -70,30 +75,134 @@ stopped_in text part rest old new e f split puts =
 pub stopped_at : {F : Type 0} (text part rest : List ℕ) (old new : Option (List ℕ)) (f : F) → text ≡ part ++ rest → new ≡ option_map (λ b. b ++ part) old → Puts {E = F} text old new (Err f)
 stopped_at text part rest old new f split is = record { ok = tt; failed = gains_whole text part rest old new split is }
 
--- The text of the workers, of which the first so many were put
-pub record HasPutText (ws : List (Worker Lister)) (i : ℕ) (old new : Option (List ℕ)) : Type 0 where
-  pub part : List ℕ
-  pub whole : job_text [] ws ≡ part ++ job_text [] (drop i ws)
-  pub out : new ≡ option_map (λ b. b ++ part) old
+-- what stands at a place of a list, whatever stands past its end
+at_or : {A : Type 0} (l : List A) (i : ℕ) (d : A) → i < length l → get_elem? l i ≡ some (get_or l i d)
+at_or [] i d below = absurd (omega arith)
+at_or (x ∷ l) zero d below = refl
+at_or (x ∷ l) (suc i) d below = at_or l i d (omega arith)
 
-pub put_none : (ws : List (Worker Lister)) (old : Option (List ℕ)) → HasPutText ws 0 old old
-put_none ws old = record { part = []; whole = refl; out = put_nothing old }
+-- what holds of each text holds of the texts of the first chunks
+pub front_of : (P Q : ℕ → List ℕ → Type 0) (many : ℕ) (t : List ℕ) → ((k : ℕ) (s : List ℕ) → P k s → Q k s) → AreFirstTexts P many t → AreFirstTexts Q many t
+front_of P Q zero t f h = h
+front_of P Q (suc many) t f h = (h.0, h.1, h.2, front_of P Q many h.0 f h.3, f many h.1 h.4)
 
-next_text : (ws : List (Worker Lister)) (i : ℕ) (w : Worker Lister) → get_elem? ws i ≡ some w → job_text [] (drop i ws) ≡ w.task.printed.text.items ++ text_if_done w.end (job_text [] (drop (i + 1) ws))
-next_text ws i w at = ap (job_text []) (drop_at ws i w at) ∙ ap (λ (n : ℕ). w.task.printed.text.items ++ text_if_done w.end (job_text [] (drop n ws))) (let e : suc i ≡ i + 1 = omega arith in e)
+front_next : (P : ℕ → List ℕ → Type 0) (many : ℕ) (a x : List ℕ) → AreFirstTexts P many a → P many x → AreFirstTexts P (many + 1) (a ++ x)
+front_next P many a x h p = let e : suc many ≡ many + 1 = omega arith in subst (λ (k : ℕ). AreFirstTexts P k (a ++ x)) e (a, x, refl, h, p)
 
-pub put_next : (ws : List (Worker Lister)) (i : ℕ) (w : Worker Lister) (old mid new : Option (List ℕ)) → get_elem? ws i ≡ some w → w.end ≡ Ok tt → HasPutText ws i old mid → new ≡ option_map (λ b. b ++ w.task.printed.text.items) mid → HasPutText ws (i + 1) old new
-put_next ws i w old mid new at ok h is = record {
-  part = h.part ++ w.task.printed.text.items;
-  whole = h.whole
-      ∙ ap (λ (l : List ℕ). h.part ++ l) (next_text ws i w at ∙ ap (λ (r : Result Unit JobError). w.task.printed.text.items ++ text_if_done r (job_text [] (drop (i + 1) ws))) ok)
-      ∙ sym (append_assoc h.part w.task.printed.text.items (job_text [] (drop (i + 1) ws)));
-  out = put_twice h.part w.task.printed.text.items old mid new h.out is;
+-- The texts of the first chunks, so many, were put
+pub record HasPut (ws : List (Worker Lister)) (many : ℕ) (old new : Option (List ℕ)) : Type 0 where
+  pub text : List ℕ
+  pub texts : AreFirstTexts (HasText ws) many text
+  pub out : new ≡ option_map (λ b. b ++ text) old
+
+pub put_none : (ws : List (Worker Lister)) (old : Option (List ℕ)) → HasPut ws 0 old old
+put_none ws old = record { text = []; texts = refl; out = put_nothing old }
+
+pub put_next : (ws : List (Worker Lister)) (many : ℕ) (text : List ℕ) (old mid new : Option (List ℕ)) → HasPut ws many old mid → HasText ws many text → new ≡ option_map (λ b. b ++ text) mid → HasPut ws (many + 1) old new
+put_next ws many text old mid new h has is = record {
+  text = h.text ++ text;
+  texts = front_next (HasText ws) many h.text text h.texts has;
+  out = put_twice h.text text old mid new h.out is;
 }
 
-pub put_failed : {E F : Type 0} (ws : List (Worker Lister)) (i : ℕ) (w : Worker Lister) (old mid new : Option (List ℕ)) (r : Result Unit E) (f : F) → get_elem? ws i ≡ some w → HasPutText ws i old mid → Puts w.task.printed.text.items mid new r → Puts {E = F} (job_text [] ws) old new (Err f)
-put_failed ws i w old mid new r f at h puts =
-    stopped_after (job_text [] ws) h.part w.task.printed.text.items (text_if_done w.end (job_text [] (drop (i + 1) ws))) old mid new r f (h.whole ∙ ap (λ (l : List ℕ). h.part ++ l) (next_text ws i w at)) h.out puts
+pub put_failed : {E : Type 0} (ws : List (Worker Lister)) (many chunks : ℕ) (text : List ℕ) (old mid new : Option (List ℕ)) (r : Result Unit E) (f : Failed) → HasPut ws many old mid → HasText ws many text → Puts text mid new r → PutsFirst ws chunks old new (Err f)
+put_failed ws many chunks text old mid new r f h has puts = (
+  many + 1,
+  h.text ++ text,
+  front_next (HasText ws) many h.text text h.texts has,
+  stopped_after (h.text ++ text) h.text text [] old mid new r f (ap (λ (l : List ℕ). h.text ++ l) (sym (append-nil text))) h.out puts,
+)
+
+pub put_first : (ws : List (Worker Lister)) (many chunks : ℕ) (old new : Option (List ℕ)) → many ≤ chunks → HasPut ws many old new → PutsFirst ws chunks old new (Ok many)
+put_first ws many chunks old new le h = (le, (h.text, h.texts, record { ok = h.out; failed = tt }))
+
+-- the worker that was found has the text of the chunk
+next_of : (nexts : List ℕ) (place next : ℕ) → get_elem? nexts place ≡ some next → get_or nexts place 0 ≡ next
+next_of nexts place next at = standing_or nexts place next 0 at
+
+pub found_next : (ws : List (Worker Lister)) (nexts : List ℕ) (chunk place : ℕ) (w : Worker Lister) → HasNext ws nexts chunk place → get_or nexts place 0 < length (get_or ws place w).task.texts.items
+found_next ws nexts chunk place w h =
+    let same = standing_or ws place h.worker w h.there in
+    let number = next_of nexts place h.next h.at in
+    let below = inside h.worker.task.texts.items h.next h.kept h.listed in
+    subst (λ (x : Worker Lister). get_or nexts place 0 < length x.task.texts.items) (sym same) (omega (arith, number, below))
+
+pub found_text : (ws : List (Worker Lister)) (nexts : List ℕ) (chunk place : ℕ) (w : Worker Lister) (k : ChunkText) (text : List ℕ) → HasNext ws nexts chunk place → k ≡ get_or (get_or ws place w).task.texts.items (get_or nexts place 0) k → text ≡ k.text.items
+    → HasText ws chunk text
+found_text ws nexts chunk place w k text h is text_is =
+    let same = standing_or ws place h.worker w h.there in
+    let number = next_of nexts place h.next h.at in
+    let kept : k ≡ h.kept = is
+    ∙ ap (λ (x : Worker Lister). get_or x.task.texts.items (get_or nexts place 0) k) same
+    ∙ ap (λ (n : ℕ). get_or h.worker.task.texts.items n k) number
+    ∙ standing_or h.worker.task.texts.items h.next h.kept k h.listed in
+    record {
+      place = place;
+      worker = h.worker;
+      there = h.there;
+      index = h.next;
+      kept = h.kept;
+      listed = h.listed;
+      number = h.number;
+      text_is = sym (text_is ∙ ap (λ (x : ChunkText). x.text.items) kept);
+    }
+
+-- such a worker
+pub has_next : (ws : List (Worker Lister)) (nexts : List ℕ) (chunk place : ℕ) (w : Worker Lister) (k : ChunkText) (texts : List ChunkText) → length nexts ≡ length ws → place < length ws → w ≡ get_or ws place w → texts ≡ (get_or ws place w).task.texts.items
+    → get_or nexts place 0 < length texts → k ≡ get_or texts (get_or nexts place 0) k → k.number ≡ chunk → HasNext ws nexts chunk place
+has_next ws nexts chunk place w k texts long below is texts_are less kept number = record {
+  worker = w;
+  there = at_index ws place w below is;
+  next = get_or nexts place 0;
+  at = at_or nexts place 0 (omega (arith, long, below));
+  kept = k;
+  listed = subst (λ (t : List ChunkText). get_elem? t (get_or nexts place 0) ≡ some k) (texts_are ∙ ap (λ (x : Worker Lister). x.task.texts.items) (sym is)) (at_index texts (get_or nexts place 0) k less kept);
+  number = number;
+}
+
+-- nothing was put
+pub put_not : (ws : List (Worker Lister)) (chunks : ℕ) (old : Option (List ℕ)) (e : JobError) → PutsAll ws chunks old old (Err e)
+put_not ws chunks old e = record { many = 0; text = []; texts = refl; last = []; ending = inl refl; puts = stopped_at [] [] [] old old e refl (put_nothing old); whole = tt }
+
+-- no line of totals was put
+pub put_some : (ws : List (Worker Lister)) (chunks : ℕ) (old new : Option (List ℕ)) (r : Result ℕ Failed) (e : JobError) → PutsFirst ws chunks old new r → PutsAll ws chunks old new (Err e)
+put_some ws chunks old new (Ok many) e h =
+    let p = h.1 in
+    record { many = many; text = p.0; texts = p.1; last = []; ending = inl refl; puts = stopped_at (p.0 ++ []) p.0 [] old new e refl p.2.ok; whole = tt }
+put_some ws chunks old new (Err f) e h = record { many = h.0; text = h.1; texts = h.2; last = []; ending = inl refl; puts = stopped_in (h.1 ++ []) h.1 [] old new f e refl h.3; whole = tt }
+
+-- it was put in part
+pub put_most : {E : Type 0} (ws : List (Worker Lister)) (many chunks : ℕ) (totals : ScanTotals) (old mid new : Option (List ℕ)) (r : Result Unit E) (e : JobError) → PutsFirst ws chunks old mid (Ok many) → chunks ≤ many → AllDone ws → totals ≡ job_totals ws
+    → Puts (totals_line totals) mid new r → PutsAll ws chunks old new (Err e)
+put_most ws many chunks totals old mid new r e h all done is puts =
+    let p = h.1 in
+    let line = totals_line totals in
+    record {
+      many = many;
+      text = p.0;
+      texts = p.1;
+      last = line;
+      ending = inr ((let le = h.0 in omega (arith, le, all)), done, ap totals_line is);
+      puts = stopped_after (p.0 ++ line) p.0 line [] old mid new r e (ap (λ (l : List ℕ). p.0 ++ l) (sym (append-nil line))) p.2.ok puts;
+      whole = tt;
+    }
+
+-- and whole
+pub put_whole : {E : Type 0} (ws : List (Worker Lister)) (many chunks : ℕ) (totals : ScanTotals) (old mid new : Option (List ℕ)) → PutsFirst ws chunks old mid (Ok many) → chunks ≤ many → AllDone ws → totals ≡ job_totals ws
+    → Puts {E = E} (totals_line totals) mid new (Ok tt) → PutsAll ws chunks old new (Ok tt)
+put_whole ws many chunks totals old mid new h all done is puts =
+    let p = h.1 in
+    let line = totals_line totals in
+    let count : many ≡ chunks = let le = h.0 in omega (arith, le, all) in
+    record {
+      many = many;
+      text = p.0;
+      texts = p.1;
+      last = line;
+      ending = inr (count, done, ap totals_line is);
+      puts = record { ok = put_twice p.0 line old mid new p.2.ok puts.ok; failed = tt };
+      whole = (count, ap totals_line is);
+    }
 
 pub drop_all : {A : Type 0} (l : List A) (i : ℕ) → length l ≤ i → drop i l ≡ []
 drop_all [] zero le = refl
@@ -101,16 +210,19 @@ drop_all [] (suc i) le = refl
 drop_all (x ∷ l) zero le = absurd (omega arith)
 drop_all (x ∷ l) (suc i) le = drop_all l i (omega arith)
 
-pub put_each : (ws : List (Worker Lister)) (i : ℕ) (old new : Option (List ℕ)) → length ws ≤ i → HasPutText ws i old new → Puts {E = JobError} (job_text [] ws) old new (Ok tt)
-put_each ws i old new all h = record {
-  ok = h.out ∙ ap (λ (l : List ℕ). option_map (λ b. b ++ l) old) (sym (h.whole ∙ ap (λ (l : List (Worker Lister)). h.part ++ job_text [] l) (drop_all ws i all) ∙ append-nil h.part));
-  failed = tt;
-}
+-- the first of the workers from one on that failed is the first of all, where those before it are done
+pub first_here : {K : Type 0} (ws : List (Worker K)) (i : ℕ) (w : Worker K) (e : JobError) → get_elem? ws i ≡ some w → w.end ≡ Err e → EndsFirst e (drop i ws)
+first_here ws i w e at is = subst (EndsFirst e) (sym (drop_at ws i w at)) (inl is)
 
-pub any_at : (ws : List (Worker Lister)) (i : ℕ) (w : Worker Lister) (e : JobError) → get_elem? ws i ≡ some w → w.end ≡ Err e → AnyEnds e ws
-any_at [] i w e at is = absurd (some-ne-none w (sym at))
-any_at (x ∷ ws) zero w e at is = inl (ap (λ (y : Worker Lister). y.end) (some-injective x w at) ∙ is)
-any_at (x ∷ ws) (suc i) w e at is = inr (any_at ws i w e at is)
+pub first_next : {K : Type 0} (ws : List (Worker K)) (i : ℕ) (w : Worker K) → get_elem? ws i ≡ some w → w.end ≡ Ok tt → ((e : JobError) → EndsFirst e (drop i ws) → EndsFirst e ws) → (e : JobError) → EndsFirst e (drop (i + 1) ws) → EndsFirst e ws
+first_next ws i w at ok f e later =
+    let n : i + 1 ≡ suc i = omega arith in
+    f e (subst (EndsFirst e) (sym (drop_at ws i w at)) (inr (ok, subst (λ (k : ℕ). EndsFirst e (drop k ws)) n later)))
+
+pub any_first : {K : Type 0} (e : JobError) (ws : List (Worker K)) → EndsFirst e ws → AnyEnds e ws
+any_first e [] ends = absurd ends
+any_first e (w ∷ ws) (inl is) = inl is
+any_first e (w ∷ ws) (inr later) = inr (any_first e ws later.1)
 
 -- where the rest is done all are, of any workers
 pub done_next : {K : Type 0} (ws : List (Worker K)) (i : ℕ) (w : Worker K) → get_elem? ws i ≡ some w → w.end ≡ Ok tt → (AllDone (drop i ws) → AllDone ws) → AllDone (drop (i + 1) ws) → AllDone ws
@@ -140,30 +252,3 @@ totals_fit ws i w t at so_far =
 
 pub totals_all : (ws : List (Worker Lister)) (i : ℕ) (t : ScanTotals) → length ws ≤ i → sum_of_totals t (job_totals (drop i ws)) ≡ job_totals ws → sum_of_totals t (job_totals []) ≡ job_totals ws
 totals_all ws i t all so_far = ap (λ (l : List (Worker Lister)). sum_of_totals t (job_totals l)) (sym (drop_all ws i all)) ∙ so_far
-
-first_of : (a b c : List ℕ) (r : Result Unit JobError) → (rest : List ℕ) × (b ≡ c ++ rest) → (rest : List ℕ) × (a ++ text_if_done r b ≡ (a ++ text_if_done r c) ++ rest)
-first_of a b c (Ok done) f = (f.0, ap (λ (l : List ℕ). a ++ l) f.1 ∙ sym (append_assoc a c f.0))
-first_of a b c (Err e) f = ([], sym (append-nil (a ++ [])))
-
--- the text with a last line begins with the text without it
-pub text_first : (last : List ℕ) (ws : List (Worker Lister)) → (rest : List ℕ) × (job_text last ws ≡ job_text [] ws ++ rest)
-text_first last [] = (last, refl)
-text_first last (w ∷ ws) = first_of w.task.printed.text.items (job_text last ws) (job_text [] ws) w.end (text_first last ws)
-
-pub text_last : (last : List ℕ) (ws : List (Worker Lister)) → AllDone ws → job_text last ws ≡ job_text [] ws ++ last
-text_last last [] done = refl
-text_last last (w ∷ ws) done =
-    ap (λ (r : Result Unit JobError). w.task.printed.text.items ++ text_if_done r (job_text last ws)) done.0
-    ∙ ap (λ (l : List ℕ). w.task.printed.text.items ++ l) (text_last last ws done.1)
-    ∙ sym (append_assoc w.task.printed.text.items (job_text [] ws) last)
-    ∙ ap (λ (r : Result Unit JobError). (w.task.printed.text.items ++ text_if_done r (job_text [] ws)) ++ last) (sym done.0)
-
-either_of : (a b c : List ℕ) (r : Result Unit JobError) (P : Type 0) → P ⊎ (b ≡ c) → ((r ≡ Ok tt) × P) ⊎ (a ++ text_if_done r b ≡ a ++ text_if_done r c)
-either_of a b c (Ok done) P (inl p) = inl (refl, p)
-either_of a b c (Ok done) P (inr e) = inr (ap (λ (l : List ℕ). a ++ l) e)
-either_of a b c (Err e) P f = inr refl
-
--- all are done, or there is no last line
-pub text_either : (last : List ℕ) (ws : List (Worker Lister)) → AllDone ws ⊎ (job_text last ws ≡ job_text [] ws)
-text_either last [] = inl tt
-text_either last (w ∷ ws) = either_of w.task.printed.text.items (job_text last ws) (job_text [] ws) w.end (AllDone ws) (text_either last ws)

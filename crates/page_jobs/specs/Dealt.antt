@@ -1,45 +1,84 @@
--- Which parts of the blocks the workers of a job get, and what became of them.
-use Rattle.std.specs.Prelude.{◌≡◌, ◌⊎◌, ℕ, ◌+◌, ◌<◌, ◌≤◌, ◌^◌, List, [], ◌∷◌, ◌++◌, Option, Result, Ok, Err, OnOk, length, vec_capacity, vec_len}
+-- What the workers of a job begin with, and what became of them.
+use Rattle.std.specs.Prelude.{◌≡◌, ◌⊎◌, ℕ, ◌+◌, ◌<◌, ◌≤◌, ◌^◌, List, [], ◌∷◌, ◌++◌, Option, Result, Ok, Err, OnOk, length, All, vec_capacity, vec_len}
+use mathlib.Core.Option.{some}
+use lib.ListN.{get_elem?}
 use Rattle.block_tag.specs.declared.tag.Fork.{Fork}
+use Rattle.chunk_claims.specs.declared.claimant.Claimant.{Claimant}
+use Rattle.chunk_claims.specs.declared.claims.Claims.{Claims}
+use Rattle.chunk_claims.specs.Claims.{SitsAt}
+use Rattle.grid.specs.Shape.{total}
+use Rattle.log_device.specs.Bytes.{Puts}
+use Rattle.log_device.specs.declared.device.Failed.{Failed}
 use Rattle.page_layout.specs.declared.scan.ScanTotals.{ScanTotals}
 use Rattle.page_layout.specs.Scan.{IsWithin, no_totals, sum_of_totals}
 use Rattle.segment_store.specs.Contents.{Pages}
 use Rattle.backend_pass.specs.declared.manager.Manager.{Manager}
 use Rattle.backend_pass.specs.Passes.{PassState}
 use Rattle.page_jobs.specs.declared.ending.JobError.{JobError}
+use Rattle.page_jobs.specs.declared.listing.ChunkText.{ChunkText}
 use Rattle.page_jobs.specs.declared.listing.Lister.{Lister}
+use Rattle.page_jobs.specs.declared.running.Dealt.{Dealt}
 use Rattle.page_jobs.specs.declared.running.Ran.{Ran}
 use Rattle.page_jobs.specs.declared.working.Worker.{Worker}
 use Rattle.page_jobs.specs.Beside.{EndsBeside}
-use Rattle.page_jobs.specs.Parts.{blocks_in, part_start}
+use Rattle.page_jobs.specs.Chunks.{AreFirstTexts, chunk_count}
+use Rattle.page_jobs.specs.Parts.{blocks_in}
+use Rattle.page_jobs.specs.Printed.{totals_line}
 use Rattle.page_jobs.specs.Reads.{HasNoTokens}
-use Rattle.page_jobs.specs.Working.{CanBegin, WorksPart}
+use Rattle.page_jobs.specs.Working.{CanBegin, ClaimsNothing, WorksChunks}
 
-module _ {K : Type 0} (begins : K → Type 0) where
-  -- The worker has this pass, its part of the blocks, and a task that begins
-  pub record IsDealt (blocks workers number : ℕ) (p : PassState) (w : Worker K) : Type 0 where
+-- The claims of the first seat, with so many parts left to give
+pub record IsDealing (chunks workers parts : ℕ) (c : Claimant) : Type 0 where
+  pub chunks_are : c.chunks ≡ chunks
+  pub workers_are : c.workers ≡ workers
+  pub parts_are : c.parts ≡ parts
+  pub past : c.past ≡ 0
+  pub drawn : c.drawn ≡ []
+
+-- A worker's seat as it begins, and once it has worked
+pub record HasSeat {K : Type 0} (claims : Claims) (w : Worker K) : Type 0 where
+  pub sits : SitsAt claims.table.shared.table_id w.seat
+  pub claims_are : ClaimsNothing claims.chunks claims.workers w.seat.me.0
+
+pub record HasWorkedSeat {K : Type 0} (claims : Claims) (w : Worker K) : Type 0 where
+  pub sits : SitsAt claims.table.shared.table_id w.seat
+  pub part : (w.seat.me.0.parts ≡ 1) × (w.seat.me.0.workers ≡ claims.workers)
+
+-- what the numbers that all workers drew weigh
+abbrev pub total_drawn : {K : Type 0} → (ℕ → ℕ) → List (Worker K) → ℕ
+total_drawn g ws = total (λ w. total g w.seat.me.0.drawn) ws
+
+module _ {K : Type 0} (begins : K → Type 0) (claims : Claims) where
+  -- The worker has this pass, a seat, and a task that begins
+  pub record IsDealt (number : ℕ) (p : PassState) (w : Worker K) : Type 0 where
     pub number_is : w.number ≡ number
     pub pass : w.pass ≡ p
-    pub from : w.from ≡ part_start blocks workers number
-    pub to : w.to ≡ part_start blocks workers (number + 1)
+    pub seat : HasSeat claims w
     pub task : begins w.task
 
   -- each pass has its worker, from this number on
-  abbrev pub AreDealt : ℕ → ℕ → ℕ → List PassState → List (Worker K) → Type 0
-  AreDealt blocks workers number [] [] = Unit {0}
-  AreDealt blocks workers number [] (w ∷ ws) = ⊥
-  AreDealt blocks workers number (p ∷ ps) [] = ⊥
-  AreDealt blocks workers number (p ∷ ps) (w ∷ ws) = IsDealt blocks workers number p w × AreDealt blocks workers (number + 1) ps ws
+  abbrev pub AreDealt : ℕ → List PassState → List (Worker K) → Type 0
+  AreDealt number [] [] = Unit {0}
+  AreDealt number [] (w ∷ ws) = ⊥
+  AreDealt number (p ∷ ps) [] = ⊥
+  AreDealt number (p ∷ ps) (w ∷ ws) = IsDealt number p w × AreDealt (number + 1) ps ws
 
-  module _ (does : ℕ → PassState → PassState → K → K → Result Unit JobError → Type 0) where
-    -- the workers that the passes became, from this number on, have done their parts, of so many blocks and workers
-    abbrev pub HaveDone : ℕ → ℕ → ℕ → List PassState → List (Worker K) → Type 0
-    HaveDone blocks workers number [] [] = Unit {0}
-    HaveDone blocks workers number [] (x ∷ xs) = ⊥
-    HaveDone blocks workers number (p ∷ ps) [] = ⊥
-    HaveDone blocks workers number (p ∷ ps) (x ∷ xs) =
-        ((k : K) × begins k × WorksPart does (part_start blocks workers number) (part_start blocks workers (number + 1)) p x.pass k x.task x.end)
-        × HaveDone blocks workers (number + 1) ps xs
+module _ {K : Type 0} (begins : K → Type 0) (does : ℕ → PassState → PassState → K → K → Result Unit JobError → Type 0) (closes : ℕ → K → K → Result Unit JobError → Type 0) (n : ℕ) where
+  -- the workers that the passes became have worked, on chunks of n blocks
+  abbrev pub HaveDone : List PassState → List (Worker K) → Type 0
+  HaveDone [] [] = Unit {0}
+  HaveDone [] (x ∷ xs) = ⊥
+  HaveDone (p ∷ ps) [] = ⊥
+  HaveDone (p ∷ ps) (x ∷ xs) = ((k : K) × begins k × WorksChunks does closes n x.seat.me.0.drawn p x.pass k x.task x.end) × HaveDone ps xs
+
+-- The passes are dealt out, with claims of the chunks of so many blocks
+pub record IsDealtOut {K : Type 0} (begins : K → Type 0) (blocks : ℕ) (ps : List PassState) (d : Dealt K) : Type 0 where
+  pub chunks : d.claims.chunks ≡ chunk_count blocks
+  pub workers : d.claims.workers ≡ length ps
+  pub sits : SitsAt d.claims.table.shared.table_id d.seat
+  pub seat : IsDealing d.claims.chunks d.claims.workers 0 d.seat.me.0
+  pub dealt : AreDealt begins d.claims 0 ps d.workers.items
+  pub counted : length d.workers.items ≡ length ps
 
 -- all of the workers ended well
 abbrev pub AllDone : {K : Type 0} → List (Worker K) → Type 0
@@ -51,20 +90,51 @@ abbrev pub AnyEnds : {K : Type 0} → JobError → List (Worker K) → Type 0
 AnyEnds e [] = ⊥
 AnyEnds e (w ∷ ws) = (w.end ≡ Err e) ⊎ AnyEnds e ws
 
--- a text goes on where this ended well
-abbrev pub text_if_done : Result Unit JobError → List ℕ → List ℕ
-text_if_done (Ok done) text = text
-text_if_done (Err e) text = []
-
--- what the workers print, one after the other, and then this last line: at a fault the text of the first worker that met one, and nothing after it
-abbrev pub job_text : List ℕ → List (Worker Lister) → List ℕ
-job_text last [] = last
-job_text last (w ∷ ws) = w.task.printed.text.items ++ text_if_done w.end (job_text last ws)
+-- the first that didn't end well ended for this
+abbrev pub EndsFirst : {K : Type 0} → JobError → List (Worker K) → Type 0
+EndsFirst e [] = ⊥
+EndsFirst e (w ∷ ws) = (w.end ≡ Err e) ⊎ ((w.end ≡ Ok tt) × EndsFirst e ws)
 
 -- what they count, in all
 abbrev pub job_totals : List (Worker Lister) → ScanTotals
 job_totals [] = no_totals
 job_totals (w ∷ ws) = sum_of_totals w.task.printed.totals (job_totals ws)
+
+-- one of the workers kept this text of a chunk
+pub record HasText (ws : List (Worker Lister)) (chunk : ℕ) (text : List ℕ) : Type 0 where
+  pub place : ℕ
+  pub worker : Worker Lister
+  pub there : get_elem? ws place ≡ some worker
+  pub index : ℕ
+  pub kept : ChunkText
+  pub listed : get_elem? worker.task.texts.items index ≡ some kept
+  pub number : kept.number ≡ chunk
+  pub text_is : kept.text.items ≡ text
+
+-- The worker at this place kept the text of a chunk, which is the next one of its texts
+pub record HasNext (ws : List (Worker Lister)) (nexts : List ℕ) (chunk place : ℕ) : Type 0 where
+  pub worker : Worker Lister
+  pub there : get_elem? ws place ≡ some worker
+  pub next : ℕ
+  pub at : get_elem? nexts place ≡ some next
+  pub kept : ChunkText
+  pub listed : get_elem? worker.task.texts.items next ≡ some kept
+  pub number : kept.number ≡ chunk
+
+-- the texts of the first chunks were put, in their order, so many; or a prefix of the texts of some of the first
+abbrev pub PutsFirst : List (Worker Lister) → ℕ → Option (List ℕ) → Option (List ℕ) → Result ℕ Failed → Type 0
+PutsFirst ws chunks old new (Ok many) = (many ≤ chunks) × ((text : List ℕ) × AreFirstTexts (HasText ws) many text × Puts {E = Failed} text old new (Ok tt))
+PutsFirst ws chunks old new (Err e) = (many : ℕ) × (text : List ℕ) × AreFirstTexts (HasText ws) many text × Puts text old new (Err e)
+
+-- What was put of all that the workers have to show: a prefix of the texts of some of the first chunks, and after those of all chunks of the line of the totals; where it ended well, all of these
+pub record PutsAll (ws : List (Worker Lister)) (chunks : ℕ) (old new : Option (List ℕ)) (end : Result Unit JobError) : Type 0 where
+  pub many : ℕ
+  pub text : List ℕ
+  pub texts : AreFirstTexts (HasText ws) many text
+  pub last : List ℕ
+  pub ending : (last ≡ []) ⊎ ((many ≡ chunks) × AllDone ws × (last ≡ totals_line (job_totals ws)))
+  pub puts : Puts (text ++ last) old new end
+  pub whole : OnOk end ((many ≡ chunks) × (last ≡ totals_line (job_totals ws)))
 
 -- no number of theirs is above what their blocks can give
 abbrev pub TotalsAreInRange : List (Worker Lister) → Type 0
@@ -72,21 +142,25 @@ TotalsAreInRange [] = Unit {0}
 TotalsAreInRange (w ∷ ws) = IsWithin w.task.printed.totals w.task.printed.totals.blocks × TotalsAreInRange ws
 
 module _ {L G : Type 0} (contents : L → Option Pages) (m : Manager L G) where
-  -- A worker can begin: its pass has no token, its part is one of the fork's blocks, and its task can count them
-  pub record IsReady {K : Type 0} (rel : ℕ) (fork : Fork) (fits : K → ℕ → Type 0) (w : Worker K) : Type 0 where
+  -- A worker can begin: its pass has no token, its seat claimed nothing, and its task can count
+  pub record IsReady {K : Type 0} (claims : Claims) (fits : K → ℕ → Type 0) (w : Worker K) : Type 0 where
     pub free : HasNoTokens contents m w.pass
-    pub ordered : w.from ≤ w.to
-    pub within : w.to ≤ blocks_in m rel fork
+    pub seat : HasSeat claims w
     pub task : CanBegin fits w.task
 
-  -- The passes but the last one worked, each on its part of the fork's blocks, and the last one worked beside them: where its work ended well, it did this. There is room for all of them in the list that they were in
-  pub record HasRun {K : Type 0} (rel : ℕ) (fork : Fork) (does : ℕ → PassState → PassState → K → K → Result Unit JobError → Type 0) (begins : K → Type 0) (did : PassState → PassState → Type 0) (ps : List PassState) (ran : Ran K) : Type 0 where
+  -- The passes but the last one worked, on chunks of the fork's blocks, and the last one worked beside them: where its work ended well, it did this. There is room for all of them in the list that they were in, and their seats can be given back
+  pub record HasRun {K : Type 0} (rel : ℕ) (fork : Fork) (does : ℕ → PassState → PassState → K → K → Result Unit JobError → Type 0) (closes : ℕ → K → K → Result Unit JobError → Type 0) (begins : K → Type 0) (did : PassState → PassState → Type 0) (ps : List PassState) (ran : Ran K) : Type 0 where
     pub before : List PassState
     pub last : PassState
     pub split : ps ≡ before ++ last ∷ []
-    pub done : HaveDone begins does (blocks_in m rel fork) (length before) 0 before ran.workers.items
+    pub done : HaveDone begins does closes (blocks_in m rel fork) before ran.workers.items
     pub beside : EndsBeside contents m last ran.last ran.beside_end
     pub did_beside : OnOk ran.beside_end (did last ran.last)
     pub none : ran.passes.items ≡ []
     pub room : vec_len ran.workers < vec_capacity ran.passes
+    pub chunks : ran.claims.chunks ≡ chunk_count (blocks_in m rel fork)
+    pub seats : All (HasWorkedSeat ran.claims) ran.workers.items
+    pub many : vec_len ran.workers ≡ ran.claims.workers
+    pub sits : SitsAt ran.claims.table.shared.table_id ran.seat
+    pub seat : IsDealing ran.claims.chunks ran.claims.workers 0 ran.seat.me.0
     pub few : blocks_in m rel fork < 2 ^ 32

@@ -1,10 +1,11 @@
 -- What a scan and a dump do.
-use Rattle.std.specs.Prelude.{◌≡◌, ℕ, ◌+◌, ◌-◌, ◌≤◌, ◌⊎◌, List, [], ◌∷◌, ◌++◌, length, take, drop, Option, Some, option_map}
+use Rattle.std.specs.Prelude.{◌≡◌, ℕ, ◌-◌, ◌⊎◌, List, [], ◌∷◌, ◌++◌, length, take, Option, Some, Result, IfOk}
 use mathlib.Core.Option.{some}
 use lib.ListN.{get_elem?}
 use Rattle.block_tag.specs.declared.tag.Fork.{Fork}
 use Rattle.block_tag.specs.declared.tag.Tag.{Tag}
 use Rattle.block_tag.specs.Names.{lane_number, tag_of_parts}
+use Rattle.log_device.specs.Bytes.{Puts}
 use Rattle.log_device.specs.Faults.{Rose}
 use Rattle.segment_store.specs.Contents.{Pages}
 use Rattle.pin_core.specs.State.{Page}
@@ -17,10 +18,11 @@ use Rattle.page_jobs.specs.declared.ending.JobError.TheVariants.{Memory, OutFaul
 use Rattle.page_jobs.specs.declared.ending.Totals.{Totals}
 use Rattle.page_jobs.specs.declared.printing.Lines.{Lines}
 use Rattle.page_jobs.specs.Beside.{LastIsRefused}
-use Rattle.page_jobs.specs.Ending.{totals_of_scan}
+use Rattle.page_jobs.specs.Chunks.{AreAllClaimed, AreFirstClaimed, Claimed, CoversAll, CoversChunks, AreFirstTexts, blocks_in_all, blocks_of, chunk_count, items_in_all}
+use Rattle.page_jobs.specs.Ending.{as_done, totals_of_scan}
 use Rattle.page_jobs.specs.Printed.{BlockRead, reads_lines, reads_totals, totals_line}
 use Rattle.page_jobs.specs.Reads.{HasNoTokens, IsWithinFront, Stays, calls_of_reads}
-use Rattle.page_jobs.specs.Parts.{AllReads, AreKnown, MeetsFault, blocks_in, part_start}
+use Rattle.page_jobs.specs.Parts.{AllReads, AreKnown, MeetsFault, blocks_in}
 
 -- the passes that work: all but the last
 abbrev pub workers_in : List PassState → List PassState
@@ -31,9 +33,22 @@ abbrev pub AllAtBase : ℕ → List PassState → Type 0
 AllAtBase base [] = Unit {0}
 AllAtBase base (p ∷ ps) = (p.view.front ≡ base) × AllAtBase base ps
 
--- what was read of the blocks from one on, up to, not including, another
-abbrev pub reads_between : ℕ → ℕ → List BlockRead → List BlockRead
-reads_between from to rs = take (to - from) (drop from rs)
+-- This is the text of a chunk of a fork of n blocks, which one of the passes read to its end
+pub record IsTextOf (lines : Lines) (n : ℕ) (claimed : List (Claimed BlockRead)) (chunk : ℕ) (text : List ℕ) : Type 0 where
+  pub index : ℕ
+  pub pass : Claimed BlockRead
+  pub there : get_elem? claimed index ≡ some pass
+  -- the chunks that the pass read before it and after it, and what it read of those, and of this one
+  pub before : List ℕ
+  pub after : List ℕ
+  pub chunks : pass.chunks ≡ before ++ chunk ∷ after
+  pub first : List BlockRead
+  pub reads : List BlockRead
+  pub rest : List BlockRead
+  pub items : pass.items ≡ first ++ (reads ++ rest)
+  pub at : length first ≡ length (blocks_in_all n before)
+  pub whole : length reads ≡ length (blocks_of n chunk)
+  pub lines_are : text ≡ reads_lines lines (blocks_of n chunk) reads
 
 module _ {L G : Type 0} (contents : L → Option Pages) (m : Manager L G) where
   -- each pass is the manager's, and has no token
@@ -55,33 +70,50 @@ module _ {L G : Type 0} (contents : L → Option Pages) (m : Manager L G) (rel :
     pub counted : length pages ≡ blocks_in m rel fork
     pub each : (block : ℕ) (page : Page) → get_elem? pages block ≡ some page → WasKnownAtOpening contents m (tag_of_parts rel fork block) page
 
-  -- The pass read blocks from `from` on, one after the other, none at `to` or past it. It is the same pass, without tokens, with its mark and its content locks as they were
-  pub record ReadsPart (from to : ℕ) (p q : PassState) : Type 0 where
+  -- The pass read blocks of the chunks that it claimed, one chunk after the other, each to its end but maybe the last one. It is the same pass, without tokens, with its mark and its content locks as they were
+  pub record ReadsChunks (c : Claimed BlockRead) (p q : PassState) : Type 0 where
     pub stays : Stays contents m p q
     pub spent : q.tokens ≡ no_tokens
-    pub reads : List BlockRead
-    pub calls : q.view.calls ≡ p.view.calls ++ calls_of_reads p.view.number rel fork from reads
-    pub known : AreKnown contents m rel fork from reads
-    pub places : AllReads (λ block r. IsWithinFront q.view.front r) from reads
-    pub within : from + length reads ≤ to
+    pub calls : q.view.calls ≡ p.view.calls ++ calls_of_reads p.view.number rel fork (blocks_in_all (blocks_in m rel fork) c.chunks) c.items
+    pub known : AreKnown contents m rel fork (blocks_in_all (blocks_in m rel fork) c.chunks) c.items
+    pub places : AllReads (λ block r. IsWithinFront q.view.front r) (blocks_in_all (blocks_in m rel fork) c.chunks) c.items
+    pub covers : CoversChunks (blocks_in m rel fork) c
 
-  -- each of the passes did so with its part of the blocks
+  -- The passes claimed the first chunks, each once, and each pass read blocks of those that it claimed
   pub record ReadParts (ps qs : List PassState) : Type 0 where
     pub counted : length qs ≡ length ps
-    pub each : (w : ℕ) (p q : PassState) → get_elem? ps w ≡ some p → get_elem? qs w ≡ some q
-        → ReadsPart (part_start (blocks_in m rel fork) (length ps) w) (part_start (blocks_in m rel fork) (length ps) (w + 1)) p q
+    pub claimed : List (Claimed BlockRead)
+    pub listed : length claimed ≡ length ps
+    pub each : (w : ℕ) (p q : PassState) (c : Claimed BlockRead) → get_elem? ps w ≡ some p → get_elem? qs w ≡ some q → get_elem? claimed w ≡ some c → ReadsChunks c p q
+    -- it met no fault; or it met this one, and read nothing after that
+    pub ended : (w : ℕ) (p q : PassState) → get_elem? ps w ≡ some p → get_elem? qs w ≡ some q → (q.view.met ≡ p.view.met) ⊎ ((e : JobError) × MeetsFault contents m rel fork p q e)
+    pub once : AreFirstClaimed (blocks_in m rel fork) claimed
 
-  -- All blocks were read, each pass's part by that pass, and no fault was met. The lines of what was read were put, and the line of its totals
-  pub record ReadsAll (lines : Lines) (ps qs : List PassState) (old new : Option (List ℕ)) (totals : Totals) : Type 0 where
-    pub reads : List BlockRead
-    pub counted : length reads ≡ blocks_in m rel fork
-    pub known : AreKnown contents m rel fork 0 reads
-    pub calls : (w : ℕ) (p q : PassState) → get_elem? ps w ≡ some p → get_elem? qs w ≡ some q
-        → let from = part_start (blocks_in m rel fork) (length ps) w in let to = part_start (blocks_in m rel fork) (length ps) (w + 1) in
-        q.view.calls ≡ p.view.calls ++ calls_of_reads p.view.number rel fork from (reads_between from to reads)
-    pub met : (w : ℕ) (p q : PassState) → get_elem? ps w ≡ some p → get_elem? qs w ≡ some q → q.view.met ≡ p.view.met
-    pub text : new ≡ option_map (λ bytes. bytes ++ (reads_lines lines 0 reads ++ totals_line (reads_totals reads))) old
-    pub totals_is : totals ≡ totals_of_scan (reads_totals reads)
+  -- The pass read each of its chunks to its end, and met no fault
+  pub record ReadsWhole (c : Claimed BlockRead) (p q : PassState) : Type 0 where
+    pub reads : ReadsChunks c p q
+    pub whole : CoversAll (blocks_in m rel fork) c
+    pub met : q.view.met ≡ p.view.met
+
+  -- All chunks were read, each once, by one pass and to its end, and no fault was met. The totals are those of what was read
+  pub record ReadsAll (ps qs : List PassState) (totals : Totals) : Type 0 where
+    pub claimed : List (Claimed BlockRead)
+    pub listed : length claimed ≡ length ps
+    pub each : (w : ℕ) (p q : PassState) (c : Claimed BlockRead) → get_elem? ps w ≡ some p → get_elem? qs w ≡ some q → get_elem? claimed w ≡ some c → ReadsWhole c p q
+    pub all : AreAllClaimed (blocks_in m rel fork) claimed
+    pub totals_is : totals ≡ totals_of_scan (reads_totals (items_in_all claimed))
+
+  -- What was put, with any end: a prefix of the texts of the first chunks, in order, with the line of the totals after them where these are all chunks; where the job ended well, all of that
+  pub record PutsReads (lines : Lines) (ps qs : List PassState) (old new : Option (List ℕ)) (end : Result Totals JobError) : Type 0 where
+    pub parts : ReadParts ps qs
+    pub many : ℕ
+    pub text : List ℕ
+    pub texts : AreFirstTexts (IsTextOf lines (blocks_in m rel fork) parts.claimed) many text
+    pub last : List ℕ
+    pub ending : (last ≡ []) ⊎ ((many ≡ chunk_count (blocks_in m rel fork)) × (last ≡ totals_line (reads_totals (items_in_all parts.claimed))))
+    pub puts : Puts (text ++ last) old new (as_done end)
+    -- the totals that the job answers are those of the line
+    pub whole : IfOk end (λ totals. (many ≡ chunk_count (blocks_in m rel fork)) × (last ≡ totals_line (reads_totals (items_in_all parts.claimed))) × (totals ≡ totals_of_scan (reads_totals (items_in_all parts.claimed))))
 
   -- some pass met the fault that ended the job
   abbrev pub AnyMeets : List PassState → List PassState → JobError → Type 0

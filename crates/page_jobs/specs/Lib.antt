@@ -2,8 +2,11 @@ pub mod Ending
 pub mod Printed
 pub mod Reads
 pub mod Parts
+pub mod Blocks
+pub mod Chunks
 pub mod Working
 pub mod Beside
+pub mod Kept
 pub mod Dealt
 pub mod Jobs
 pub mod Relations

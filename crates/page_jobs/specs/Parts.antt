@@ -1,5 +1,5 @@
--- What a worker does with its part of the blocks.
-use Rattle.std.specs.Prelude.{◌≡◌, ℕ, ◌+◌, ◌*◌, ◌/◌, ◌<◌, ◌≤◌, ◌⊎◌, List, [], ◌∷◌, ◌++◌, length, Option, Some, Result, OnOk, IfErr}
+-- What a worker does with the blocks that it reads.
+use Rattle.std.specs.Prelude.{◌≡◌, ℕ, ◌<◌, ◌⊎◌, List, [], ◌∷◌, ◌++◌, length, Option, Some, Result, OnOk, IfErr}
 use Rattle.block_tag.specs.declared.tag.Fork.{Fork}
 use Rattle.block_tag.specs.Catalogue.{blocks_at}
 use Rattle.block_tag.specs.Names.{tag_of_parts}
@@ -16,25 +16,22 @@ use Rattle.page_jobs.specs.declared.ending.JobError.{JobError}
 use Rattle.page_jobs.specs.declared.ending.JobError.TheVariants.{Memory}
 use Rattle.page_jobs.specs.declared.printing.Lines.{Lines}
 use Rattle.page_jobs.specs.Printed.{BlockRead, reads_lines, reads_totals}
-use Rattle.page_jobs.specs.Reads.{IsKnown, IsWithinFront, Stays, calls_of_reads, fault_of_refusal}
+use Rattle.page_jobs.specs.Reads.{EndsAtRead, IsKnown, IsWithinFront, Stays, calls_of_reads, fault_of_refusal}
 
--- where the part of the worker w begins, of n blocks and k workers
-abbrev pub part_start : ℕ → ℕ → ℕ → ℕ
-part_start n k w = w * n / k
-
--- so it is of what was read of each block, from this block on
-abbrev pub AllReads : (ℕ → BlockRead → Type 0) → ℕ → List BlockRead → Type 0
-AllReads P block [] = Unit {0}
-AllReads P block (r ∷ rs) = P block r × AllReads P (block + 1) rs
+-- so it is of what was read of these blocks, or of the first of them
+abbrev pub AllReads : (ℕ → BlockRead → Type 0) → List ℕ → List BlockRead → Type 0
+AllReads P blocks [] = Unit {0}
+AllReads P [] (r ∷ rs) = ⊥
+AllReads P (b ∷ blocks) (r ∷ rs) = P b r × AllReads P blocks rs
 
 -- how many blocks a fork has
 abbrev pub blocks_in : {L G : Type 0} → Manager L G → ℕ → Fork → ℕ
 blocks_in m rel fork = blocks_at (relations_of m.table) rel fork
 
 module _ {L G : Type 0} (contents : L → Option Pages) (m : Manager L G) (rel : ℕ) (fork : Fork) where
-  -- what is known of blocks of the fork that were read, from this one on
-  abbrev pub AreKnown : ℕ → List BlockRead → Type 0
-  AreKnown block rs = AllReads (λ b r. IsKnown contents m (tag_of_parts rel fork b) r) block rs
+  -- what is known of what was read of blocks of the fork
+  abbrev pub AreKnown : List ℕ → List BlockRead → Type 0
+  AreKnown blocks rs = AllReads (λ b r. IsKnown contents m (tag_of_parts rel fork b) r) blocks rs
 
   -- A read of one of the fork's blocks was refused, for a reason that the error names, and the pass has met that fault, and no other
   pub record MeetsFault (p q : PassState) (e : JobError) : Type 0 where
@@ -45,25 +42,26 @@ module _ {L G : Type 0} (contents : L → Option Pages) (m : Manager L G) (rel :
     pub before : PassState
     pub since : OnlyRises p.view before.view
     pub refused : ReadingRefused contents m.table (tag_of_parts rel fork block) before q why
+    -- where a lane failed to read the block, no device was called after that
+    pub last : EndsAtRead contents m (tag_of_parts rel fork block) q why
     pub met : q.view.met ≡ met_read_refused why p.view.met
 
-  -- why a worker ends before its end
+  -- why a worker ends before its end: there was no memory, and it met no fault, or it met this one
   abbrev pub EndsFor : PassState → PassState → JobError → Type 0
-  EndsFor p q e = (e ≡ Memory) ⊎ MeetsFault p q e
+  EndsFor p q e = ((e ≡ Memory) × (q.view.met ≡ p.view.met)) ⊎ MeetsFault p q e
 
-  -- The blocks from `from` on were read one after the other, none at `to` or past it. What was read is printed, and counted, but for what there was no memory for
-  pub record DoesPart (lines : Lines) (from to : ℕ) (p q : PassState) (text text' : List ℕ) (t u : ScanTotals) (end : Result Unit JobError) : Type 0 where
+  -- These blocks were read one after the other, or the first of them. What was read is printed, and counted, but for what there was no memory for
+  pub record ListsBlocks (lines : Lines) (blocks : List ℕ) (p q : PassState) (text text' : List ℕ) (t u : ScanTotals) (end : Result Unit JobError) : Type 0 where
     pub stays : Stays contents m p q
     pub spent : q.tokens ≡ no_tokens
     pub printed : List BlockRead
     pub unprinted : List BlockRead
-    pub calls : q.view.calls ≡ p.view.calls ++ calls_of_reads p.view.number rel fork from (printed ++ unprinted)
-    pub known : AreKnown from (printed ++ unprinted)
-    pub places : AllReads (λ b r. IsWithinFront q.view.front r) from (printed ++ unprinted)
-    pub within : from + length (printed ++ unprinted) ≤ to
-    pub text_is : text' ≡ text ++ reads_lines lines from printed
+    pub calls : q.view.calls ≡ p.view.calls ++ calls_of_reads p.view.number rel fork blocks (printed ++ unprinted)
+    pub known : AreKnown blocks (printed ++ unprinted)
+    pub places : AllReads (λ b r. IsWithinFront q.view.front r) blocks (printed ++ unprinted)
+    pub text_is : text' ≡ text ++ reads_lines lines blocks printed
     pub totals_is : u ≡ sum_of_totals t (reads_totals printed)
     pub counts : IsWithin u u.blocks
-    -- where it ended well, all of the part was read, and no fault was met
-    pub done : OnOk end ((unprinted ≡ []) × (from + length printed ≡ to) × (q.view.met ≡ p.view.met))
+    -- where it ended well, all of them were read, and no fault was met
+    pub done : OnOk end ((unprinted ≡ []) × (length printed ≡ length blocks) × (q.view.met ≡ p.view.met))
     pub cause : IfErr end (EndsFor p q)

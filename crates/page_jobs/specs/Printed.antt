@@ -55,10 +55,11 @@ abbrev pub read_summary : BlockRead → PageSummary
 read_summary (copied page place) = summary_of page
 read_summary unsound = Invalid
 
--- and of blocks one after the other, from this one on
-abbrev pub reads_lines : Lines → ℕ → List BlockRead → List ℕ
-reads_lines lines block [] = []
-reads_lines lines block (r ∷ rs) = read_lines lines block r ++ reads_lines lines (block + 1) rs
+-- and of these blocks, one after the other
+abbrev pub reads_lines : Lines → List ℕ → List BlockRead → List ℕ
+reads_lines lines blocks [] = []
+reads_lines lines [] (r ∷ rs) = []
+reads_lines lines (b ∷ blocks) (r ∷ rs) = read_lines lines b r ++ reads_lines lines blocks rs
 
 abbrev pub reads_totals : List BlockRead → ScanTotals
 reads_totals rs = totals_of_summaries (map read_summary rs)

@@ -1,16 +1,18 @@
 -- How a worker reads a block.
-use Rattle.std.specs.Prelude.{◌≡◌, ℕ, ◌+◌, ◌≤◌, Bool, true, false, List, [], ◌∷◌, Option, Some, None}
+use Rattle.std.specs.Prelude.{◌≡◌, ℕ, ◌≤◌, Bool, true, false, List, [], ◌∷◌, ◌++◌, Option, Some, None}
 use Rattle.block_tag.specs.declared.tag.Fork.{Fork}
 use Rattle.block_tag.specs.declared.tag.Tag.{Tag}
-use Rattle.block_tag.specs.Names.{packed_tag, tag_of_parts}
+use Rattle.block_tag.specs.Names.{lane_number, packed_tag, tag_of_parts}
 use Rattle.page_layout.specs.Soundness.{is_sound_page}
 use Rattle.segment_store.specs.Contents.{Pages}
 use Rattle.pin_core.specs.declared.view.Call.{Call}
 use Rattle.pin_core.specs.declared.view.Call.TheVariants.{Read}
+use Rattle.pin_core.specs.declared.view.DeviceCall.{DeviceCall}
+use Rattle.pin_core.specs.declared.view.DeviceCall.TheVariants.{LaneRead}
 use Rattle.pin_core.specs.declared.view.Content.TheVariants.{Unlocked}
 use Rattle.pin_core.specs.State.{Page}
 use Rattle.frame_table.specs.Opened.{WasAtOpening}
-use Rattle.frame_table.specs.Seats.{OnlyRises, base_of}
+use Rattle.frame_table.specs.Seats.{OnlyRises, base_of, lanes_in}
 use Rattle.held_pins.specs.Tokens.{IsPinnedFor, no_tokens, tokens_less}
 use Rattle.buffer_frames.specs.Loading.{WasUnsoundAtOpening}
 use Rattle.backend_pass.specs.declared.errors.ReadError.{ReadError}
@@ -52,11 +54,12 @@ fault_of_refusal (read.LogDown at) = Some (LogDown at)
 fault_of_refusal (read.LogShort lsn end) = Some (LogShort lsn end)
 fault_of_refusal (read.Unsound tag) = None
 
--- the calls of a backend that reads blocks of a fork one after the other: one for each sound page
-abbrev pub calls_of_reads : ℕ → ℕ → Fork → ℕ → List BlockRead → List Call
-calls_of_reads backend rel fork block [] = []
-calls_of_reads backend rel fork block (copied page place ∷ rs) = Read backend (packed_tag (tag_of_parts rel fork block)) page place ∷ calls_of_reads backend rel fork (block + 1) rs
-calls_of_reads backend rel fork block (unsound ∷ rs) = calls_of_reads backend rel fork (block + 1) rs
+-- the calls of a backend that reads these blocks of a fork one after the other, and finds this: one for each sound page
+abbrev pub calls_of_reads : ℕ → ℕ → Fork → List ℕ → List BlockRead → List Call
+calls_of_reads backend rel fork blocks [] = []
+calls_of_reads backend rel fork [] (r ∷ rs) = []
+calls_of_reads backend rel fork (b ∷ blocks) (copied page place ∷ rs) = Read backend (packed_tag (tag_of_parts rel fork b)) page place ∷ calls_of_reads backend rel fork blocks rs
+calls_of_reads backend rel fork (b ∷ blocks) (unsound ∷ rs) = calls_of_reads backend rel fork blocks rs
 
 module _ {L G : Type 0} (contents : L → Option Pages) (m : Manager L G) where
   -- The pass is the manager's, and has no token
@@ -82,6 +85,11 @@ module _ {L G : Type 0} (contents : L → Option Pages) (m : Manager L G) where
     pub last : tokens_less pinned.frame q.tokens ≡ no_tokens
     pub unlocked : HasLock Unlocked pinned.frame q
 
+  -- where a lane failed to read the block, no device was called after that
+  abbrev pub EndsAtRead : Tag → PassState → ReadError → Type 0
+  EndsAtRead tag q (read.ReadFault failed) = (calls : List DeviceCall) × (q.view.device_calls ≡ calls ++ LaneRead (lane_number tag (lanes_in m.table)) (packed_tag tag) false ∷ [])
+  EndsAtRead tag q why = Unit {0}
+
   -- It wasn't read, for this reason, and the pass has no token
   pub record RefusesBlock (tag : Tag) (p q : PassState) (why : ReadError) : Type 0 where
     pub stays : Stays p q
@@ -92,6 +100,7 @@ module _ {L G : Type 0} (contents : L → Option Pages) (m : Manager L G) where
     pub before : PassState
     pub since : OnlyRises p.view before.view
     pub refused : ReadingRefused contents m.table tag before q why
+    pub last : EndsAtRead tag q why
     pub met : q.view.met ≡ met_read_refused why p.view.met
 
   -- Its page was copied, by one read, and the pass has no token

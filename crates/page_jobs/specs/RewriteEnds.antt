@@ -1,8 +1,9 @@
 -- What a rewrite of a relation makes of the log and of the lanes.
-use Rattle.std.specs.Prelude.{◌≡◌, ◌⊎◌, ℕ, zero, suc, ◌+◌, ◌*◌, ◌<◌, ◌≤◌, Bool, true, false, List, [], ◌∷◌, ◌++◌, length, nat_eq, Option, Some, unwrap_or, if◌then◌else◌}
+use Rattle.std.specs.Prelude.{◌≡◌, ◌⊎◌, ℕ, ◌+◌, ◌*◌, ◌<◌, ◌≤◌, Bool, true, false, List, [], ◌∷◌, ◌++◌, nat_eq, Option, Some, unwrap_or, if◌then◌else◌}
 use mathlib.Core.Option.{some}
 use lib.ListN.{get_elem?}
 use Rattle.grid.specs.Shape.{total}
+use Rattle.chunk_claims.specs.Claims.{sum_below}
 use Rattle.pin_core.specs.declared.view.Call.{Call}
 use Rattle.pin_core.specs.State.{Page}
 use Rattle.history_core.specs.Log.{Entry, IsEntryOf, Log, image, end_of, log_end, record_size, head_size, place_of, writes_in}
@@ -10,7 +11,7 @@ use Rattle.history_core.specs.History.{IsHistory}
 use Rattle.history_core.specs.Laws.{Laws}
 use Rattle.history_core.specs.Promises.{AreStored}
 use Rattle.history_core.specs.State.{State, stored, failed}
-use Rattle.page_jobs.specs.Rewrites.{AreFrom, Outcome, unsound, kept, refused, changed, Rule, outcome_block, calls_for, is_ended}
+use Rattle.page_jobs.specs.Rewrites.{Outcome, unsound, kept, refused, changed, Rule, outcome_block, calls_for, is_ended}
 
 -- the page that a block had at the start
 abbrev pub page_at_start : (ℕ → Option Page) → ℕ → Page
@@ -90,11 +91,6 @@ pub record HasEntry (log : Log) (tag : ℕ) : Type 0 where
   pub entry : Entry
   pub entered : IsEntryOf log.entries tag index entry
 
--- the sum of g over the numbers below n
-unfoldable pub sum_below : ℕ → (ℕ → ℕ) → ℕ
-sum_below zero g = 0
-sum_below (suc n) g = sum_below n g + g n
-
 -- 1 for a block that the rule changes
 abbrev pub change_weight : Rule → (ℕ → Option Page) → ℕ → ℕ
 change_weight r origin b = if r.changes (page_at_start origin (r.tag b)) then 1 else 0
@@ -134,13 +130,3 @@ pub record Finishes (r : Rule) (n : ℕ) (s : State) (calls : List Call) (ps : L
   pub known : (b : ℕ) → b < n → s.known (r.tag b) ≡ true
   pub stored_all : AreStored s upto
   pub reached : (k : ℕ) (c : Call) → get_elem? calls k ≡ some c → place_of c ≤ upto
-
--- The parts are of the blocks from a up to n, cut one after the other; each did its blocks from the first on
-abbrev pub AreParts : ℕ → List BackendCalls → ℕ → Type 0
-AreParts a [] n = a ≤ n
-AreParts a (p ∷ ps) n = (c : ℕ) × AreFrom a p.done × (a + length p.done ≤ c) × AreParts c ps n
-
--- and each did all of its blocks
-abbrev pub DidAll : ℕ → List BackendCalls → ℕ → Type 0
-DidAll a [] n = a ≡ n
-DidAll a (p ∷ ps) n = AreFrom a p.done × DidAll (a + length p.done) ps n

@@ -1,8 +1,7 @@
 -- What the workers of a rewrite have to show.
-use Rattle.std.specs.Prelude.{◌≡◌, ◌⊎◌, List, [], ◌∷◌, Ok, Err}
+use Rattle.std.specs.Prelude.{List, [], ◌∷◌}
 use Rattle.page_layout.specs.declared.outcomes.RewriteTotals.{RewriteTotals}
 use Rattle.page_layout.specs.Outcomes.{IsRewriteWithin, no_rewrite_totals, sum_of_rewrite_totals}
-use Rattle.page_jobs.specs.declared.ending.JobError.{JobError}
 use Rattle.page_jobs.specs.declared.rewriting.Rewriter.{Rewriter}
 use Rattle.page_jobs.specs.declared.working.Worker.{Worker}
 
@@ -15,8 +14,3 @@ rewritten_totals (w ∷ ws) = sum_of_rewrite_totals w.task.totals (rewritten_tot
 abbrev pub AreRewritesCounted : List (Worker Rewriter) → Type 0
 AreRewritesCounted [] = Unit {0}
 AreRewritesCounted (w ∷ ws) = IsRewriteWithin w.task.totals w.task.totals.blocks × AreRewritesCounted ws
-
--- the first that didn't end well ended for this
-abbrev pub EndsFirst : JobError → List (Worker Rewriter) → Type 0
-EndsFirst e [] = ⊥
-EndsFirst e (w ∷ ws) = (w.end ≡ Err e) ⊎ ((w.end ≡ Ok tt) × EndsFirst e ws)

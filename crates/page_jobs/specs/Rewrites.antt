@@ -1,5 +1,5 @@
 -- What a rewrite does with blocks, and the calls that it makes for them.
-use Rattle.std.specs.Prelude.{◌≡◌, ◌⊎◌, ℕ, ◌+◌, Bool, true, false, List, [], ◌∷◌, ◌++◌, map}
+use Rattle.std.specs.Prelude.{◌≡◌, ◌⊎◌, ℕ, Bool, true, false, List, [], ◌∷◌, ◌++◌, map}
 use Rattle.block_tag.specs.declared.tag.Fork.{Fork}
 use Rattle.block_tag.specs.Names.{packed_tag, tag_of_parts}
 use Rattle.page_layout.specs.declared.outcomes.PageRewrite.{PageRewrite}
@@ -76,10 +76,11 @@ abbrev pub EachOutcome : (Outcome → Type 0) → List Outcome → Type 0
 EachOutcome P [] = Unit {0}
 EachOutcome P (o ∷ os) = P o × EachOutcome P os
 
--- the outcomes are of the blocks from this one on, in order
-abbrev pub AreFrom : ℕ → List Outcome → Type 0
-AreFrom a [] = Unit {0}
-AreFrom a (o ∷ os) = (outcome_block o ≡ a) × AreFrom (a + 1) os
+-- the outcomes are of these blocks, or of the first of them, in their order
+abbrev pub AreOf : List ℕ → List Outcome → Type 0
+AreOf blocks [] = Unit {0}
+AreOf [] (o ∷ os) = ⊥
+AreOf (b ∷ blocks) (o ∷ os) = (outcome_block o ≡ b) × AreOf blocks os
 
 abbrev pub IsEnded : Outcome → Type 0
 IsEnded o = is_ended o ≡ true

@@ -1,4 +1,4 @@
--- How a worker rewrites a block, and what it does with its part of the blocks.
+-- How a worker rewrites a block, and what it does with blocks one after the other.
 use Rattle.std.specs.Prelude.{◌≡◌, ◌≢◌, ℕ, ◌+◌, ◌<◌, ◌≤◌, ◌⊎◌, false, true, List, [], ◌∷◌, ◌++◌, length, Option, Some, Result, Err, OnOk, IfOk, IfErr}
 use Rattle.block_tag.specs.declared.tag.Fork.{Fork}
 use Rattle.block_tag.specs.declared.tag.Tag.{Tag}
@@ -28,7 +28,7 @@ use Rattle.backend_pass.specs.Passes.{KeepsCalls, KeepsLocks, KeepsMark, PassSta
 use Rattle.page_jobs.specs.declared.ending.JobError.{JobError}
 use Rattle.page_jobs.specs.declared.ending.JobError.TheVariants.{LogDown, LogFault, LogFull, Memory}
 use Rattle.page_jobs.specs.Parts.{MeetsFault, blocks_in}
-use Rattle.page_jobs.specs.Rewrites.{AreFrom, EachOutcome, IfRead, IsEnded, IsUnput, Outcome, Rule, StopsAtFailure, unsound, kept, refused, changed, outcome_block, outcome_calls, calls_for, outcome_totals, rule_of, result_of}
+use Rattle.page_jobs.specs.Rewrites.{AreOf, EachOutcome, IfRead, IsEnded, IsUnput, Outcome, Rule, StopsAtFailure, unsound, kept, refused, changed, outcome_block, outcome_calls, calls_for, outcome_totals, rule_of, result_of}
 
 -- what ends a job, by the refusal of a put
 abbrev pub fault_of_put : InsertError → JobError
@@ -103,6 +103,8 @@ module _ {L G : Type 0} (contents : L → Option Pages) (m : Manager L G) where
     pub after : PassState
     pub since : OnlyRises p.view before.view
     pub refuses : PutRefused (relations_of m.table) frame tag page why before.view after.view
+    -- and no device was called after that
+    pub until : q.view.device_calls ≡ after.view.device_calls
     pub met : q.view.met ≡ met_put (Err why) p.view.met
     pub shows : RefusalShows why q.view
     pub was : Page
@@ -151,43 +153,42 @@ module _ {L G : Type 0} (contents : L → Option Pages) (m : Manager L G) (rel :
     pub fault : fault_of_put why ≡ e
     pub fails : PutFails contents m (tag_of_parts rel fork block) p q why
 
-  -- why a worker of a rewrite ends before its end
+  -- why a worker of a rewrite ends before its end: there was no memory, and it met no fault; or it met this one; or its put was refused
   abbrev pub EndsRewriteFor : PassState → PassState → JobError → Type 0
-  EndsRewriteFor p q e = (e ≡ Memory) ⊎ (MeetsFault contents m rel fork p q e ⊎ PutIsRefused p q e)
+  EndsRewriteFor p q e = ((e ≡ Memory) × (q.view.met ≡ p.view.met)) ⊎ (MeetsFault contents m rel fork p q e ⊎ PutIsRefused p q e)
 
-  -- The blocks from `from` on were dealt with one after the other, with these outcomes, none at `to` or past it, and none after one whose put was refused: the calls are those of the outcomes and no others, and each page was read, and put, under its cleanup lock. The pass is the same one, without tokens, with its content locks as they were, and with its mark as it was where nothing was put
-  pub record RewritesBlocks (from to : ℕ) (os : List Outcome) (p q : PassState) : Type 0 where
+  -- These blocks were dealt with one after the other, or the first of them, with these outcomes, and none after one whose put was refused: the calls are those of the outcomes and no others, and each page was read, and put, under its cleanup lock. The pass is the same one, without tokens, with its content locks as they were, and with its mark as it was where nothing was put
+  pub record RewritesBlocks (blocks : List ℕ) (os : List Outcome) (p q : PassState) : Type 0 where
     pub goes : GoesOn contents m p q
     pub spent : q.tokens ≡ no_tokens
     pub locks : KeepsLocks p q
     pub mark : EachOutcome IsUnput os → KeepsMark p q
     pub calls : q.view.calls ≡ p.view.calls ++ calls_for (rule_of rel fork) os
-    pub order : AreFrom from os
+    pub order : AreOf blocks os
     pub follow : EachOutcome (FollowsRule contents m rel fork p.view.number) os
-    pub within : from + length os ≤ to
     pub stopped : StopsAtFailure os
     pub locked : AllUnderCleanup (rule_of rel fork) p.view.number p.view q.view p.view.calls os
 
   -- So it was with all of them: no put was refused, and no fault was met
-  pub record RewritesWhole (from to : ℕ) (os : List Outcome) (p q : PassState) : Type 0 where
-    pub blocks : RewritesBlocks from to os p q
-    pub whole : from + length os ≡ to
+  pub record RewritesWhole (blocks : List ℕ) (os : List Outcome) (p q : PassState) : Type 0 where
+    pub course : RewritesBlocks blocks os p q
+    pub whole : length os ≡ length blocks
     pub ended : EachOutcome IsEnded os
     pub met : q.view.met ≡ p.view.met
 
-  -- A worker has rewritten its part, and counted what came of its blocks
-  pub record RewritesPart (from to : ℕ) (p q : PassState) (t u : RewriteTotals) (end : Result Unit JobError) : Type 0 where
+  -- A worker has dealt with these blocks, and counted what came of them
+  pub record CountsRewrites (blocks : List ℕ) (p q : PassState) (t u : RewriteTotals) (end : Result Unit JobError) : Type 0 where
     pub outcomes : List Outcome
-    pub blocks : RewritesBlocks from to outcomes p q
+    pub course : RewritesBlocks blocks outcomes p q
     pub within : IsRewriteWithin u u.blocks
     pub few : u.blocks ≤ t.blocks + length outcomes
-    pub whole : OnOk end (RewritesWhole from to outcomes p q)
+    pub whole : OnOk end (RewritesWhole blocks outcomes p q)
     pub totals : OnOk end (u ≡ sum_of_rewrite_totals t (outcome_totals outcomes))
     pub cause : IfErr end (EndsRewriteFor p q)
 
   -- A block was rewritten, or not, for this reason
   pub record RewritesBlock (block : ℕ) (p q : PassState) (r : Result PageRewrite JobError) : Type 0 where
     pub outcomes : List Outcome
-    pub blocks : RewritesBlocks block (block + 1) outcomes p q
+    pub course : RewritesBlocks (block ∷ []) outcomes p q
     pub done : IfOk r (λ what. (length outcomes ≡ 1) × EachOutcome (λ o. (what ≡ result_of o) × IsEnded o) outcomes × (q.view.met ≡ p.view.met))
     pub cause : IfErr r (EndsRewriteFor p q)

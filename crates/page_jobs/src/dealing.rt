@@ -1,47 +1,42 @@
 //! Passes become the workers of a job, and are given back.
-ghost use Rattle.std.specs.Prelude.{◌≡◌, ◌+◌, ◌<◌, ◌≤◌, ◌^◌, [], IfOk, OnErr, map, length, vec_capacity, vec_len};
+ghost use Rattle.std.specs.Prelude.{◌≡◌, ℕ, ◌+◌, ◌<◌, ◌≤◌, ◌^◌, [], All, IfOk, OnErr, map, length, vec_capacity, vec_len};
+ghost use Rattle.grid.specs.Shape.{total};
+ghost use Rattle.chunk_claims.specs.Claims.{SitsAt};
 ghost use Rattle.page_jobs.specs.declared.working.Worker.{Worker};
-ghost use Rattle.page_jobs.specs.Dealt.{AreDealt};
-ghost use Rattle.page_jobs.specs.Parts.{part_start};
+ghost use Rattle.page_jobs.specs.Dealt.{AreDealt, HasWorkedSeat, IsDealing, total_drawn};
 ghost use Rattle.page_jobs.specs.Working.{CanBegin};
 
 use crate::working::{BlockTask, Worker};
+use atomic_table::Seat;
 use backend_pass::Pass;
+use chunk_claims::{Claimant, Claims};
 use log_device::LogDevice;
 use segment_store::BlockLane;
 use std::alloc::{AllocError, Global};
 
-/// Where the part of a worker begins, of so many; that of the number past the last one is where the last part ends.
-fn part_start(blocks: u32, workers: u32, number: u32) -> u32
-    requires { (0 < workers) × (number ≤ workers) }
-    ensures { result ≡ part_start blocks workers number }
-{
-    (u64::from(number) * u64::from(blocks) / u64::from(workers)) as u32
-}
-
-/// Each pass becomes a worker, with its part of the blocks and a task of its own. The passes' room stays.
+/// Each pass becomes a worker, with a seat and a task of its own. The passes' room stays, and the first seat is left with no part.
 pub(crate) fn deal<L: BlockLane, G: LogDevice, K: BlockTask<L, G>>(
     alloc: Global,
-    blocks: u32,
+    claims: &Claims,
+    seat: &mut Seat<(), Claimant>,
     passes: &mut Vec<Pass>,
     task: &K,
 ) -> Result<Vec<Worker<K>>, AllocError>
-    requires some { 0 < vec_len passes.old }
     requires few { vec_len passes.old < 2 ^ 16 }
-    ensures dealt { IfOk result (λ workers. AreDealt (λ k. K.begins task.now k × CanBegin K.fits k) blocks (vec_len passes.old) 0 passes.old.items workers.items
+    requires seat { SitsAt claims.now.table.shared.table_id seat.old × IsDealing claims.now.chunks claims.now.workers (vec_len passes.old) seat.old.me.0 }
+    ensures dealt { IfOk result (λ workers. AreDealt (λ k. K.begins task.now k × CanBegin K.fits k) claims.now 0 passes.old.items workers.items
         × (passes.new.items ≡ []) × (vec_len workers ≡ vec_len passes.old)) }
+    ensures seat { IfOk result (λ _. SitsAt claims.now.table.shared.table_id seat.new × IsDealing claims.now.chunks claims.now.workers 0 seat.new.me.0) }
     ensures refused { OnErr result (passes.new.items ≡ passes.old.items) }
     ensures capacity { vec_capacity passes.new ≡ vec_capacity passes.old }
 {
-    let count = passes.len() as u32;
     let mut workers = Vec::with_capacity(alloc, passes.len())?;
     while let Some(pass) = passes.pop() {
         let number = passes.len() as u32;
         workers.push_reserved(Worker {
             number,
             pass,
-            from: part_start(blocks, count, number),
-            to: part_start(blocks, count, number + 1),
+            seat: claims.split(seat),
             task: task.begin(alloc),
             end: Ok(()),
         });
@@ -50,22 +45,32 @@ pub(crate) fn deal<L: BlockLane, G: LogDevice, K: BlockTask<L, G>>(
     Ok(workers)
 }
 
-/// The workers end, and give their passes back.
-pub(crate) fn gather<K: Drop>(mut workers: Vec<Worker<K>>, passes: &mut Vec<Pass>)
+/// The workers end, and give their passes and seats back.
+pub(crate) fn gather<K: Drop>(
+    claims: &Claims,
+    seat: &mut Seat<(), Claimant>,
+    mut workers: Vec<Worker<K>>,
+    passes: &mut Vec<Pass>,
+)
+    requires seat { SitsAt claims.now.table.shared.table_id seat.old × IsDealing claims.now.chunks claims.now.workers 0 seat.old.me.0 }
+    requires seats { All (HasWorkedSeat claims.now) workers.items }
     requires none { passes.old.items ≡ [] }
     requires room { vec_len workers ≤ vec_capacity passes.old }
     ensures passes { passes.new.items ≡ map (λ (w : Worker K). w.pass) workers.items }
     ensures capacity { vec_capacity passes.new ≡ vec_capacity passes.old }
+    ensures seat { SitsAt claims.now.table.shared.table_id seat.new }
+    ensures parts { (seat.new.me.0.parts ≡ vec_len workers) × (seat.new.me.0.workers ≡ claims.now.workers) }
+    ensures drawn { (g : ℕ → ℕ) → total g seat.new.me.0.drawn ≡ total_drawn g workers.items }
 {
     while let Some(worker) = workers.pop() {
         let Worker {
             number: _,
             pass,
-            from: _,
-            to: _,
+            seat: theirs,
             task: _,
             end: _,
         } = worker;
+        claims.join(seat, theirs);
         passes.push_reserved(pass);
     }
     workers.destroy_empty();

@@ -1,4 +1,4 @@
-//! Jobs over all blocks of a relation, by several backends of a manager: scans, dumps and rewrites. Each backend works in a thread of its own, on a part of the blocks.
+//! Jobs over all blocks of a relation, by several backends of a manager: scans, dumps and rewrites. Each backend works in a thread of its own, on the chunks of blocks that it claims.
 #![tactic(auto)]
 
 mod beside;

@@ -2,16 +2,17 @@
 ghost use Rattle.std.specs.Prelude.{◌≡◌, ◌≤◌, ◌⊎◌, ◌^◌, Ok, Err, IfErr, IfOk, OnOk, vec_len};
 ghost use Rattle.page_jobs.specs.Beside.{LastDid, StaysBeside};
 ghost use Rattle.page_jobs.specs.Completeness.{IsDoneFullOrMemory, IsDoneFullShortOrMemory, NoDeviceFailsIn, NothingFailsIn};
-ghost use Rattle.page_jobs.specs.Dealt.{AllDone};
+ghost use Rattle.page_jobs.specs.Dealt.{AllDone, EndsFirst};
 ghost use Rattle.page_jobs.specs.Ending.{totals_of_rewrite};
 ghost use Rattle.page_jobs.specs.Jobs.{HaveNoTokens, workers_in};
 ghost use Rattle.page_jobs.specs.Relations.{MeetNothing};
-ghost use Rattle.page_jobs.specs.Rewriters.{AreRewritesCounted, EndsFirst, rewritten_totals};
+ghost use Rattle.page_jobs.specs.Rewriters.{AreRewritesCounted, rewritten_totals};
 ghost use Rattle.page_jobs.specs.RewriteJobs.{EndsRewrite, RewriteParts, RewritesFork};
 
 use crate::beside::Beside;
 use crate::ending::{JobEnd, JobError, Totals};
 use crate::gate::Gate;
+use crate::puts::first_fault;
 use crate::rewriting::Rewriter;
 use crate::running::run_job;
 use crate::working::{ForkBlocks, Worker};
@@ -24,31 +25,36 @@ use std::alloc::Global;
 use std::sync::Wait;
 use std::thread::Threads;
 
-/// The totals of all workers, or why the first of those ended that didn't rewrite its whole part; where all did, why the work beside them was refused.
-fn sum_rewritten(
+/// The totals of all workers.
+fn sum_rewritten(workers: &[Worker<Rewriter>]) -> RewriteTotals
+    requires counts { AreRewritesCounted workers.now }
+    requires few { (rewritten_totals workers.now).blocks ≤ 2 ^ 40 }
+    ensures { result ≡ rewritten_totals workers.now }
+{
+    let mut totals = RewriteTotals::none();
+    for worker in workers {
+        totals.add(&worker.task.totals);
+    }
+    totals
+}
+
+/// How a rewrite ends: with the totals of all workers; or as the first of the workers that failed; or, where none did, as the work beside them.
+fn end_rewrite(
     workers: &[Worker<Rewriter>],
     beside_end: Result<(), JobError>,
 ) -> Result<Totals, JobError>
     requires counts { AreRewritesCounted workers.now }
-    requires few { (rewritten_totals workers.now).blocks ≤ 2 ^ 32 }
+    requires few { (rewritten_totals workers.now).blocks ≤ 2 ^ 40 }
     ensures done { IfOk result (λ totals. (totals ≡ totals_of_rewrite (rewritten_totals workers.now)) × AllDone workers.now) }
     ensures beside { OnOk result (beside_end ≡ Ok tt) }
     ensures cause { IfErr result (λ e. EndsFirst e workers.now ⊎ (AllDone workers.now × (beside_end ≡ Err e))) }
 {
-    let mut totals = RewriteTotals::none();
-    for worker in workers {
-        if let Err(error) = worker.end {
-            return Err(error);
-        }
-        totals.add(&worker.task.totals);
-    }
-    if let Err(error) = beside_end {
-        return Err(error);
-    }
-    Ok(Totals::of_rewrite(totals))
+    first_fault(workers)?;
+    beside_end?;
+    Ok(Totals::of_rewrite(sum_rewritten(workers)))
 }
 
-/// Rewrites the blocks of a fork, each under its cleanup lock: the page of a block that the rule changes is put into the log and into its frame (`lazy_vacuum_heap_page`). All passes are given, of which all but the last work, each on its part of the blocks, and the last one does other work beside them; all are given back.
+/// Rewrites the blocks of a fork, each under its cleanup lock: the page of a block that the rule changes is put into the log and into its frame (`lazy_vacuum_heap_page`). All passes are given, of which all but the last work, each on the chunks of eight blocks that it claims, and the last one does other work beside them; all are given back.
 pub fn rewrite<
     L: BlockLane + Send,
     G: LogDevice + Send,
@@ -92,7 +98,7 @@ pub fn rewrite<
         beside,
     ) {
         Ok(ran) => {
-            let end = sum_rewritten(&ran.workers, ran.beside_end);
+            let end = end_rewrite(&ran.workers, ran.beside_end);
             ran.give_back(end)
         }
         Err(passes) => JobEnd {

@@ -1,5 +1,5 @@
 //! A worker rewrites a block. All calls of the pass are made here.
-ghost use Rattle.std.specs.Prelude.{◌≡◌, ◌<◌, ◌≤◌, ◌+◌, ◌^◌, IfErr, IfOk};
+ghost use Rattle.std.specs.Prelude.{◌≡◌, ◌<◌, ◌≤◌, ◌+◌, ◌^◌, [], ◌∷◌, Ok, IfErr, IfOk};
 ghost use Rattle.block_tag.specs.Catalogue.{blocks_at};
 ghost use Rattle.pin_core.specs.declared.view.Content.TheVariants as content;
 ghost use Rattle.held_pins.specs.Tokens.{IsPinnedFor, no_tokens, tokens_less};
@@ -8,7 +8,7 @@ ghost use Rattle.backend_pass.specs.Managers.{Belongs};
 ghost use Rattle.page_layout.specs.Outcomes.{IsRewriteWithin, no_rewrite_totals};
 ghost use Rattle.frame_table.specs.Seats.{relations_of};
 ghost use Rattle.page_jobs.specs.Reads.{HasNoTokens, RefusesBlock};
-ghost use Rattle.page_jobs.specs.Rewriting.{LocksOne, RewritesBlock, RewritesHeld, RewritesLocked, RewritesPart, fault_of_put};
+ghost use Rattle.page_jobs.specs.Rewriting.{CountsRewrites, LocksOne, RewritesBlock, RewritesHeld, RewritesLocked, fault_of_put};
 
 use crate::ending::JobError;
 use crate::gate::Gate;
@@ -153,7 +153,9 @@ impl Rewriter {
 }
 
 impl<L: BlockLane, G: LogDevice> BlockTask<L, G> for Rewriter {
-    ghost does = { λ m rel fork block p q k l end. RewritesPart L.contents m rel fork block (block + 1) p q k.totals l.totals end };
+    ghost does = { λ m rel fork block p q k l end. CountsRewrites L.contents m rel fork (block ∷ []) p q k.totals l.totals end };
+
+    ghost closes = { λ _ k l end. (l ≡ k) × (end ≡ Ok tt) };
 
     ghost begins = { λ _ l. l.totals ≡ no_rewrite_totals };
 
@@ -181,6 +183,10 @@ impl<L: BlockLane, G: LogDevice> BlockTask<L, G> for Rewriter {
     ) -> Result<(), JobError> {
         let what = rewrite_block(manager, rt, gate, worker, pass, tag, buffers)?;
         self.totals.count(&what);
+        Ok(())
+    }
+
+    fn end_chunk(&mut self, _alloc: Global, _chunk: u32) -> Result<(), JobError> {
         Ok(())
     }
 }

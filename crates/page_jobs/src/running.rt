@@ -1,9 +1,12 @@
 //! A job from its passes to its workers' ends, whatever it does with the blocks.
-ghost use Rattle.std.specs.Prelude.{◌≡◌, ℕ, true, ◌+◌, ◌<◌, ◌≤◌, ◌++◌, [], ◌∷◌, Ok, IfErr, IfOk, OnOk, map, vec_capacity, vec_len, All};
+ghost use Rattle.std.specs.Prelude.{◌≡◌, ℕ, true, ◌+◌, ◌<◌, ◌≤◌, ◌++◌, [], ◌∷◌, ◌^◌, Ok, IfErr, IfOk, OnErr, OnOk, map, vec_capacity, vec_len, All};
+ghost use Rattle.grid.specs.Shape.{total};
+ghost use Rattle.chunk_claims.specs.Claims.{SitsAt, sum_below};
 ghost use Rattle.block_tag.specs.Names.{names_block, tag_of_parts};
 ghost use Rattle.page_jobs.specs.declared.working.Worker.{Worker};
 ghost use Rattle.page_jobs.specs.Beside.{EndsBeside};
-ghost use Rattle.page_jobs.specs.Dealt.{HasRun, IsReady};
+ghost use Rattle.page_jobs.specs.Chunks.{chunk_count};
+ghost use Rattle.page_jobs.specs.Dealt.{HasRun, HasWorkedSeat, IsDealing, IsDealtOut, IsReady, total_drawn};
 ghost use Rattle.page_jobs.specs.Jobs.{HaveNoTokens};
 ghost use Rattle.page_jobs.specs.Parts.{blocks_in};
 ghost use Rattle.page_jobs.specs.Reads.{HasNoTokens};
@@ -13,11 +16,13 @@ use crate::beside::{Beside, work_last};
 use crate::dealing::{deal, gather};
 use crate::ending::{JobEnd, JobError, Totals};
 use crate::gate::Gate;
-use crate::working::{BlockTask, ForkBlocks, Worker, work};
+use crate::working::{BlockTask, ForkBlocks, Worker, chunk_count, work};
+use atomic_table::Seat;
 use backend_pass::{Manager, Pass};
+use chunk_claims::{Claimant, Claims};
 use log_device::LogDevice;
 use segment_store::BlockLane;
-use std::alloc::Global;
+use std::alloc::{AllocError, Global};
 use std::sync::Wait;
 use std::thread;
 use std::thread::Threads;
@@ -28,6 +33,8 @@ pub(crate) struct Ran<K> {
     pub(crate) beside_end: Result<(), JobError>,
     last: Pass,
     passes: Vec<Pass>,
+    claims: Claims,
+    seat: Seat<(), Claimant>,
 }
 
 /// All workers at once, each in a thread of its own where one can be made.
@@ -43,19 +50,22 @@ fn work_all<
     alloc: Global,
     gate: &T,
     blocks: ForkBlocks,
+    claims: &Claims,
     workers: &mut Vec<Worker<K>>,
 )
     requires some { 0 < vec_len workers.old }
-    requires ready { All (IsReady L.contents manager.now blocks.rel.0 blocks.fork K.fits) workers.old.items }
+    requires chunks { claims.now.chunks ≡ chunk_count (blocks_in manager.now blocks.rel.0 blocks.fork) }
+    requires ready { All (IsReady L.contents manager.now claims.now K.fits) workers.old.items }
     ensures count { vec_len workers.new ≡ vec_len workers.old }
-    ensures worked { HaveWorked (K.does manager.now blocks.rel.0 blocks.fork) workers.old.items workers.new.items }
+    ensures worked { HaveWorked (K.does manager.now blocks.rel.0 blocks.fork) K.closes (blocks_in manager.now blocks.rel.0 blocks.fork) workers.old.items workers.new.items }
+    ensures seats { All (HasWorkedSeat claims.now) workers.new.items }
 {
     let threads = workers.len();
     thread::for_each_mut(
         rt,
         workers.as_mut_slice(),
         threads,
-        &|_place, worker| { work(manager, rt, alloc, gate, blocks, worker) },
+        &|_place, worker| { work(manager, rt, alloc, gate, blocks, claims, worker) },
     );
 }
 
@@ -74,14 +84,17 @@ fn work_beside<
     workers: &mut Vec<Worker<K>>,
     last: &mut Pass,
     blocks: ForkBlocks,
+    claims: &Claims,
     gate: &T,
     beside: &mut B,
 ) -> Result<(), JobError>
     requires some { 0 < vec_len workers.old }
-    requires ready { All (IsReady L.contents manager.now blocks.rel.0 blocks.fork K.fits) workers.old.items }
+    requires chunks { claims.now.chunks ≡ chunk_count (blocks_in manager.now blocks.rel.0 blocks.fork) }
+    requires ready { All (IsReady L.contents manager.now claims.now K.fits) workers.old.items }
     requires free { HasNoTokens L.contents manager.now last.old }
     ensures count { vec_len workers.new ≡ vec_len workers.old }
-    ensures worked { HaveWorked (K.does manager.now blocks.rel.0 blocks.fork) workers.old.items workers.new.items }
+    ensures worked { HaveWorked (K.does manager.now blocks.rel.0 blocks.fork) K.closes (blocks_in manager.now blocks.rel.0 blocks.fork) workers.old.items workers.new.items }
+    ensures seats { All (HasWorkedSeat claims.now) workers.new.items }
     ensures beside { EndsBeside L.contents manager.now last.old last.new result }
     ensures works { OnOk result (B.works manager.now beside.old beside.new last.old last.new (Ok tt)) }
 {
@@ -89,16 +102,46 @@ fn work_beside<
         rt,
         &mut ||
             requires { (0 < vec_len workers.now)
-                × All (IsReady L.contents manager.now blocks.rel.0 blocks.fork K.fits) workers.now.items }
+                × (claims.now.chunks ≡ chunk_count (blocks_in manager.now blocks.rel.0 blocks.fork))
+                × All (IsReady L.contents manager.now claims.now K.fits) workers.now.items }
             ensures { (vec_len workers.exit.now ≡ vec_len workers.entry.now)
-                × HaveWorked (K.does manager.entry.now blocks.rel.0 blocks.fork) workers.entry.now.items workers.exit.now.items }
-        { work_all(manager, rt, alloc, gate, blocks, workers) },
+                × HaveWorked (K.does manager.entry.now blocks.rel.0 blocks.fork) K.closes (blocks_in manager.entry.now blocks.rel.0 blocks.fork) workers.entry.now.items workers.exit.now.items
+                × All (HasWorkedSeat claims.entry.now) workers.exit.now.items }
+        { work_all(manager, rt, alloc, gate, blocks, claims, workers) },
         &mut || work_last(manager, rt, last, beside),
     );
     end
 }
 
-/// Runs a job to its workers' ends: all passes but the last one work, each on its part of the blocks, and the last one does other work beside them. Out of memory, the passes are given back.
+/// The claims of a job's chunks, and its workers.
+struct Dealt<K> {
+    claims: Claims,
+    seat: Seat<(), Claimant>,
+    workers: Vec<Worker<K>>,
+}
+
+/// Each pass becomes a worker, which claims chunks of so many blocks.
+fn deal_out<L: BlockLane, G: LogDevice, K: BlockTask<L, G>>(
+    alloc: Global,
+    blocks: u32,
+    passes: &mut Vec<Pass>,
+    task: &K,
+) -> Result<Dealt<K>, AllocError>
+    requires few { vec_len passes.old < 2 ^ 16 }
+    ensures dealt { IfOk result (λ dealt. IsDealtOut (λ k. K.begins task.now k × CanBegin K.fits k) blocks passes.old.items dealt × (passes.new.items ≡ [])) }
+    ensures refused { OnErr result (passes.new.items ≡ passes.old.items) }
+    ensures capacity { vec_capacity passes.new ≡ vec_capacity passes.old }
+{
+    let (claims, mut seat) = Claims::build(alloc, chunk_count(blocks), passes.len() as u32)?;
+    let workers = deal(alloc, &claims, &mut seat, passes, task)?;
+    Ok(Dealt {
+        claims,
+        seat,
+        workers,
+    })
+}
+
+/// Runs a job to its workers' ends: all passes but the last one work, each on the chunks that it claims, and the last one does other work beside them. Out of memory, the passes are given back.
 pub(crate) fn run_job<
     L: BlockLane + Send,
     G: LogDevice + Send,
@@ -119,29 +162,37 @@ pub(crate) fn run_job<
     requires several { 2 ≤ vec_len passes }
     requires few { vec_len passes ≤ 64 }
     requires free { HaveNoTokens L.contents manager.now passes.items }
-    ensures ran { IfOk result (HasRun L.contents manager.now blocks.rel.0 blocks.fork (K.does manager.now blocks.rel.0 blocks.fork) (λ k. K.begins task.now k × CanBegin K.fits k) (λ p q. B.works manager.now beside.old beside.new p q (Ok tt)) passes.items) }
+    ensures ran { IfOk result (HasRun L.contents manager.now blocks.rel.0 blocks.fork (K.does manager.now blocks.rel.0 blocks.fork) K.closes (λ k. K.begins task.now k × CanBegin K.fits k) (λ p q. B.works manager.now beside.old beside.new p q (Ok tt)) passes.items) }
     ensures refused { IfErr result (λ given. given.items ≡ passes.items) }
     ensures named { (block : ℕ) → block < blocks_in manager.now blocks.rel.0 blocks.fork → names_block (tag_of_parts blocks.rel.0 blocks.fork block) ≡ true }
 {
     let mut last = passes.take_last();
     let count = manager.blocks(blocks.rel, blocks.fork);
-    match deal(alloc, count, &mut passes, task) {
-        Ok(mut workers) => {
+    match deal_out(alloc, count, &mut passes, task) {
+        Ok(mut dealt) => {
             let beside_end = work_beside(
                 manager,
                 rt,
                 alloc,
-                &mut workers,
+                &mut dealt.workers,
                 &mut last,
                 blocks,
+                &dealt.claims,
                 gate,
                 beside,
             );
+            let Dealt {
+                claims,
+                seat,
+                workers,
+            } = dealt;
             Ok(Ran {
                 workers,
                 beside_end,
                 last,
                 passes,
+                claims,
+                seat,
             })
         }
         Err(_) => {
@@ -156,6 +207,10 @@ impl<K: Drop> Ran<K> {
     pub(crate) fn give_back(self, end: Result<Totals, JobError>) -> JobEnd
         requires none { self.passes.items ≡ [] }
         requires room { vec_len self.workers < vec_capacity self.passes }
+        requires seats { All (HasWorkedSeat self.claims) self.workers.items × (vec_len self.workers ≡ self.claims.workers) × (0 < vec_len self.workers) }
+        requires seat { SitsAt self.claims.table.shared.table_id self.seat × IsDealing self.claims.chunks self.claims.workers 0 self.seat.me.0 }
+        // The numbers that the workers drew are those below one, each once.
+        ensures once { (word : ℕ) × ((g : ℕ → ℕ) → total_drawn g self.workers.items ≡ sum_below word g) }
         ensures passes { result.passes.items ≡ map (λ (w : Worker K). w.pass) self.workers.items ++ self.last ∷ [] }
         ensures end { result.end ≡ end }
     {
@@ -164,8 +219,11 @@ impl<K: Drop> Ran<K> {
             beside_end: _,
             last,
             mut passes,
+            claims,
+            mut seat,
         } = self;
-        gather(workers, &mut passes);
+        gather(&claims, &mut seat, workers, &mut passes);
+        let _drawn = claims.claimed(&mut seat);
         passes.push_reserved(last);
         JobEnd { passes, end }
     }

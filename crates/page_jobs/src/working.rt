@@ -6,13 +6,17 @@ ghost use Rattle.backend_pass.specs.Passes.{PassState};
 ghost use Rattle.page_jobs.specs.declared.ending.JobError.{JobError};
 ghost use Rattle.page_jobs.specs.Parts.{blocks_in};
 ghost use Rattle.page_jobs.specs.Reads.{HasNoTokens};
-ghost use Rattle.page_jobs.specs.Working.{CanBegin, WorksPart};
+ghost use Rattle.chunk_claims.specs.Claims.{SitsAt};
+ghost use Rattle.page_jobs.specs.Chunks.{chunk_count, chunk_size};
+ghost use Rattle.page_jobs.specs.Working.{CanBegin, CanCount, ClaimsNothing, DoesUpTo, WorksChunk, WorksChunks};
 
 use crate::ending::JobError;
 use crate::gate::Gate;
 use access_rings::Ring;
+use atomic_table::Seat;
 use backend_pass::{Manager, Pass};
 use block_tag::{Fork, RelNo, Tag};
+use chunk_claims::{Claimant, Claims};
 use log_device::LogDevice;
 use page_layout::Page;
 use segment_store::BlockLane;
@@ -31,6 +35,9 @@ pub(crate) struct Buffers {
 pub(crate) trait BlockTask<L: BlockLane, G: LogDevice> {
     // What was done with a block of the fork, between two states of the pass and of the task, and how that ended.
     ghost does: { Manager L G → ℕ → Fork → ℕ → PassState → PassState → Self → Self → Result Unit JobError → Type 0 };
+
+    // What was done at the end of a chunk, between two states of the task, and how that ended.
+    ghost closes: { ℕ → Self → Self → Result Unit JobError → Type 0 };
 
     // The second one is the task of a worker that begins, where the first one is the job's.
     ghost begins: { Self → Self → Type 0 };
@@ -65,6 +72,11 @@ pub(crate) trait BlockTask<L: BlockLane, G: LogDevice> {
         ensures does { does manager.now tag.rel.0 tag.fork tag.block pass.old pass.new self.old self.new result }
         ensures free { OnOk result (HasNoTokens L.contents manager.now pass.new) }
         ensures fits { OnOk result ((n : ℕ) → fits self.old (n + 1) → fits self.new n) };
+
+    /// All blocks of the chunk of this number are dealt with.
+    fn end_chunk(&mut self, alloc: Global, chunk: u32) -> Result<(), JobError>
+        ensures closes { closes chunk self.old self.new result }
+        ensures fits { OnOk result ((n : ℕ) → fits self.old n → fits self.new n) };
 }
 
 /// The blocks that a job works on: those of a fork.
@@ -74,38 +86,46 @@ pub(crate) struct ForkBlocks {
     pub(crate) fork: Fork,
 }
 
-/// A backend that works on a part of the blocks, from `from` up to, not including, `to`.
+/// A backend that claims chunks of the blocks, and deals with each.
 pub(crate) struct Worker<K> {
     pub(crate) number: u32,
     pub(crate) pass: Pass,
-    pub(crate) from: u32,
-    pub(crate) to: u32,
+    pub(crate) seat: Seat<(), Claimant>,
     pub(crate) task: K,
     pub(crate) end: Result<(), JobError>,
 }
 
-/// The blocks of the worker's part, in order, up to the first that the task fails at.
-fn work_part<L: BlockLane, G: LogDevice, R: Wait, T: Gate, K: BlockTask<L, G>>(
+/// How many chunks so many blocks have.
+pub(crate) fn chunk_count(blocks: u32) -> u32
+    ensures { result ≡ chunk_count blocks }
+{
+    ((u64::from(blocks) + 7) / 8) as u32
+}
+
+/// The blocks of a chunk, in order, up to the first that the task fails at.
+fn work_blocks<L: BlockLane, G: LogDevice, R: Wait, T: Gate, K: BlockTask<L, G>>(
     manager: &Manager<L, G>,
     rt: &R,
     alloc: Global,
     gate: &T,
     blocks: ForkBlocks,
+    count: u32,
+    chunk: u32,
     worker: &mut Worker<K>,
+    buffers: &mut Buffers,
 ) -> Result<(), JobError>
     requires free { HasNoTokens L.contents manager.now worker.old.pass }
-    requires part { (worker.old.from ≤ worker.old.to) × (worker.old.to ≤ blocks_in manager.now blocks.rel.0 blocks.fork) }
-    requires fits { CanBegin K.fits worker.old.task }
-    ensures same { (worker.new.number ≡ worker.old.number) × (worker.new.from ≡ worker.old.from) × (worker.new.to ≡ worker.old.to) }
-    ensures works { WorksPart (K.does manager.now blocks.rel.0 blocks.fork) worker.old.from worker.old.to worker.old.pass worker.new.pass worker.old.task worker.new.task result }
+    requires count { count ≡ blocks_in manager.now blocks.rel.0 blocks.fork }
+    requires chunk { chunk < chunk_count count }
+    requires fits { CanCount K.fits worker.old.task (chunk_size count chunk) }
+    ensures same { (worker.new.number ≡ worker.old.number) × (worker.new.seat ≡ worker.old.seat) }
+    ensures does { DoesUpTo (K.does manager.now blocks.rel.0 blocks.fork) count chunk worker.old.pass worker.new.pass worker.old.task worker.new.task result }
+    ensures free { OnOk result (HasNoTokens L.contents manager.now worker.new.pass) }
+    ensures fits { OnOk result ((n : ℕ) → CanCount K.fits worker.old.task (n + chunk_size count chunk) → CanCount K.fits worker.new.task n) }
 {
-    let count = manager.blocks(blocks.rel, blocks.fork);
-    let mut buffers = Buffers {
-        page: Page::zeroed(alloc)?,
-        after: Page::zeroed(alloc)?,
-        ring: worker.task.ring(alloc, count, manager.frames())?,
-    };
-    for block in worker.from..worker.to {
+    let from = chunk * 8;
+    let to = from + (count - from).min(8);
+    for block in from..to {
         gate.before(worker.number, block);
         let tag = Tag {
             rel: blocks.rel,
@@ -120,10 +140,82 @@ fn work_part<L: BlockLane, G: LogDevice, R: Wait, T: Gate, K: BlockTask<L, G>>(
             worker.number,
             &mut worker.pass,
             tag,
-            &mut buffers,
+            buffers,
         )?;
     }
     Ok(())
+}
+
+/// The blocks of a chunk, and then its end.
+fn work_chunk<L: BlockLane, G: LogDevice, R: Wait, T: Gate, K: BlockTask<L, G>>(
+    manager: &Manager<L, G>,
+    rt: &R,
+    alloc: Global,
+    gate: &T,
+    blocks: ForkBlocks,
+    count: u32,
+    chunk: u32,
+    worker: &mut Worker<K>,
+    buffers: &mut Buffers,
+) -> Result<(), JobError>
+    requires free { HasNoTokens L.contents manager.now worker.old.pass }
+    requires count { count ≡ blocks_in manager.now blocks.rel.0 blocks.fork }
+    requires chunk { chunk < chunk_count count }
+    requires fits { CanCount K.fits worker.old.task (chunk_size count chunk) }
+    ensures same { (worker.new.number ≡ worker.old.number) × (worker.new.seat ≡ worker.old.seat) }
+    ensures works { WorksChunk (K.does manager.now blocks.rel.0 blocks.fork) K.closes count chunk worker.old.pass worker.new.pass worker.old.task worker.new.task result }
+    ensures free { OnOk result (HasNoTokens L.contents manager.now worker.new.pass) }
+    ensures fits { OnOk result ((n : ℕ) → CanCount K.fits worker.old.task (n + chunk_size count chunk) → CanCount K.fits worker.new.task n) }
+{
+    work_blocks(
+        manager, rt, alloc, gate, blocks, count, chunk, worker, buffers,
+    )?;
+    worker.task.end_chunk(alloc, chunk)
+}
+
+/// Chunks are claimed until none is left, up to the first that the task fails in.
+fn work_chunks<L: BlockLane, G: LogDevice, R: Wait, T: Gate, K: BlockTask<L, G>>(
+    manager: &Manager<L, G>,
+    rt: &R,
+    alloc: Global,
+    gate: &T,
+    blocks: ForkBlocks,
+    claims: &Claims,
+    worker: &mut Worker<K>,
+) -> Result<(), JobError>
+    requires free { HasNoTokens L.contents manager.now worker.old.pass }
+    requires chunks { claims.now.chunks ≡ chunk_count (blocks_in manager.now blocks.rel.0 blocks.fork) }
+    requires seat { SitsAt claims.now.table.shared.table_id worker.old.seat }
+    requires claims { ClaimsNothing claims.now.chunks claims.now.workers worker.old.seat.me.0 }
+    requires fits { CanBegin K.fits worker.old.task }
+    ensures same { worker.new.number ≡ worker.old.number }
+    ensures seat { SitsAt claims.now.table.shared.table_id worker.new.seat }
+    ensures part { (worker.new.seat.me.0.parts ≡ 1) × (worker.new.seat.me.0.workers ≡ claims.now.workers) }
+    ensures works { WorksChunks (K.does manager.now blocks.rel.0 blocks.fork) K.closes (blocks_in manager.now blocks.rel.0 blocks.fork) worker.new.seat.me.0.drawn worker.old.pass worker.new.pass worker.old.task worker.new.task result }
+{
+    let count = manager.blocks(blocks.rel, blocks.fork);
+    let mut buffers = Buffers {
+        page: Page::zeroed(alloc)?,
+        after: Page::zeroed(alloc)?,
+        ring: worker.task.ring(alloc, count, manager.frames())?,
+    };
+    for _ in rt.forever() {
+        let Some(chunk) = claims.claim(&mut worker.seat) else {
+            return Ok(());
+        };
+        work_chunk(
+            manager,
+            rt,
+            alloc,
+            gate,
+            blocks,
+            count,
+            chunk,
+            worker,
+            &mut buffers,
+        )?;
+    }
+    unreachable!()
 }
 
 /// The same, with its end noted.
@@ -133,13 +225,18 @@ pub(crate) fn work<L: BlockLane, G: LogDevice, R: Wait, T: Gate, K: BlockTask<L,
     alloc: Global,
     gate: &T,
     blocks: ForkBlocks,
+    claims: &Claims,
     worker: &mut Worker<K>,
 )
     requires free { HasNoTokens L.contents manager.now worker.old.pass }
-    requires part { (worker.old.from ≤ worker.old.to) × (worker.old.to ≤ blocks_in manager.now blocks.rel.0 blocks.fork) }
+    requires chunks { claims.now.chunks ≡ chunk_count (blocks_in manager.now blocks.rel.0 blocks.fork) }
+    requires seat { SitsAt claims.now.table.shared.table_id worker.old.seat }
+    requires claims { ClaimsNothing claims.now.chunks claims.now.workers worker.old.seat.me.0 }
     requires fits { CanBegin K.fits worker.old.task }
-    ensures same { (worker.new.number ≡ worker.old.number) × (worker.new.from ≡ worker.old.from) × (worker.new.to ≡ worker.old.to) }
-    ensures works { WorksPart (K.does manager.now blocks.rel.0 blocks.fork) worker.old.from worker.old.to worker.old.pass worker.new.pass worker.old.task worker.new.task worker.new.end }
+    ensures same { worker.new.number ≡ worker.old.number }
+    ensures seat { SitsAt claims.now.table.shared.table_id worker.new.seat }
+    ensures part { (worker.new.seat.me.0.parts ≡ 1) × (worker.new.seat.me.0.workers ≡ claims.now.workers) }
+    ensures works { WorksChunks (K.does manager.now blocks.rel.0 blocks.fork) K.closes (blocks_in manager.now blocks.rel.0 blocks.fork) worker.new.seat.me.0.drawn worker.old.pass worker.new.pass worker.old.task worker.new.task worker.new.end }
 {
-    worker.end = work_part(manager, rt, alloc, gate, blocks, worker);
+    worker.end = work_chunks(manager, rt, alloc, gate, blocks, claims, worker);
 }

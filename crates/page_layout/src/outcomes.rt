@@ -73,7 +73,7 @@ impl RewriteTotals {
     pub fn add(&mut self, other: &RewriteTotals)
         requires within { IsRewriteWithin self.now self.now.blocks }
         requires other_within { IsRewriteWithin other.now other.now.blocks }
-        requires room { self.now.blocks + other.now.blocks ≤ 2 ^ 32 }
+        requires room { self.now.blocks + other.now.blocks ≤ 2 ^ 40 }
         ensures added { self.exit.now ≡ sum_of_rewrite_totals self.entry.now other.now }
         ensures within { IsRewriteWithin self.exit.now (self.entry.now.blocks + other.now.blocks) }
         // So they are the totals of both lists of pages.

@@ -60,7 +60,7 @@ impl ScanTotals {
     pub fn add(&mut self, other: &ScanTotals)
         requires within { IsWithin self.now self.now.blocks }
         requires other_within { IsWithin other.now other.now.blocks }
-        requires room { self.now.blocks + other.now.blocks ≤ 2 ^ 32 }
+        requires room { self.now.blocks + other.now.blocks ≤ 2 ^ 40 }
         ensures added { self.exit.now ≡ sum_of_totals self.entry.now other.now }
         ensures within { IsWithin self.exit.now (self.entry.now.blocks + other.now.blocks) }
         // So they are the totals of both lists of pages.

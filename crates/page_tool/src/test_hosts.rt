@@ -13,8 +13,8 @@ use std::thread::Threads;
 /// The relation of most tests.
 pub(crate) const RELATION: &str = "base/5/16384";
 
-/// How many bytes each log has room for: its head and 64 records.
-const LOG_ROOM: usize = 16 + 64 * 8224;
+/// How many bytes each log has room for: its head and 65 records.
+const LOG_ROOM: usize = 16 + 65 * 8224;
 
 /// The calls of a run that are to fail, by their numbers from 1: those of a lane and of a log are
 /// numbered anew at each opening.

@@ -1,53 +1,85 @@
 //! Scans by several workers, and scans in which a call of a device fails.
 use crate::test_hosts::{Failing, NONE_FAIL, RELATION, answer_at, answer_of, host_of};
-use crate::test_pages::{one_item_page, with_bytes};
+use crate::test_pages::{dead_items_page, one_item_page, with_bytes};
 use backend_pass::Pinned;
 use page_jobs::Gate;
 use std::alloc::Global;
+use std::process::Abort;
+use std::sync::Wait;
 use std::sync::atomic::{AtomicBool, AtomicU64, Ordering};
 use std::test::Fail;
-use std::thread::yield_now;
+use std::thread::{Threads, yield_now};
 
-/// How often the first worker looks for the second before it gives up.
+/// How often a worker that is held looks for the other before it gives up.
 const TURNS: u32 = 10_000_000;
 
-/// Holds the first worker before its first block until the second worker has come. It counts the pins
-/// of blocks below 64, and adds up 1 << block of each: 64 pins that add up to all ones are one of each block.
+/// Which of two workers a gate holds, and until when.
+#[derive(Clone, Copy)]
+enum Holds {
+    /// Each, before its first block, until the other one has come.
+    Each,
+    /// The one that takes block 0, until block 8 was called, with which the next chunk begins.
+    BlockZero,
+}
+
+/// Holds workers. It counts the pins of blocks below 64, and adds up 1 << block of each: 64 pins that add up
+/// to all ones are one of each block.
 #[derive(Drop)]
 struct HoldingGate {
-    second_came: AtomicBool,
+    holds: Holds,
+    first_came: AtomicBool,
+    other_came: AtomicBool,
     gave_up: AtomicBool,
     pins: AtomicU64,
     sum: AtomicU64,
 }
 
 impl HoldingGate {
-    fn new() -> HoldingGate {
+    fn new(holds: Holds) -> HoldingGate {
         HoldingGate {
-            second_came: AtomicBool::new(false),
+            holds,
+            first_came: AtomicBool::new(false),
+            other_came: AtomicBool::new(false),
             gave_up: AtomicBool::new(false),
             pins: AtomicU64::new(0),
             sum: AtomicU64::new(0),
         }
     }
 
-    fn await_second(&self) {
+    fn wait_for(&self, came: &AtomicBool) {
         for _ in 0..TURNS {
-            if self.second_came.load(Ordering::SeqCst) {
+            if came.load(Ordering::SeqCst) {
                 return;
             }
             yield_now();
         }
         self.gave_up.store(true, Ordering::SeqCst);
     }
+
+    /// Whether it gave up, how many pins it saw, and what their blocks add up to.
+    fn seen(&self) -> (bool, u64, u64) {
+        (
+            self.gave_up.load(Ordering::SeqCst),
+            self.pins.load(Ordering::SeqCst),
+            self.sum.load(Ordering::SeqCst),
+        )
+    }
 }
 
 impl Gate for HoldingGate {
     fn before(&self, worker: u32, block: u32) {
-        match worker {
-            0 if block == 0 => self.await_second(),
-            1 => self.second_came.store(true, Ordering::SeqCst),
-            _ => {}
+        match (self.holds, worker, block) {
+            (Holds::Each, 0, _) => {
+                self.first_came.store(true, Ordering::SeqCst);
+                self.wait_for(&self.other_came);
+            }
+            (Holds::Each, _, _) => {
+                self.other_came.store(true, Ordering::SeqCst);
+                self.wait_for(&self.first_came);
+            }
+            (Holds::BlockZero, _, 0) => self.wait_for(&self.other_came),
+            (Holds::BlockZero, _, 8) => self.other_came.store(true, Ordering::SeqCst),
+            (Holds::BlockZero, _, _) => {}
         }
     }
 
@@ -69,36 +101,73 @@ fn numbered_page(number: u8) -> [u8; 8192] {
     )
 }
 
-/// 64 pages, each with its number in its item and the log position 0/0, and the text of their scan.
+/// 65 pages, each with its number in its item and the log position 0/0, and the text of their scan.
 fn numbered_pages(alloc: Global) -> Result<(Vec<u8>, String), Fail> {
     let mut bytes = Vec::new(alloc);
     let mut text = String::new(alloc);
-    for number in 0u8..64 {
+    for number in 0u8..65 {
         bytes.extend_from_slice(&numbered_page(number))?;
         text.push_str(&format!(in alloc;
             "{number} lsn 0/0 flags 0 lower 28 upper 8184 special 8192 items 1 normal 1 redirect 0 dead 0 unused 0\n"
         )?)?;
     }
-    text.push_str("blocks 64 used 64 new 0 invalid 0 normal 64 redirect 0 dead 0 unused 0\n")?;
+    text.push_str("blocks 65 used 65 new 0 invalid 0 normal 65 redirect 0 dead 0 unused 0\n")?;
     Ok((bytes, text))
 }
 
-/// The second worker goes on while the first is held: neither waits for the other's part.
+/// 65 pages that a rewrite changes.
+fn changed_pages(alloc: Global) -> Result<Vec<u8>, Fail> {
+    let mut bytes = Vec::new(alloc);
+    for _number in 0..65 {
+        bytes.extend_from_slice(&dead_items_page())?;
+    }
+    Ok(bytes)
+}
+
+/// Runs a command by two workers that are held: each block is pinned once, and the output is that of one.
+fn check_held<R: Abort + Threads + Wait + Sync>(
+    rt: &R,
+    alloc: Global,
+    command: &str,
+    bytes: &[u8],
+    holds: Holds,
+) -> Result<(), Fail> {
+    let mut host = host_of(alloc, &[(RELATION, bytes)], NONE_FAIL)?;
+    let alone = answer_of(rt, alloc, command, &mut host, &[])?;
+    let mut host = host_of(alloc, &[(RELATION, bytes)], NONE_FAIL)?;
+    let gate = HoldingGate::new(holds);
+    let line = format!(in alloc; "{command} --backends 2")?;
+    let answer = answer_at(rt, alloc, line.as_str(), &mut host, &[], &gate)?;
+    let ends = (alone.status, answer.status);
+    assert_eq!(rt; ends, (0, 0), "{command}");
+    assert_eq!(rt; answer.out.bytes(), alone.out.bytes(), "{command}");
+    assert_eq!(rt; gate.seen(), (false, 64, u64::MAX), "{command}");
+    Ok(())
+}
+
+/// Two workers work side by side, each on chunks that it claims: one doesn't do all.
 #[test]
 fn workers_work_side_by_side(rt: HostRuntime) -> Result<(), Fail> {
     let alloc = rt.alloc();
+    let (bytes, _text) = numbered_pages(alloc)?;
+    let changed = changed_pages(alloc)?;
+    for holds in [Holds::Each, Holds::BlockZero] {
+        check_held(&rt, alloc, "scan base/5/16384", &bytes, holds)?;
+        check_held(&rt, alloc, "dump base/5/16384", &bytes, holds)?;
+        check_held(&rt, alloc, "rewrite base/5/16384 --log w", &changed, holds)?;
+    }
+    Ok(())
+}
+
+/// The texts of chunks go out in their order.
+#[test]
+fn chunks_are_printed_in_order(rt: HostRuntime) -> Result<(), Fail> {
+    let alloc = rt.alloc();
     let (bytes, text) = numbered_pages(alloc)?;
     let mut host = host_of(alloc, &[(RELATION, &bytes)], NONE_FAIL)?;
-    let gate = HoldingGate::new();
-    let line = "scan base/5/16384 --backends 2";
-    let answer = answer_at(&rt, alloc, line, &mut host, &[], &gate)?;
+    let line = "scan base/5/16384 --backends 4";
+    let answer = answer_of(&rt, alloc, line, &mut host, &[])?;
     answer.check(&rt, 0, text.as_str(), "");
-    let seen = (
-        gate.gave_up.load(Ordering::SeqCst),
-        gate.pins.load(Ordering::SeqCst),
-        gate.sum.load(Ordering::SeqCst),
-    );
-    assert_eq!(rt; seen, (false, 64, u64::MAX));
     Ok(())
 }
 
@@ -131,22 +200,23 @@ fn many_pages(alloc: Global) -> Result<Vec<u8>, Fail> {
     Ok(bytes)
 }
 
-/// A worker's text goes out in one piece, and the totals in another: what was put before a piece that
-/// fails stays.
+/// The text of each chunk goes out in one piece, and the totals in another: what was put before a piece
+/// that fails stays.
 #[test]
 fn later_pieces_may_fail(rt: HostRuntime) -> Result<(), Fail> {
     let alloc = rt.alloc();
     let bytes = many_pages(alloc)?;
     let mut host = host_of(alloc, &[(RELATION, &bytes)], NONE_FAIL)?;
     let whole = answer_of(&rt, alloc, "scan base/5/16384", &mut host, &[])?;
-    let cut = answer_of(&rt, alloc, "scan base/5/16384", &mut host, &[2])?;
+    let cut = answer_of(&rt, alloc, "scan base/5/16384", &mut host, &[101])?;
     let (text, piece) = (whole.out.bytes(), cut.out.bytes());
     let is_cut = piece.len() > 65536 && piece.len() < text.len() && text.starts_with(piece);
     assert_eq!(rt; (whole.status, cut.status, is_cut), (0, 7, true));
     Ok(())
 }
 
-/// Scans of three new pages, the calls that fail, the status, and what is printed.
+/// Scans of three new pages, which are one chunk, the calls that fail, the status, and what is printed: of
+/// a chunk that wasn't read to its end nothing.
 static FAULTS: [(&str, Failing, u8, &str, &str); 4] = [
     (
         "scan base/5/16384 --lanes 1",
@@ -155,7 +225,7 @@ static FAULTS: [(&str, Failing, u8, &str, &str); 4] = [
             ..NONE_FAIL
         },
         4,
-        "0 new\n1 new\n",
+        "",
         READ_FAULT,
     ),
     (
@@ -166,7 +236,7 @@ static FAULTS: [(&str, Failing, u8, &str, &str); 4] = [
             ..NONE_FAIL
         },
         4,
-        "0 new\n1 new\n",
+        "",
         READ_FAULT,
     ),
     (

@@ -7,7 +7,6 @@ pub mod GivenFiles
 mod Putting
 pub mod Stepping
 mod Listed
-mod ListedTotals
 mod PassesBeside
 mod Fronts
 mod RewriteLeaves

@@ -17,7 +17,7 @@ use Rattle.backend_pass.specs.Closing.{ClosesAll, NothingPut, NothingWritten}
 use Rattle.page_jobs.specs.declared.ending.JobError.{JobError}
 use Rattle.page_jobs.specs.declared.ending.JobError.TheVariants as job
 use Rattle.page_jobs.specs.declared.ending.Totals.{Totals}
-use Rattle.page_jobs.specs.Ending.{as_done}
+use Rattle.page_jobs.specs.Ending.{as_done, totals_of_scan}
 use Rattle.page_jobs.specs.Beside.{LastIsRefused, StaysBeside}
 use Rattle.page_jobs.specs.Jobs.{AllAtBase, AnyMeets, EndsJob, ReadParts, workers_in}
 use Rattle.page_jobs.specs.Relations.{IsCatalogOf, MeetNothing}
@@ -34,6 +34,11 @@ puts_as text old new (Err e) puts = record { ok = puts.ok; failed = puts.failed 
 pub totals_as : (totals : ScanTotals) (end : Result Totals JobError) → IfOk end (λ t. scan_totals_in t ≡ totals) → IfOk (listing_end end) (λ t. t ≡ totals)
 totals_as totals (Ok t) is = is
 totals_as totals (Err e) is = tt
+
+-- the totals of a job are those of its scan
+pub totals_listed : (totals : ScanTotals) (end : Result Totals JobError) → IfOk end (λ t. t ≡ totals_of_scan totals) → IfOk end (λ t. scan_totals_in t ≡ totals)
+totals_listed totals (Ok t) is = ap scan_totals_in is
+totals_listed totals (Err e) is = tt
 
 -- an end without its totals
 pub done_as : {A E : Type 0} (F : A → Unit → Type 0) (end : Result A E) (r : Result Unit E) → MatchResult end (λ a. IsOkAnd r (F a)) (λ e. r ≡ Err e) → r ≡ as_done end

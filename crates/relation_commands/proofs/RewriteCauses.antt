@@ -156,19 +156,19 @@ module _ {L G : Type 0} (contents : L → Option Pages) (m : Manager L G) where
   AllSeen ps = (i : ℕ) (p : PassState) → get_elem? ps i ≡ some p → base_of m.table ≤ p.view.end_seen
 
   module _ (fork : Fork) where
-    first_meets : (workers number : ℕ) (ps qs : List PassState) (e : JobError) → AllSeen ps → FailsFirst contents m 0 fork workers number ps qs e → SomePassMeets qs (rewrite_error e)
-    first_meets workers number [] [] e seen fails = absurd fails
-    first_meets workers number [] (q ∷ qs) e seen fails = absurd fails
-    first_meets workers number (p ∷ ps) [] e seen fails = absurd fails
-    first_meets workers number (p ∷ ps) (q ∷ qs) e seen (inl (inl x)) = record { place = zero; before = p.view; pass = q; at = refl; meets = read_meets (tag_of_parts 0 fork x.block) p x.before q x.why e x.since x.fault x.refused x.met; seen = seen 0 p refl }
-    first_meets workers number (p ∷ ps) (q ∷ qs) e seen (inl (inr x)) = record { place = zero; before = p.view; pass = q; at = refl; meets = put_meets x.why e p.view q.view x.fault x.fails.shows; seen = seen 0 p refl }
-    first_meets workers number (p ∷ ps) (q ∷ qs) e seen (inr later) = let x = first_meets workers (number + 1) ps qs e (λ i. seen (suc i)) later.1 in
+    first_meets : (ps qs : List PassState) (e : JobError) → AllSeen ps → FailsFirst contents m 0 fork ps qs e → SomePassMeets qs (rewrite_error e)
+    first_meets [] [] e seen fails = absurd fails
+    first_meets [] (q ∷ qs) e seen fails = absurd fails
+    first_meets (p ∷ ps) [] e seen fails = absurd fails
+    first_meets (p ∷ ps) (q ∷ qs) e seen (inl (inl x)) = record { place = zero; before = p.view; pass = q; at = refl; meets = read_meets (tag_of_parts 0 fork x.block) p x.before q x.why e x.since x.fault x.refused x.met; seen = seen 0 p refl }
+    first_meets (p ∷ ps) (q ∷ qs) e seen (inl (inr x)) = record { place = zero; before = p.view; pass = q; at = refl; meets = put_meets x.why e p.view q.view x.fault x.fails.shows; seen = seen 0 p refl }
+    first_meets (p ∷ ps) (q ∷ qs) e seen (inr later) = let x = first_meets ps qs e (λ i. seen (suc i)) later.1 in
         record { place = suc x.place; before = x.before; pass = x.pass; at = x.at; meets = x.meets; seen = x.seen }
 
     job_meets : (ps qs : List PassState) (e : JobError) → AllSeen ps → EndsRewrite contents m 0 fork ps qs e → (e ≡ job.Memory) ⊎ SomePassMeets qs (rewrite_error e)
     job_meets ps qs e seen (inl short) = inl short
     job_meets ps qs e seen (inr (inl fails)) =
-        let x = first_meets (length (workers_in ps)) 0 (workers_in ps) (workers_in qs) e (λ i p at. seen i p (taken_from (length ps - 1) i ps p at)) fails in
+        let x = first_meets (workers_in ps) (workers_in qs) e (λ i p at. seen i p (taken_from (length ps - 1) i ps p at)) fails in
         inr record { place = x.place; before = x.before; pass = x.pass; at = taken_from (length qs - 1) x.place qs x.pass x.at; meets = x.meets; seen = x.seen }
     job_meets ps qs e seen (inr (inr (whole, x))) =
         inr record { place = length ps - 1; before = x.before.view; pass = x.after; at = x.is; meets = frame_meets x.before x.after x.refused.why e x.refused.fault x.refused.refuses; seen = seen (length ps - 1) x.before x.was }

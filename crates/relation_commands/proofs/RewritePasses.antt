@@ -83,9 +83,9 @@ module _ {L G : Type 0} (contents : L → Option Pages) (m : Manager L G) where
         (λ (t : (get_elem? (workers_in ps) i ≡ some c.before) × (get_elem? (workers_in qs) i ≡ some q)).
         let below = inside (workers_in ps) i c.before t.0 in
         let listed = parts.listed in
-        let os = there parts.outcomes i (omega arith) in
-        let x = parts.each i c.before q os.0 t.0 t.1 os.1 in
-        let free : HasNoTokens contents m q = record { belongs = x.goes.belongs; spent = x.spent } in
+        let did = there parts.claimed i (omega arith) in
+        let x = parts.each i c.before q did.0 t.0 t.1 did.1 in
+        let free : HasNoTokens contents m q = record { belongs = x.blocks.goes.belongs; spent = x.blocks.spent } in
         free)
         c.either)
 

@@ -25,9 +25,10 @@ use Rattle.frame_table.specs.Seats.{lanes_in, opened_of, relations_of}
 use Rattle.backend_pass.specs.declared.manager.Manager.{Manager}
 use Rattle.backend_pass.specs.Closing.{ClosesAll, met_by_passes}
 use Rattle.backend_pass.specs.Passes.{PassState}
+use Rattle.chunk_claims.specs.Claims.{sum_below}
 use Rattle.page_jobs.specs.Parts.{blocks_in}
 use Rattle.page_jobs.specs.RewriteCloses.{HoldEither, HoldRewritten}
-use Rattle.page_jobs.specs.RewriteEnds.{HasEntry, change_weight, sum_below}
+use Rattle.page_jobs.specs.RewriteEnds.{HasEntry, change_weight}
 use Rattle.page_jobs.specs.RewriteEnds as ends
 use Rattle.page_jobs.proofs.Standing.{inside, there}
 use Rattle.relation_commands.specs.declared.starting.RelationFork.{RelationFork}

@@ -1,36 +1,28 @@
-use Rattle.std.proofs.Common.{rules, ◌≡◌, ◌+◌, ℕ, List, [], Ok, length, refl, sym, ap, ◌∙◌, subst}
-use Rattle.std.specs.Prelude.{vec_len}
+use Rattle.std.proofs.Common.{rules, ◌≡◌, ◌+◌, ℕ, Ok, length, refl, subst}
 use Rattle.page_jobs.specs.declared.working.Worker.{Worker}
-use Rattle.page_jobs.specs.Dealt.{AreDealt}
-use Rattle.page_jobs.specs.Parts.{part_start}
+use Rattle.page_jobs.specs.Dealt.{IsDealing}
 use Rattle.page_jobs.specs.Working.{CanBegin}
-use Rattle.page_jobs.proofs.Deals.{dealing_all, dealing_more}
+use Rattle.page_jobs.proofs.Deals.{cut_off, dealing_more, one_part}
 use Rattle.page_jobs.proofs.dealing.deal.Goals as goal
 
 pub loop-pass-preserved : goal.loop-pass-preserved
 loop-pass-preserved g c =
-    let w : Worker g.row.K.Denot = record { number = c.len-number.result; pass = c.in-Some.pass; from = c.part_start.result; to = c.part_start-in-Some.result; task = c.begin.result; end = Ok tt } in
+    let i = c.loop-pass.invariant in
+    let chunks = c.args.claims.now.chunks in
+    let workers = c.args.claims.now.workers in
+    let w : Worker g.row.K.Denot = record { number = c.len-number.result; pass = c.in-Some.pass; seat = c.split.result; task = c.begin.result; end = Ok tt } in
     let number : c.len-number.result ≡ length c.pop.new.self.items = search rules in
+    let long : length c.loop-pass.passes.items ≡ length c.pop.new.self.items + 1 = search rules in
+    let before : IsDealing chunks workers (length c.pop.new.self.items + 1) c.loop-pass.seat.me.0 = subst (λ (n : ℕ). IsDealing chunks workers n c.loop-pass.seat.me.0) long i.left in
     record {
-      dealing = dealing_more (λ k. g.K.BlockTask.begins c.args.task.now k × CanBegin g.K.BlockTask.fits k) c.args.blocks c.len-count.result c.args.passes.now.items c.loop-pass.passes.items c.pop.new.self.items c.loop-pass.workers.items c.push_reserved.new.self.items c.in-Some.pass w c.loop-pass.invariant.dealing c.in-Some.ensures.items c.push_reserved.ensures.items record {
+      dealing = dealing_more (λ k. g.K.BlockTask.begins c.args.task.now k × CanBegin g.K.BlockTask.fits k) c.args.claims.now c.args.passes.now.items c.loop-pass.passes.items c.pop.new.self.items c.loop-pass.workers.items c.push_reserved.new.self.items c.in-Some.pass w i.dealing c.in-Some.ensures.items c.push_reserved.ensures.items record {
         number_is = number;
         pass = refl;
-        from = c.part_start.ensures ∙ ap (part_start c.args.blocks c.len-count.result) number;
-        to = c.part_start-in-Some.ensures ∙ ap (λ (n : ℕ). part_start c.args.blocks c.len-count.result (n + 1)) number;
+        seat = record { sits = c.split.ensures.new; claims_are = one_part chunks workers (length c.pop.new.self.items + 1) c.loop-pass.seat.me.0 c.split.result.me.0 before c.split.ensures.right };
         task = (c.begin.ensures.begins, c.begin.ensures.fits);
       };
       room = search rules;
       capacity = search rules;
+      sits = c.split.ensures.seat;
+      left = cut_off chunks workers (length c.pop.new.self.items) c.loop-pass.seat.me.0 c.split.new.seat.me.0 before c.split.ensures.left;
     }
-
-pub returns-clause-dealt : goal.returns-clause-dealt
-returns-clause-dealt g c =
-    let B : g.row.K.Denot → Type 0 = (λ k. g.K.BlockTask.begins c.args.task.now k × CanBegin g.K.BlockTask.fits k) in
-    let none : c.loop-pass.passes.items ≡ [] = search rules in
-    let count : c.len-count.result ≡ vec_len c.args.passes.now = search rules in (
-      subst (λ (n : ℕ). AreDealt B c.args.blocks n 0 c.args.passes.now.items c.reverse.new.self.items) count
-          (subst (λ (l : List (Worker g.row.K.Denot)). AreDealt B c.args.blocks c.len-count.result 0 c.args.passes.now.items l) (sym c.reverse.ensures.items)
-          (dealing_all B c.args.blocks c.len-count.result c.args.passes.now.items c.loop-pass.passes.items c.loop-pass.workers.items c.loop-pass.invariant.dealing none)),
-      search rules,
-      search rules,
-    )

@@ -1,11 +1,10 @@
-use Rattle.std.proofs.Common.{◌≡◌, drop}
-use Rattle.page_jobs.specs.Dealt.{AllDone}
-use Rattle.page_jobs.proofs.Texts.{HasPutText}
+use Rattle.std.proofs.Common.{◌≡◌, length}
+use Rattle.page_jobs.proofs.Texts.{HasPut}
 use Rattle.page_jobs.proofs.puts.put_texts.Given as goal
 
-abbrev pub invariant-loop-worker : goal.invariant-loop-worker
-invariant-loop-worker g l = record {
+abbrev pub invariant-loop-chunk : goal.invariant-loop-chunk
+invariant-loop-chunk g l = record {
+  long : length l.nexts ≡ length l.workers;
   faults : g.O.Sink.faults l.out ≡ g.O.Sink.faults l.initial.out;
-  done : AllDone (drop l.worker-index l.workers) → AllDone l.workers;
-  put : HasPutText l.workers l.worker-index (g.O.Sink.bytes l.initial.out) (g.O.Sink.bytes l.out);
+  put : HasPut l.workers l.chunk (g.O.Sink.bytes l.initial.out) (g.O.Sink.bytes l.out);
 }

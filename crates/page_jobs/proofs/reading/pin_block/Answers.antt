@@ -3,7 +3,7 @@ use Rattle.pin_core.specs.declared.view.FailedCalls.{FailedCalls}
 use Rattle.frame_table.specs.Seats.{relations_of}
 use Rattle.backend_pass.specs.Reading.{met_read_refused}
 use Rattle.backend_pass.proofs.Keeping.{calls_on}
-use Rattle.page_jobs.proofs.Blocks.{met_crowded, new_none, not_at_once, once}
+use Rattle.page_jobs.proofs.Blocks.{ends_at_read, met_crowded, new_none, not_at_once, once}
 use Rattle.page_jobs.proofs.Staying.{stays_read}
 use Rattle.page_jobs.proofs.reading.pin_block.Goals as goal
 
@@ -37,6 +37,7 @@ returns-then-not-is_crowding-clause-refused g c =
       before = c.loop.pass;
       since = i.stays.same.keeps.advances;
       refused = looked_up.answer.1;
+      last = ends_at_read {L = g.row.L.Denot} {G = g.row.G.Denot} g.L.BlockLane.contents c.args.manager.now c.args.tag _ _ _ _ _ c.in-Err.why c.loop.pass.view c.read_buffer.new.self looked_up.calls;
       met = e.met ∙ ap (λ (m : FailedCalls). met_read_refused c.in-Err.why m) i.met;
     }
 

@@ -26,5 +26,5 @@ returns g c =
       rewrites = held {L = g.row.L.Denot} {G = g.row.G.Denot} g.L.BlockLane.contents c.args.manager.now c.args.exclusive.pinned.tag c.args.exclusive.pinned.frame c.args.pass.now q c.release.new.self c.rewrite_locked-answer.result w.rewrites c.requires.locked
           (quiet_on {L = g.row.L.Denot} {G = g.row.G.Denot} g.L.BlockLane.contents c.args.manager.now q c.unexclusive-pinned.new.self c.release.new.self
           (record { belongs = x.belongs; same = x.same; calls = x.calls; met = x.devices.met })
-          (record { belongs = y.belongs; same = y.same; calls = y.calls; met = y.devices.met })) (y.mark ∙ x.mark) unlocked others spent (y.down ∙ x.down);
+          (record { belongs = y.belongs; same = y.same; calls = y.calls; met = y.devices.met })) (y.mark ∙ x.mark) unlocked others spent (y.down ∙ x.down) (y.devices.device_calls ∙ x.devices.device_calls);
     }

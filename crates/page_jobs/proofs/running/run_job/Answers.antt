@@ -1,19 +1,22 @@
-use Rattle.std.proofs.Common.{◌≡◌, ℕ, ◌<◌, List, [], ◌∷◌, length, subst, rules}
-use Rattle.std.specs.Prelude.{vec_len}
+use Rattle.std.proofs.Common.{◌≡◌, ℕ, ◌<◌, List, [], ◌∷◌, length, ap, ◌∙◌, subst, rules}
 use Rattle.backend_pass.specs.Passes.{PassState}
 use Rattle.page_jobs.specs.declared.working.Worker.{Worker}
-use Rattle.page_jobs.specs.Dealt.{AreDealt, HaveDone}
+use Rattle.page_jobs.specs.Chunks.{chunk_count}
 use Rattle.page_jobs.specs.Jobs.{HaveNoTokens}
+use Rattle.page_jobs.specs.Parts.{blocks_in}
 use Rattle.page_jobs.specs.Working.{CanBegin}
 use Rattle.page_jobs.proofs.Deals.{all_ready, free_back, free_front}
 use Rattle.page_jobs.proofs.WorkerBlocks.{have_done}
 use Rattle.page_jobs.proofs.running.run_job.Goals as goal
 
+pub work_beside-beside_end-requires-clause-chunks : goal.work_beside-beside_end-requires-clause-chunks
+work_beside-beside_end-requires-clause-chunks g c κs within = c.in-Ok.ensures.dealt.0.chunks ∙ ap chunk_count c.blocks-count.ensures.count
+
 pub work_beside-beside_end-requires-clause-ready : goal.work_beside-beside_end-requires-clause-ready
 work_beside-beside_end-requires-clause-ready g c κs within =
     let B : g.row.K.Denot → Type 0 = (λ k. g.K.BlockTask.begins c.args.task.now k × CanBegin g.K.BlockTask.fits k) in
-    all_ready {L = g.row.L.Denot} {G = g.row.G.Denot} g.L.BlockLane.contents c.args.manager.now c.args.blocks.rel.0 c.args.blocks.fork B g.K.BlockTask.fits (λ k b. b.1) c.blocks-count.result (vec_len c.take_last-last.new.self) 0 c.take_last-last.new.self.items c.in-Ok.workers.items
-    c.blocks-count.ensures.count (search rules) (search rules) c.in-Ok.ensures.dealt.0
+    all_ready {L = g.row.L.Denot} {G = g.row.G.Denot} g.L.BlockLane.contents c.args.manager.now c.args.blocks.rel.0 c.args.blocks.fork B c.in-Ok.dealt.claims g.K.BlockTask.fits (λ k b. b.1) 0 c.take_last-last.new.self.items c.in-Ok.dealt.workers.items
+    c.in-Ok.ensures.dealt.0.dealt
     (free_front {L = g.row.L.Denot} {G = g.row.G.Denot} g.L.BlockLane.contents c.args.manager.now c.args.blocks.rel.0 c.args.blocks.fork c.take_last-last.new.self.items (c.take_last-last.result ∷ [])
     (subst (HaveNoTokens {L = g.row.L.Denot} {G = g.row.G.Denot} g.L.BlockLane.contents c.args.manager.now) c.take_last-last.ensures.items c.requires.free))
 
@@ -26,19 +29,25 @@ pub returns-in-Ok-clause-ran : goal.returns-in-Ok-clause-ran
 returns-in-Ok-clause-ran g c =
     let B : g.row.K.Denot → Type 0 = (λ k. g.K.BlockTask.begins c.args.task.now k × CanBegin g.K.BlockTask.fits k) in
     let D = g.K.BlockTask.does c.args.manager.now c.args.blocks.rel.0 c.args.blocks.fork in
+    let n = blocks_in c.args.manager.now c.args.blocks.rel.0 c.args.blocks.fork in
     let ps : List PassState = c.take_last-last.new.self.items in
     let xs : List (Worker g.row.K.Denot) = c.work_beside-beside_end.new.workers.items in
-    let long : vec_len c.take_last-last.new.self ≡ length ps = search rules in
-    let dealt : AreDealt B c.blocks-count.result (length ps) 0 ps c.in-Ok.workers.items = subst (λ (n : ℕ). AreDealt B c.blocks-count.result n 0 ps c.in-Ok.workers.items) long c.in-Ok.ensures.dealt.0 in
+    let out = c.in-Ok.ensures.dealt.0 in
+    let w = c.work_beside-beside_end.ensures in
+    let long : length xs ≡ length c.in-Ok.dealt.workers.items = search rules in
     record {
       before = ps;
       last = c.take_last-last.result;
       split = c.take_last-last.ensures.items;
-      done = subst (λ (n : ℕ). HaveDone B D n (length ps) 0 ps xs) c.blocks-count.ensures.count
-          (have_done D B c.blocks-count.result (length ps) 0 ps c.in-Ok.workers.items xs dealt (search rules) c.work_beside-beside_end.ensures.worked);
-      beside = c.work_beside-beside_end.ensures.beside;
-      did_beside = c.work_beside-beside_end.ensures.works;
+      done = have_done D g.K.BlockTask.closes n B c.in-Ok.dealt.claims 0 ps c.in-Ok.dealt.workers.items xs out.dealt long w.worked;
+      beside = w.beside;
+      did_beside = w.works;
       none = c.in-Ok.ensures.dealt.1;
       room = search rules;
-      few = subst (λ (n : ℕ). n < 4294967296) c.blocks-count.ensures.count c.blocks-count.type_inv;
+      chunks = out.chunks ∙ ap chunk_count c.blocks-count.ensures.count;
+      seats = w.seats;
+      many = search rules;
+      sits = out.sits;
+      seat = out.seat;
+      few = subst (λ (m : ℕ). m < 4294967296) c.blocks-count.ensures.count c.blocks-count.type_inv;
     }

@@ -1,5 +1,5 @@
--- A worker's part of a rewrite, block by block.
-use Rattle.std.proofs.Common.{◌≡◌, ◌+◌, ◌≤◌, ℕ, suc, List, [], ◌∷◌, ◌++◌, length, Option, Result, Ok, Err, refl, sym, ap, ◌∙◌, subst, arith, append_assoc, add-zero, inl, inr}
+-- A worker's blocks of a rewrite, one after the other.
+use Rattle.std.proofs.Common.{◌≡◌, ◌≤◌, ℕ, List, [], ◌∷◌, ◌++◌, length, Option, Result, Ok, Err, refl, sym, ap, ◌∙◌, subst, arith, append_assoc, inl, inr}
 use Rattle.std.specs.Prelude.{OnOk, IfErr}
 use Rattle.std.proofs.lemmas.List.{append-nil, length-append}
 use Rattle.std.proofs.lemmas.Result.{IfErr-weaker, on_ok_weaker}
@@ -23,13 +23,13 @@ use Rattle.backend_pass.proofs.Seated.{same_on}
 use Rattle.page_jobs.specs.declared.ending.JobError.{JobError}
 use Rattle.page_jobs.specs.declared.ending.JobError.TheVariants.{Memory}
 use Rattle.page_jobs.specs.Reads.{HasNoTokens}
-use Rattle.page_jobs.specs.Rewrites.{AreFrom, EachOutcome, IfRead, IsEnded, IsUnput, Outcome, Rule, StopsAtFailure, unsound, kept, refused, changed, outcome_block, outcome_calls, calls_for, outcome_totals, rule_of, result_of}
-use Rattle.page_jobs.specs.Rewriting.{AllUnderCleanup, EndsRewriteFor, FollowsRule, GoesOn, HoldsUntil, RewritesBlock, RewritesBlocks, RewritesPart, RewritesWhole, UnderCleanup}
+use Rattle.page_jobs.specs.Rewrites.{AreOf, EachOutcome, IfRead, IsEnded, IsUnput, Outcome, Rule, StopsAtFailure, unsound, kept, refused, changed, outcome_block, outcome_calls, calls_for, outcome_totals, rule_of, result_of}
+use Rattle.page_jobs.specs.Rewriting.{AllUnderCleanup, CountsRewrites, EndsRewriteFor, FollowsRule, GoesOn, HoldsUntil, RewritesBlock, RewritesBlocks, RewritesWhole, UnderCleanup}
 use Rattle.page_jobs.proofs.BlockRewrites.{reads_since}
 use Rattle.page_jobs.proofs.RewriteSums.{rewrites_joined, rewrites_none, with_outcome-is}
 use Rattle.page_jobs.proofs.Staying.{stays_none}
 
-pub each_append : (P : Outcome → Type 0) (os us : List Outcome) → EachOutcome P os → EachOutcome P us → EachOutcome P (os ++ us)
+each_append : (P : Outcome → Type 0) (os us : List Outcome) → EachOutcome P os → EachOutcome P us → EachOutcome P (os ++ us)
 each_append P [] us a b = b
 each_append P (o ∷ os) us a b = (a.0, each_append P os us a.1 b)
 
@@ -37,11 +37,29 @@ each_split : (P : Outcome → Type 0) (os us : List Outcome) → EachOutcome P (
 each_split P [] us a = (tt, a)
 each_split P (o ∷ os) us a = let rest = each_split P os us a.1 in ((a.0, rest.0), rest.1)
 
-pub from_append : (a : ℕ) (os us : List Outcome) → AreFrom a os → AreFrom (a + length os) us → AreFrom a (os ++ us)
-from_append a [] us x y = subst (λ (n : ℕ). AreFrom n us) (add-zero a) y
-from_append a (o ∷ os) us x y = (x.0, from_append (a + 1) os us x.1 (subst (λ (n : ℕ). AreFrom n us) (let e : a + suc (length os) ≡ a + 1 + length os = omega arith in e) y))
+on_any : {A E : Type 0} (r : Result A E) (F : Type 0) → F → OnOk r F
+on_any (Ok a) F x = x
+on_any (Err e) F x = tt
 
-pub calls_for-append : (r : Rule) (os us : List Outcome) → calls_for r (os ++ us) ≡ calls_for r os ++ calls_for r us
+-- the outcomes of some blocks, as many as those, and of the blocks after them
+of_append : (bs cs : List ℕ) (os us : List Outcome) → AreOf bs os → AreOf cs us → length os ≡ length bs → AreOf (bs ++ cs) (os ++ us)
+of_append [] cs [] us a b long = b
+of_append [] cs (o ∷ os) us a b long = absurd a
+of_append (block ∷ bs) cs [] us a b long = absurd (omega arith)
+of_append (block ∷ bs) cs (o ∷ os) us a b long = (a.0, of_append bs cs os us a.1 b (omega arith))
+
+of_more : (bs cs : List ℕ) (os : List Outcome) → AreOf bs os → AreOf (bs ++ cs) os
+of_more bs cs [] a = tt
+of_more [] cs (o ∷ os) a = absurd a
+of_more (block ∷ bs) cs (o ∷ os) a = (a.0, of_more bs cs os a.1)
+
+-- a block has one outcome at most
+pub of_few : (bs : List ℕ) (os : List Outcome) → AreOf bs os → length os ≤ length bs
+of_few bs [] a = omega arith
+of_few [] (o ∷ os) a = absurd a
+of_few (block ∷ bs) (o ∷ os) a = let rest = of_few bs os a.1 in omega arith
+
+calls_for-append : (r : Rule) (os us : List Outcome) → calls_for r (os ++ us) ≡ calls_for r os ++ calls_for r us
 calls_for-append r [] us = refl
 calls_for-append r (o ∷ os) us = ap (λ (l : List Call). outcome_calls r o ++ l) (calls_for-append r os us) ∙ sym (append_assoc (outcome_calls r o) (calls_for r os) (calls_for r us))
 
@@ -80,12 +98,12 @@ module _ {L G : Type 0} (contents : L → Option Pages) (m : Manager L G) (rel :
   goes_none : (p : PassState) → Belongs contents m p → GoesOn contents m p p
   goes_none p b = record { belongs = b; same = (stays_none contents m p b).same; front = omega arith }
 
-  pub goes_on : (p q r : PassState) → GoesOn contents m p q → GoesOn contents m q r → GoesOn contents m p r
+  goes_on : (p q r : PassState) → GoesOn contents m p q → GoesOn contents m q r → GoesOn contents m p r
   goes_on p q r a b = record { belongs = b.belongs; same = same_on p q r a.same b.same; front = let x = a.front in let y = b.front in omega arith }
 
   -- no block was dealt with
-  pub blocks_none : (from to : ℕ) (p : PassState) → HasNoTokens contents m p → from ≤ to → RewritesBlocks contents m rel fork from to [] p p
-  blocks_none from to p free le = record {
+  pub blocks_none : (bs : List ℕ) (p : PassState) → HasNoTokens contents m p → RewritesBlocks contents m rel fork bs [] p p
+  blocks_none bs p free = record {
     goes = goes_none p free.belongs;
     spent = free.spent;
     locks = λ f. refl;
@@ -93,25 +111,24 @@ module _ {L G : Type 0} (contents : L → Option Pages) (m : Manager L G) (rel :
     calls = sym (append-nil p.view.calls);
     order = tt;
     follow = tt;
-    within = omega arith;
     stopped = tt;
     locked = tt;
   }
 
-  pub rewrites_nothing : (from to : ℕ) (p : PassState) (t : RewriteTotals) (end : Result Unit JobError) → HasNoTokens contents m p → from ≤ to → IsRewriteWithin t t.blocks → OnOk end (from ≡ to) → IfErr end (λ e. e ≡ Memory)
-      → RewritesPart contents m rel fork from to p p t t end
-  rewrites_nothing from to p t end free le within whole cause = let none = blocks_none from to p free le in record {
+  -- none was to be dealt with, and maybe there was no memory
+  pub rewrites_nothing : (p : PassState) (t : RewriteTotals) (end : Result Unit JobError) → HasNoTokens contents m p → IsRewriteWithin t t.blocks → IfErr end (λ e. e ≡ Memory) → CountsRewrites contents m rel fork [] p p t t end
+  rewrites_nothing p t end free within cause = let none = blocks_none [] p free in record {
     outcomes = [];
-    blocks = none;
+    course = none;
     within = within;
     few = omega arith;
-    whole = on_ok_weaker end (λ (e : from ≡ to). record { blocks = none; whole = add-zero from ∙ e; ended = tt; met = refl }) whole;
-    totals = on_ok_weaker end (λ (e : from ≡ to). sym (rewrites_none t)) whole;
-    cause = IfErr-weaker end (λ e. e ≡ Memory) (EndsRewriteFor contents m rel fork p p) (λ e x. inl x) cause;
+    whole = on_any end (RewritesWhole contents m rel fork [] [] p p) record { course = none; whole = refl; ended = tt; met = refl };
+    totals = on_any end (t ≡ sum_of_rewrite_totals t (outcome_totals [])) (sym (rewrites_none t));
+    cause = IfErr-weaker end (λ e. e ≡ Memory) (EndsRewriteFor contents m rel fork p p) (λ e x. inl (x, refl)) cause;
   }
 
   ends_since : (p q r : PassState) (e : JobError) (made : List Call) → GoesOn contents m p q → q.view.calls ≡ p.view.calls ++ made → EndsRewriteFor contents m rel fork q r e → q.view.met ≡ p.view.met → EndsRewriteFor contents m rel fork p r e
-  ends_since p q r e made goes calls (inl memory) met = inl memory
+  ends_since p q r e made goes calls (inl memory) met = inl (memory.0, memory.1 ∙ met)
   ends_since p q r e made goes calls (inr (inl x)) met = inr (inl record {
     block = x.block;
     inside = x.inside;
@@ -120,6 +137,7 @@ module _ {L G : Type 0} (contents : L → Option Pages) (m : Manager L G) (rel :
     before = x.before;
     since = rises_on p.view q.view x.before.view goes.same.keeps.advances x.since;
     refused = x.refused;
+    last = x.last;
     met = x.met ∙ ap (λ (n : FailedCalls). met_read_refused x.why n) met;
   })
   ends_since p q r e made goes calls (inr (inr x)) met = inr (inr record {
@@ -134,6 +152,7 @@ module _ {L G : Type 0} (contents : L → Option Pages) (m : Manager L G) (rel :
       after = f.after;
       since = rises_on p.view q.view f.before.view goes.same.keeps.advances f.since;
       refuses = f.refuses;
+      until = f.until;
       met = f.met ∙ ap (λ (n : FailedCalls). met_put (Err x.why) n) met;
       shows = f.shows;
       was = f.was;
@@ -142,9 +161,9 @@ module _ {L G : Type 0} (contents : L → Option Pages) (m : Manager L G) (rel :
     };
   })
 
-  -- some blocks after the other
-  blocks_on : (from mid to : ℕ) (os us : List Outcome) (p q r : PassState) → RewritesBlocks contents m rel fork from mid os p q → RewritesBlocks contents m rel fork mid to us q r → from + length os ≡ mid → EachOutcome IsEnded os → RewritesBlocks contents m rel fork from to (os ++ us) p r
-  blocks_on from mid to os us p q r a b at ended = record {
+  -- some blocks after the others
+  blocks_on : (bs cs : List ℕ) (os us : List Outcome) (p q r : PassState) → RewritesBlocks contents m rel fork bs os p q → RewritesBlocks contents m rel fork cs us q r → length os ≡ length bs → EachOutcome IsEnded os → RewritesBlocks contents m rel fork (bs ++ cs) (os ++ us) p r
+  blocks_on bs cs os us p q r a b long ended = record {
     goes = goes_on p q r a.goes b.goes;
     spent = b.spent;
     locks = λ f. b.locks f ∙ a.locks f;
@@ -153,56 +172,60 @@ module _ {L G : Type 0} (contents : L → Option Pages) (m : Manager L G) (rel :
         ∙ ap (λ (l : List Call). l ++ calls_for (rule_of rel fork) us) a.calls
         ∙ append_assoc p.view.calls (calls_for (rule_of rel fork) os) (calls_for (rule_of rel fork) us)
         ∙ ap (λ (l : List Call). p.view.calls ++ l) (sym (calls_for-append (rule_of rel fork) os us));
-    order = from_append from os us a.order (subst (λ (n : ℕ). AreFrom n us) (sym at) b.order);
+    order = of_append bs cs os us a.order b.order long;
     follow = each_append (FollowsRule contents m rel fork p.view.number) os us a.follow (subst (λ (n : ℕ). EachOutcome (FollowsRule contents m rel fork n) us) a.goes.same.keeps.number b.follow);
-    within = let w = b.within in let l = length-append os us in omega arith;
     stopped = stops_later os us ended b.stopped;
     locked = under_on (rule_of rel fork) p.view.number p.view q.view r.view a.goes.same.keeps.advances b.goes.same.keeps.advances p.view.calls os us a.locked
         (subst (λ (n : ℕ). AllUnderCleanup (rule_of rel fork) n q.view r.view (p.view.calls ++ calls_for (rule_of rel fork) os) us) a.goes.same.keeps.number
         (subst (λ (l : List Call). AllUnderCleanup (rule_of rel fork) q.view.number q.view r.view l us) a.calls b.locked));
   }
 
-  -- one part after the other
-  pub rewrites_on : (from mid to : ℕ) (p q r : PassState) (t u v : RewriteTotals) (end : Result Unit JobError) → RewritesPart contents m rel fork from mid p q t u (Ok tt) → RewritesPart contents m rel fork mid to q r u v end → RewritesPart contents m rel fork from to p r t v end
-  rewrites_on from mid to p q r t u v end a b =
+  -- so it is counted; the first blocks, which ended well, have an outcome each
+  pub rewrites_past : (bs cs : List ℕ) (p q r : PassState) (t u v : RewriteTotals) (end : Result Unit JobError) → CountsRewrites contents m rel fork bs p q t u (Ok tt) → CountsRewrites contents m rel fork cs q r u v end
+      → (d : CountsRewrites contents m rel fork (bs ++ cs) p r t v end) × (length bs ≤ length d.outcomes)
+  rewrites_past bs cs p q r t u v end a b =
       let w = a.whole in
-      let both = blocks_on from mid to a.outcomes b.outcomes p q r a.blocks b.blocks w.whole w.ended in
-      record {
-        outcomes = a.outcomes ++ b.outcomes;
-        blocks = both;
-        within = b.within;
-        few = let l = length-append a.outcomes b.outcomes in let x = a.few in let y = b.few in omega arith;
-        whole = on_ok_weaker end (λ (d : RewritesWhole contents m rel fork mid to b.outcomes q r). record { blocks = both; whole = (let l = length-append a.outcomes b.outcomes in let x = d.whole in let y = w.whole in omega arith); ended = each_append IsEnded a.outcomes b.outcomes w.ended d.ended; met = d.met ∙ w.met }) b.whole;
-        totals = on_ok_weaker end (λ d. rewrites_joined t u v a.outcomes b.outcomes a.totals d) b.totals;
-        cause = IfErr-weaker end (EndsRewriteFor contents m rel fork q r) (EndsRewriteFor contents m rel fork p r) (λ e x. ends_since p q r e (calls_for (rule_of rel fork) a.outcomes) a.blocks.goes a.blocks.calls x w.met) b.cause;
-      }
+      let l = length-append a.outcomes b.outcomes in
+      let k = length-append bs cs in
+      let both = blocks_on bs cs a.outcomes b.outcomes p q r a.course b.course w.whole w.ended in (
+        record {
+          outcomes = a.outcomes ++ b.outcomes;
+          course = both;
+          within = b.within;
+          few = let x = a.few in let y = b.few in omega (arith, l, x, y);
+          whole = on_ok_weaker end (λ (d : RewritesWhole contents m rel fork cs b.outcomes q r). record { course = both; whole = (let x = d.whole in let y = w.whole in omega (arith, l, k, x, y)); ended = each_append IsEnded a.outcomes b.outcomes w.ended d.ended; met = d.met ∙ w.met }) b.whole;
+          totals = on_ok_weaker end (λ d. rewrites_joined t u v a.outcomes b.outcomes a.totals d) b.totals;
+          cause = IfErr-weaker end (EndsRewriteFor contents m rel fork q r) (EndsRewriteFor contents m rel fork p r) (λ e x. ends_since p q r e (calls_for (rule_of rel fork) a.outcomes) a.course.goes a.course.calls x w.met) b.cause;
+        },
+        (let y = w.whole in omega (arith, l, y)),
+      )
 
-  blocks_wider : (from mid to : ℕ) (os : List Outcome) (p q : PassState) → mid ≤ to → RewritesBlocks contents m rel fork from mid os p q → RewritesBlocks contents m rel fork from to os p q
-  blocks_wider from mid to os p q le a = record { goes = a.goes; spent = a.spent; locks = a.locks; mark = a.mark; calls = a.calls; order = a.order; follow = a.follow; within = (let w = a.within in omega arith); stopped = a.stopped; locked = a.locked }
+  pub rewrites_on : (bs cs : List ℕ) (p q r : PassState) (t u v : RewriteTotals) (end : Result Unit JobError) → CountsRewrites contents m rel fork bs p q t u (Ok tt) → CountsRewrites contents m rel fork cs q r u v end → CountsRewrites contents m rel fork (bs ++ cs) p r t v end
+  rewrites_on bs cs p q r t u v end a b = (rewrites_past bs cs p q r t u v end a b).0
 
-  -- a part that ended before its end is one of a longer part
-  pub rewrites_wider : (from mid to : ℕ) (p q : PassState) (t u : RewriteTotals) (e : JobError) → mid ≤ to → RewritesPart contents m rel fork from mid p q t u (Err e) → RewritesPart contents m rel fork from to p q t u (Err e)
-  rewrites_wider from mid to p q t u e le a = record { outcomes = a.outcomes; blocks = blocks_wider from mid to a.outcomes p q le a.blocks; within = a.within; few = a.few; whole = tt; totals = tt; cause = a.cause }
+  blocks_wider : (bs cs : List ℕ) (os : List Outcome) (p q : PassState) → RewritesBlocks contents m rel fork bs os p q → RewritesBlocks contents m rel fork (bs ++ cs) os p q
+  blocks_wider bs cs os p q a = record { goes = a.goes; spent = a.spent; locks = a.locks; mark = a.mark; calls = a.calls; order = of_more bs cs os a.order; follow = a.follow; stopped = a.stopped; locked = a.locked }
+
+  -- where it ended at one of the first blocks it ended at one of all
+  pub rewrites_wider : (bs cs : List ℕ) (p q : PassState) (t u : RewriteTotals) (e : JobError) → CountsRewrites contents m rel fork bs p q t u (Err e) → CountsRewrites contents m rel fork (bs ++ cs) p q t u (Err e)
+  rewrites_wider bs cs p q t u e a = record { outcomes = a.outcomes; course = blocks_wider bs cs a.outcomes p q a.course; within = a.within; few = a.few; whole = tt; totals = tt; cause = a.cause }
 
   told_one : (what : PageRewrite) (os : List Outcome) → length os ≡ 1 → EachOutcome (λ o. (what ≡ result_of o) × IsEnded o) os → (outcome_totals os ≡ totals_of_outcomes (what ∷ [])) × EachOutcome IsEnded os
   told_one what [] one each = absurd (omega arith)
   told_one what (o ∷ []) one each = (ap (λ (w : PageRewrite). totals_of_outcomes (w ∷ [])) (sym each.0.0), (each.0.1, tt))
   told_one what (o ∷ u ∷ os) one each = absurd (omega arith)
 
-  -- a block is a part
-  pub block_part : (block : ℕ) (p q : PassState) (t u : RewriteTotals) (what : PageRewrite) → RewritesBlock contents m rel fork block p q (Ok what) → u ≡ with_outcome t what → IsRewriteWithin u u.blocks → RewritesPart contents m rel fork block (block + 1) p q t u (Ok tt)
-  block_part block p q t u what x total within =
+  -- a block
+  pub block_counts : (block : ℕ) (p q : PassState) (t u : RewriteTotals) (what : PageRewrite) → RewritesBlock contents m rel fork block p q (Ok what) → u ≡ with_outcome t what → IsRewriteWithin u u.blocks → CountsRewrites contents m rel fork (block ∷ []) p q t u (Ok tt)
+  block_counts block p q t u what x total within =
       let told = told_one what x.outcomes x.done.0 x.done.1 in
       let sum = total ∙ with_outcome-is t what in
       record {
         outcomes = x.outcomes;
-        blocks = x.blocks;
+        course = x.course;
         within = within;
         few = let more = ap (λ (y : RewriteTotals). y.blocks) sum in let one = x.done.0 in omega arith;
-        whole = record { blocks = x.blocks; whole = (let w = x.done.0 in omega arith); ended = told.1; met = x.done.2 };
+        whole = record { course = x.course; whole = x.done.0; ended = told.1; met = x.done.2 };
         totals = sum ∙ ap (λ (y : RewriteTotals). sum_of_rewrite_totals t y) (sym told.0);
         cause = tt;
       }
-
-  pub block_stop : (block : ℕ) (p q : PassState) (t : RewriteTotals) (e : JobError) → IsRewriteWithin t t.blocks → RewritesBlock contents m rel fork block p q (Err e) → RewritesPart contents m rel fork block (block + 1) p q t t (Err e)
-  block_stop block p q t e within x = record { outcomes = x.outcomes; blocks = x.blocks; within = within; few = omega arith; whole = tt; totals = tt; cause = x.cause }

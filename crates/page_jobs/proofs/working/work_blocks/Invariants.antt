@@ -1,0 +1,15 @@
+use Rattle.std.proofs.Common.{◌≡◌, ℕ, ◌+◌, ◌*◌, ◌-◌, ◌≤◌}
+use Rattle.page_jobs.specs.Blocks.{blocks_from}
+use Rattle.page_jobs.specs.Reads.{HasNoTokens}
+use Rattle.page_jobs.specs.Working.{CanCount, DoesBlocks}
+use Rattle.page_jobs.proofs.working.work_blocks.Given as goal
+
+abbrev pub invariant-loop-block : goal.invariant-loop-block
+invariant-loop-block g l = record {
+  number : l.worker.number ≡ l.fn.worker.number;
+  seat : l.worker.seat ≡ l.fn.worker.seat;
+  ordered : 8 * l.chunk ≤ l.block;
+  did : DoesBlocks (g.K.BlockTask.does l.manager l.blocks.rel.0 l.blocks.fork) (blocks_from (8 * l.chunk) (l.block - 8 * l.chunk)) l.fn.worker.pass l.worker.pass l.fn.worker.task l.worker.task;
+  free : HasNoTokens {L = g.row.L.Denot} {G = g.row.G.Denot} g.L.BlockLane.contents l.manager l.worker.pass;
+  fits : (n : ℕ) → CanCount g.K.BlockTask.fits l.fn.worker.task (n + (l.block - 8 * l.chunk)) → CanCount g.K.BlockTask.fits l.worker.task n;
+}
