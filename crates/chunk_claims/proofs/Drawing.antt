@@ -1,7 +1,6 @@
 -- Each step keeps the rule.
-use Rattle.std.proofs.Common.{◌≡◌, ℕ, zero, suc, ◌+◌, ◌<◌, ◌≤◌, ◌%◌, ◌^◌, ◌⊎◌, List, [], ◌∷◌, ◌++◌, set, get_or, sym, refl, ap, ◌∙◌, subst, inl, inr, ⊎_elim, add-one, arith}
+use Rattle.std.proofs.Common.{◌≡◌, ℕ, zero, suc, ◌+◌, ◌<◌, ◌≤◌, ◌%◌, ◌^◌, ◌⊎◌, List, [], ◌∷◌, ◌++◌, set, get_or, sym, refl, ap, ◌∙◌, subst, inl, inr, ⊎_elim, arith}
 use Rattle.std.proofs.Math.Nat.{mod-eq_of_lt}
-use Rattle.std.proofs.lemmas.Bool.Decides.{nat_tests}
 use Rattle.std.proofs.lemmas.Bool.{cases_lt}
 use mathlib.Core.Option.{none, some}
 use lib.ListN.{get_elem?}
@@ -12,11 +11,8 @@ use Rattle.atomic_table.proofs.Lists.{set_again}
 use Rattle.atomic_table.specs.Table.{Allows, Joins, Me, Splits, keeps, opening, step}
 use Rattle.chunk_claims.specs.declared.claimant.Claimant.{Claimant}
 use Rattle.chunk_claims.specs.declared.claims.Work.{Work}
+use Rattle.chunk_claims.proofs.Weights.{sum_below_more, total_nothing, weighs_none, weighs_one}
 use Rattle.chunk_claims.specs.Claims.{AreClaimed, ClaimsHold, Draws, IsClaimant, Counts, first_claimant, joined_claimants, less_a_part, with_one_part, with_draw, past_weight, spent_claimant, sum_below}
-
-sum_below-more : (n : ℕ) (g : ℕ → ℕ) → sum_below (n + 1) g ≡ sum_below n g + g n
-unfolding sum_below
-sum_below-more n g = ap (λ (k : ℕ). sum_below k g) (add-one n)
 
 -- no sum is above one whose terms aren't below
 total-le : {A : Type 0} (f g : A → ℕ) (l : List A) → ((j : ℕ) (a : A) → get_elem? l j ≡ some a → f a ≤ g a) → total f l ≤ total g l
@@ -24,18 +20,8 @@ unfolding total
 total-le f g [] h = omega arith
 total-le f g (x ∷ xs) h = omega (arith, h zero x refl, total-le f g xs (λ j a at. h (suc j) a at))
 
-total-nil : (g : ℕ → ℕ) (l : List ℕ) → l ≡ [] → total g l ≡ 0
-unfolding total
-total-nil g l e = ap (total g) e
-
-weight_within : (n x : ℕ) → x < n → past_weight n x ≡ 0
-weight_within n x h = grind (arith, nat_tests)
-
-weight_past : (n x : ℕ) → n ≤ x → past_weight n x ≡ 1
-weight_past n x h = grind (arith, nat_tests)
-
 weight_cases : (n x : ℕ) → ((x < n) × (past_weight n x ≡ 0)) ⊎ ((n ≤ x) × (past_weight n x ≡ 1))
-weight_cases n x = ⊎_elim (λ (h : x < n). inl (h, weight_within n x h)) (λ (h : n ≤ x). inr (h, weight_past n x h)) (cases_lt x n)
+weight_cases n x = ⊎_elim (λ (h : x < n). inl (h, weighs_none n x h)) (λ (h : n ≤ x). inr (h, weighs_one n x h)) (cases_lt x n)
 
 -- the word is at most the chunks and the workers together
 word_bound : (w : Work) (word : ℕ) (claimants : List Claimant) → AreClaimed w word claimants → word ≤ w.chunks + w.workers
@@ -55,7 +41,7 @@ drawn w word id claimants v are at part =
     let pasts = total-set (λ (h : Claimant). h.past) claimants id v u at in
     let cases = weight_cases v.chunks word in record {
       parts = omega (arith, total-set (λ (h : Claimant). h.parts) claimants id v u at, are.parts);
-      drawn = λ g. omega (arith, total-set (λ (h : Claimant). total g h.drawn) claimants id v u at, total-snoc g v.drawn word, sum_below-more word g, are.drawn g);
+      drawn = λ g. omega (arith, total-set (λ (h : Claimant). total g h.drawn) claimants id v u at, total-snoc g v.drawn word, sum_below_more word g, are.drawn g);
       bound = ⊎_elim (λ c. omega (arith, c.0, c.1, chunks, pasts, term_le (λ (h : Claimant). h.past) claimants id v at)) (λ c. omega (arith, c.0, c.1, chunks, pasts, are.bound)) cases;
       each = λ j h there. ⊎_elim
           (λ e. subst (IsClaimant w) e.1 record { past = ⊎_elim (λ c. omega (arith, c.1)) (λ c. omega (arith, c.1)) cases; none = λ z. absurd (omega arith); some = is.some })
@@ -111,7 +97,7 @@ counts_there w slots id me s h counted at low =
             let workers : v.workers ≡ w.workers = known.1 in (
               omega (arith, word_bound w h.word s.views are, chunks, workers, is),
               (λ all g.
-                  sym (total-alone (λ (u : Claimant). total g u.drawn) s.views id v at (λ j u apart there. total-nil g u.drawn ((are.each j u there).none (omega (arith, terms_le (λ (u : Claimant). u.parts) s.views id j v u apart at there, are.parts, workers, all)))))
+                  sym (total-alone (λ (u : Claimant). total g u.drawn) s.views id v at (λ j u apart there. total_nothing g u.drawn ((are.each j u there).none (omega (arith, terms_le (λ (u : Claimant). u.parts) s.views id j v u apart at there, are.parts, workers, all)))))
                   ∙ are.drawn g ∙ ap (λ (k : ℕ). sum_below k g) (sym is)),
             )),
       ),
@@ -127,7 +113,7 @@ splits_there w id v part past nothing s h at =
       few = h.few;
       are = record {
         parts = omega (arith, total-set (λ (u : Claimant). u.parts) s.views id v (less_a_part v) at, total-snoc (λ (u : Claimant). u.parts) left (with_one_part v), are.parts);
-        drawn = λ g. omega (arith, total-set (λ (u : Claimant). total g u.drawn) s.views id v (less_a_part v) at, total-snoc (λ (u : Claimant). total g u.drawn) left (with_one_part v), total-nil g [] refl, are.drawn g);
+        drawn = λ g. omega (arith, total-set (λ (u : Claimant). total g u.drawn) s.views id v (less_a_part v) at, total-snoc (λ (u : Claimant). total g u.drawn) left (with_one_part v), total_nothing g [] refl, are.drawn g);
         bound = omega (arith, total-set (λ (u : Claimant). u.past) s.views id v (less_a_part v) at, total-snoc (λ (u : Claimant). u.past) left (with_one_part v), are.bound);
         each = λ j u there. ⊎_elim
             (λ in_left. ⊎_elim
@@ -152,7 +138,7 @@ joins_there w id other v u part s h at apart there =
       few = h.few;
       are = record {
         parts = omega (arith, total-set (λ (x : Claimant). x.parts) s.views id v both at, total-set (λ (x : Claimant). x.parts) first other u spent_claimant there, are.parts);
-        drawn = λ g. omega (arith, total-set (λ (x : Claimant). total g x.drawn) s.views id v both at, total-set (λ (x : Claimant). total g x.drawn) first other u spent_claimant there, total-both g v.drawn u.drawn, total-nil g [] refl, are.drawn g);
+        drawn = λ g. omega (arith, total-set (λ (x : Claimant). total g x.drawn) s.views id v both at, total-set (λ (x : Claimant). total g x.drawn) first other u spent_claimant there, total-both g v.drawn u.drawn, total_nothing g [] refl, are.drawn g);
         bound = omega (arith, total-set (λ (x : Claimant). x.past) s.views id v both at, total-set (λ (x : Claimant). x.past) first other u spent_claimant there, are.bound);
         each = λ j x here. ⊎_elim
             (λ e. subst (IsClaimant w) e.1 record { past = omega arith; none = (λ z. refl); some = (λ z. absurd (omega arith)) })

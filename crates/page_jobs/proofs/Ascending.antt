@@ -8,7 +8,8 @@ use Rattle.grid.proofs.Lists.{at_end, at_longer}
 use Rattle.grid.proofs.Sums.{term_le, total-snoc}
 use Rattle.chunk_claims.specs.Claims.{past_weight, sum_below}
 use Rattle.page_jobs.specs.Chunks.{Ascend}
-use Rattle.page_jobs.proofs.ClaimedChunks.{past_low, weighs_one}
+use Rattle.chunk_claims.proofs.Weights.{weighs_one}
+use Rattle.page_jobs.proofs.ClaimedChunks.{past_low}
 use Rattle.page_jobs.proofs.Standing.{all_at}
 
 -- none, and the first of several

@@ -85,7 +85,7 @@ lines-wider lines bs cs [] le = refl
 lines-wider lines [] cs (r ∷ rs) le = absurd (omega arith)
 lines-wider lines (x ∷ bs) cs (r ∷ rs) le = ap (λ (l : List ℕ). read_lines lines x r ++ l) (lines-wider lines bs cs rs (omega arith))
 
-within_front : (front later : ℕ) → front ≤ later → (b : ℕ) (r : BlockRead) → IsWithinFront front r → IsWithinFront later r
+pub within_front : (front later : ℕ) → front ≤ later → (b : ℕ) (r : BlockRead) → IsWithinFront front r → IsWithinFront later r
 within_front front later le b (copied page place) w = omega arith
 within_front front later le b unsound w = tt
 

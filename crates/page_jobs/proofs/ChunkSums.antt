@@ -1,11 +1,11 @@
 -- Chunks, and how many blocks they have.
 use Rattle.std.proofs.Common.{◌≡◌, ℕ, zero, suc, ◌+◌, ◌*◌, ◌-◌, ◌<◌, ◌≤◌, List, [], ◌∷◌, ◌++◌, refl, sym, ap, ◌∙◌, subst, arith}
 use Rattle.std.specs.Prelude.{min}
-use Rattle.std.proofs.lemmas.Bool.Decides.{nat_tests}
 use Rattle.grid.specs.Shape.{total}
 use Rattle.grid.proofs.Sums.{total-snoc}
 use Rattle.chunk_claims.specs.declared.claimant.Claimant.{Claimant}
 use Rattle.chunk_claims.specs.Claims.{past_weight, sum_below, with_draw}
+use Rattle.chunk_claims.proofs.Weights.{weighs_none}
 use Rattle.page_jobs.specs.Chunks.{chunk_count, chunk_size}
 
 -- the chunks below one have at most the blocks before it, and at most all
@@ -17,14 +17,6 @@ sizes_below n (suc k) = let before = sizes_below n k in omega (arith, before)
 pub sizes_all : (n k : ℕ) → sum_below k (chunk_size n) ≤ n
 sizes_all n k = let below = sizes_below n k in omega (arith, below)
 
--- a chunk begins before the last block
-pub starts_within : (n c : ℕ) → c < chunk_count n → 8 * c < n
-starts_within n c below = omega (arith, below)
-
-pub total_nothing : (g : ℕ → ℕ) (l : List ℕ) → l ≡ [] → total g l ≡ 0
-unfolding total
-total_nothing g l e = ap (total g) e
-
 -- A claimant that drew one chunk more
 pub record DrawsChunk (n chunk chunks : ℕ) (c d : Claimant) : Type 0 where
   pub chunks_are : d.chunks ≡ chunks
@@ -33,14 +25,11 @@ pub record DrawsChunk (n chunk chunks : ℕ) (c d : Claimant) : Type 0 where
   pub drawn : d.drawn ≡ c.drawn ++ chunk ∷ []
   pub sizes : total (chunk_size n) d.drawn ≡ total (chunk_size n) c.drawn + chunk_size n chunk
 
-within_chunks : (chunks x : ℕ) → x < chunks → past_weight chunks x ≡ 0
-within_chunks chunks x below = grind (arith, nat_tests)
-
 pub draws_chunk : (n chunk chunks : ℕ) (c d : Claimant) → chunk < chunks → d ≡ with_draw chunk c → c.chunks ≡ chunks → (c.parts ≡ 1) × (c.past ≡ 0) → DrawsChunk n chunk chunks c d
 draws_chunk n chunk chunks c d below is known part = subst (DrawsChunk n chunk chunks c) (sym is) record {
   chunks_are = known;
   workers_are = refl;
-  part = (part.0, ap (λ (m : ℕ). c.past + past_weight m chunk) known ∙ omega (arith, part.1, within_chunks chunks chunk below));
+  part = (part.0, ap (λ (m : ℕ). c.past + past_weight m chunk) known ∙ omega (arith, part.1, weighs_none chunks chunk below));
   drawn = refl;
   sizes = total-snoc (chunk_size n) c.drawn chunk;
 }

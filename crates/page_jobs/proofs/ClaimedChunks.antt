@@ -9,10 +9,11 @@ use Rattle.grid.specs.Shape.{total}
 use Rattle.grid.proofs.Sums.{total-both, total-snoc}
 use Rattle.chunk_claims.specs.Claims.{past_weight, sum_below}
 use Rattle.chunk_claims.proofs.Drawing.{sum_below_le}
+use Rattle.chunk_claims.proofs.Weights.{weighs_none, weighs_one}
 use Rattle.backend_pass.specs.Passes.{PassState}
 use Rattle.page_jobs.specs.declared.ending.JobError.{JobError}
 use Rattle.page_jobs.specs.Blocks.{blocks_from}
-use Rattle.page_jobs.specs.Chunks.{AreAllClaimed, AreFirstClaimed, Claimed, blocks_in_all, blocks_of, chunk_count, chunk_size, chunk_start, items_in_all}
+use Rattle.page_jobs.specs.Chunks.{AreAllClaimed, AreFirstClaimed, Claimed, blocks_in_all, blocks_of, chunk_count, chunk_size, chunk_start}
 use Rattle.page_jobs.specs.Working.{DoesChunks}
 
 -- the weight of a chunk of n blocks; a number past the last chunk weighs nothing
@@ -58,7 +59,7 @@ unfolding total
 length_chunks n [] = refl
 length_chunks n (c ∷ cs) = omega (arith, length-append (blocks_of n c) (blocks_in_all n cs), length_chunk n c, length_chunks n cs)
 
-module _ {K : Type 0} (does : ℕ → PassState → PassState → K → K → Result Unit JobError → Type 0) (closes : ℕ → K → K → Result Unit JobError → Type 0) (n : ℕ) where
+module _ {K : Type 0} (does : ℕ → PassState → PassState → K → K → Result Unit JobError → Type 0) (closes : ℕ → PassState → K → K → Result Unit JobError → Type 0) (n : ℕ) where
   pub chunks_below : (cs : List ℕ) (p q : PassState) (k l : K) → DoesChunks does closes n cs p q k l → All (λ c. c < chunk_count n) cs
   chunks_below [] p q k l h = All-nil (λ (c : ℕ). c < chunk_count n)
   chunks_below (c ∷ cs) p q k l h = All-cons (λ (c : ℕ). c < chunk_count n) c cs h.2 (chunks_below cs h.0 q h.1 l h.4)
@@ -82,12 +83,6 @@ within_all : (n : ℕ) (g : ℕ → ℕ) (cs : List ℕ) → All (λ c. c < chun
 unfolding total
 within_all n g [] below = refl
 within_all n g (c ∷ cs) below = omega (arith, within_here n g c (All-head (λ (c : ℕ). c < chunk_count n) c cs below), within_all n g cs (All-tail (λ (c : ℕ). c < chunk_count n) c cs below))
-
-weighs_none : (m x : ℕ) → x < m → past_weight m x ≡ 0
-weighs_none m x below = ap (λ (t : Bool). if t then 0 else 1) (lt-ltb x m below)
-
-pub weighs_one : (m x : ℕ) → m ≤ x → past_weight m x ≡ 1
-weighs_one m x past = ap (λ (t : Bool). if t then 0 else 1) (le-ltb x m past)
 
 -- what a worker drew, by how it ended
 pub drawn_none : (n : ℕ) → IsOfDrawn n [] []
@@ -221,16 +216,3 @@ pub total_ones : {A : Type 0} (l : List A) → total (λ (a : A). 1) l ≡ lengt
 unfolding total
 total_ones [] = refl
 total_ones (x ∷ l) = omega (arith, total_ones l)
-
-pub sum_ones : (n : ℕ) → sum_below n (λ b. 1) ≡ n
-unfolding sum_below
-sum_ones zero = refl
-sum_ones (suc n) = omega (arith, sum_ones n)
-
-items_within : {A : Type 0} (n : ℕ) (cs : List (Claimed A)) → ((w : ℕ) (c : Claimed A) → get_elem? cs w ≡ some c → length c.items ≤ length (blocks_in_all n c.chunks)) → length (items_in_all cs) ≤ total (λ c. total (λ b. 1) (blocks_in_all n c.chunks)) cs
-unfolding total
-items_within n [] each = omega arith
-items_within n (c ∷ cs) each = omega (arith, length-append c.items (items_in_all cs), each zero c refl, total_ones (blocks_in_all n c.chunks), items_within n cs (λ w d at. each (suc w) d at))
-
-pub items_few : {A : Type 0} (n : ℕ) (cs : List (Claimed A)) → AreFirstClaimed n cs → ((w : ℕ) (c : Claimed A) → get_elem? cs w ≡ some c → length c.items ≤ length (blocks_in_all n c.chunks)) → length (items_in_all cs) ≤ n
-items_few n cs once each = omega (arith, items_within n cs each, blocks_once n cs once (λ b. 1), sum_ones n)

@@ -30,12 +30,12 @@ seat_send S V s = record { owned = λ d vs. ((λ vss. (tt, ((λ uss. (tt, tt)), 
 pub claims_shared : IsSync claims.the_row
 claims_shared = search (sendable, crosses, over.crosses, shared_sync, lease_sync, frees) depth 50 fits 40000
 
--- what captures six values may be shared where they may, and what captures seven may be handed over
-pub six_shared : (ν : Sym) (A B C D E F : RattleType) → IsSync A → IsSync B → IsSync C → IsSync D → IsSync E → IsSync F → IsSync (TupleAt ν (A ∷ B ∷ C ∷ D ∷ E ∷ F ∷ []))
-six_shared ν A B C D E F a b c d e f = search (sendable, crosses) depth 20
+-- what captures seven values may be shared where they may, and what captures eight may be handed over
+pub seven_shared : (ν : Sym) (A B C D E F G : RattleType) → IsSync A → IsSync B → IsSync C → IsSync D → IsSync E → IsSync F → IsSync G → IsSync (TupleAt ν (A ∷ B ∷ C ∷ D ∷ E ∷ F ∷ G ∷ []))
+seven_shared ν A B C D E F G a b c d e f g = search (sendable, crosses) depth 20
 
-pub seven_sent : (ν : Sym) (A B C D E F G : RattleType) → IsSend A → IsSend B → IsSend C → IsSend D → IsSend E → IsSend F → IsSend G → IsSend (TupleAt ν (A ∷ B ∷ C ∷ D ∷ E ∷ F ∷ G ∷ []))
-seven_sent ν A B C D E F G a b c d e f g = search (sendable, crosses) depth 20
+pub eight_sent : (ν : Sym) (A B C D E F G H : RattleType) → IsSend A → IsSend B → IsSend C → IsSend D → IsSend E → IsSend F → IsSend G → IsSend H → IsSend (TupleAt ν (A ∷ B ∷ C ∷ D ∷ E ∷ F ∷ G ∷ H ∷ []))
+eight_sent ν A B C D E F G H a b c d e f g h = search (sendable, crosses) depth 20
 
 pub workers_sent : (K : RattleType) → IsSend K → IsSend (worker.the_row K)
 workers_sent K k = search (sendable, crosses, over.crosses, passes_sent, seat_send, frees) depth 40 fits 20000

@@ -82,11 +82,11 @@ gathered {K = K} ws ws' ps ps' all w so_far split more =
     ∙ so_far
 
 module _ {L G : Type 0} (contents : L → Option Pages) (m : Manager L G) (rel : ℕ) (fork : Fork) where
-  module _ {K : Type 0} (begins : K → Type 0) (claims : Claims) (fits : K → ℕ → Type 0) (fit : (k : K) → begins k → CanBegin fits k) where
-    ready_one : (number : ℕ) (p : PassState) (w : Worker K) → IsDealt begins claims number p w → HasNoTokens contents m p → IsReady contents m claims fits w
-    ready_one number p w d free = record { free = subst (HasNoTokens contents m) (sym d.pass) free; seat = d.seat; task = fit w.task d.task }
+  module _ {K : Type 0} (begins : K → Type 0) (claims : Claims) (fits : K → ℕ → Type 0) (opens : K → Type 0) (starts : (k : K) → begins k → CanBegin fits k × opens k) where
+    ready_one : (number : ℕ) (p : PassState) (w : Worker K) → IsDealt begins claims number p w → HasNoTokens contents m p → IsReady contents m claims fits opens w
+    ready_one number p w d free = let s = starts w.task d.task in record { free = subst (HasNoTokens contents m) (sym d.pass) free; seat = d.seat; task = s.0; opened = s.1 }
 
-    pub all_ready : (number : ℕ) (ps : List PassState) (ws : List (Worker K)) → AreDealt begins claims number ps ws → HaveNoTokens contents m ps → (i : ℕ) (d : Worker K) → i < length ws → IsReady contents m claims fits (slice_index_or ws i d)
+    pub all_ready : (number : ℕ) (ps : List PassState) (ws : List (Worker K)) → AreDealt begins claims number ps ws → HaveNoTokens contents m ps → (i : ℕ) (d : Worker K) → i < length ws → IsReady contents m claims fits opens (slice_index_or ws i d)
     all_ready number [] [] a free i d below = absurd (omega arith)
     all_ready number [] (w ∷ ws) a free i d below = absurd a
     all_ready number (p ∷ ps) [] a free i d below = absurd a

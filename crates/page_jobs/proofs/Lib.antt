@@ -9,6 +9,7 @@ mod ClaimedChunks
 mod RewriteSums
 mod Measures
 mod ListedChunks
+mod Delivered
 pub mod Standing
 mod Ascending
 mod BesideWork

@@ -19,15 +19,10 @@ use Rattle.page_jobs.specs.Parts.{AllReads}
 use Rattle.page_jobs.specs.Printed.{BlockRead, reads_totals}
 use Rattle.page_jobs.specs.RewriteEnds.{times}
 use Rattle.page_jobs.specs.Rewrites.{AreOf, Outcome, outcome_block, outcome_totals}
-use Rattle.page_jobs.proofs.ClaimedChunks.{blocks_all, blocks_once, past_low, sum_ones, total_ones, weighs_one}
+use Rattle.chunk_claims.proofs.Weights.{sum_first, sum_ones, weighs_one}
+use Rattle.page_jobs.proofs.ClaimedChunks.{blocks_all, blocks_once, past_low, total_ones}
 use Rattle.page_jobs.proofs.RewriteSums.{outcome_totals-append}
 use Rattle.page_jobs.proofs.Sums.{reads_totals-append}
-
--- the sum over the numbers below n begins with that of 0
-pub sum_first : (n : ℕ) (g : ℕ → ℕ) → sum_below (suc n) g ≡ g 0 + sum_below n (λ i. g (suc i))
-unfolding sum_below
-sum_first zero g = omega arith
-sum_first (suc n) g = let e = sum_first n g in omega arith
 
 -- A number of totals that is 0 of none, and of two the sum of theirs
 pub record AddsUp (f : ScanTotals → ℕ) : Type 0 where

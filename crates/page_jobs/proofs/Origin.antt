@@ -21,6 +21,8 @@ use Rattle.page_layout.specs.Text.{line_of, scan_line_of}
 use Rattle.segment_store.specs.Contents.{Pages}
 use Rattle.pin_core.specs.State.{Page}
 use Rattle.table_rule.specs.TakenLanes.{IsBlockOf}
+use Rattle.text_window.specs.Texts.{AreFirstTexts, IsTextBy}
+use Rattle.text_window.proofs.Streams.{front_of}
 use Rattle.frame_table.specs.Seats.{base_of, lanes_in, relations_of}
 use Rattle.frame_table.specs.Opened.{WasAtOpening}
 use Rattle.backend_pass.specs.declared.manager.Manager.{Manager}
@@ -32,20 +34,21 @@ use Rattle.page_jobs.specs.declared.printing.Lines.TheVariants.{Dump, Scan}
 use Rattle.page_jobs.specs.declared.listing.Lister.{Lister}
 use Rattle.page_jobs.specs.declared.working.Worker.{Worker}
 use Rattle.page_jobs.specs.Blocks.{blocks_from}
-use Rattle.page_jobs.specs.Chunks.{Claimed, AreFirstTexts, blocks_in_all, blocks_of, chunk_count, chunk_size, chunk_start, items_in_all}
+use Rattle.page_jobs.specs.Chunks.{Claimed, blocks_in_all, blocks_of, chunk_count, chunk_size, chunk_start, items_in_all}
+use Rattle.page_jobs.specs.ChunkTexts.{IsChunkText}
 use Rattle.page_jobs.specs.Ending.{as_done, totals_of_scan}
 use Rattle.page_jobs.specs.Printed.{BlockRead, copied, unsound, lines_from, page_lines, read_lines, read_summary, reads_lines, reads_totals, text_of_pages, totals_line}
 use Rattle.page_jobs.specs.Reads.{IsKnown, IsWithinFront}
 use Rattle.page_jobs.specs.Parts.{AllReads, AreKnown, blocks_in}
-use Rattle.page_jobs.specs.Dealt.{AllDone, HasText, PutsAll, job_totals}
-use Rattle.page_jobs.specs.Jobs.{AllAtBase, IsOrigin, IsTextOf, WasKnownAtOpening}
-use Rattle.page_jobs.proofs.BlockWork.{all_weaker}
-use Rattle.page_jobs.proofs.ClaimedChunks.{blocks_append, length_chunk}
+use Rattle.page_jobs.specs.Dealt.{AllDone, PutsAll, job_totals}
+use Rattle.page_jobs.specs.Jobs.{AllAtBase, IsOrigin, WasKnownAtOpening}
+use Rattle.page_jobs.proofs.BlockWork.{all_weaker, within_front}
+use Rattle.page_jobs.proofs.ClaimedChunks.{length_chunk}
 use Rattle.page_jobs.proofs.ListedChunks.{DoLists}
 use Rattle.page_jobs.proofs.Measures.{AddsUp, page_weight, pages_by, reads_all_by, totals_by}
 use Rattle.page_jobs.proofs.Standing.{there}
-use Rattle.page_jobs.proofs.Texts.{front_of, stopped_in}
-use Rattle.page_jobs.proofs.Whole.{DrewOnce, all_claimed, chunk_text, claimed_at, covers_at, passes_of, totals_read}
+use Rattle.page_jobs.proofs.Texts.{PutsSome, stopped_in}
+use Rattle.page_jobs.proofs.Whole.{DrewOnce, all_claimed, claimed_at, covers_at, passes_of, totals_read}
 
 -- the lines of a page that isn't sound
 unsound_summary : (page : Page) → is_sound_page page ≡ false → summary_of page ≡ Invalid
@@ -116,18 +119,6 @@ weight_at f [] b page at = absurd (some-ne-none page (sym at))
 weight_at f (p ∷ pages) zero page at = ap (λ (x : Page). f (totals_of (x ∷ []))) (some-injective p page at)
 weight_at f (p ∷ pages) (suc b) page at = weight_at f pages b page at
 
--- the reads of the first blocks, and of the others
-all_first : (P : ℕ → BlockRead → Type 0) (bs cs : List ℕ) (rs ss : List BlockRead) → length rs ≡ length bs → AllReads P (bs ++ cs) (rs ++ ss) → AllReads P bs rs
-all_first P bs cs [] ss e a = tt
-all_first P [] cs (r ∷ rs) ss e a = absurd (omega arith)
-all_first P (x ∷ bs) cs (r ∷ rs) ss e a = (a.0, all_first P bs cs rs ss (omega arith) a.1)
-
-all_rest : (P : ℕ → BlockRead → Type 0) (bs cs : List ℕ) (rs ss : List BlockRead) → length rs ≡ length bs → AllReads P (bs ++ cs) (rs ++ ss) → AllReads P cs ss
-all_rest P [] cs [] ss e a = a
-all_rest P (x ∷ bs) cs [] ss e a = absurd (omega arith)
-all_rest P [] cs (r ∷ rs) ss e a = absurd (omega arith)
-all_rest P (x ∷ bs) cs (r ∷ rs) ss e a = all_rest P bs cs rs ss (omega arith) a.1
-
 -- blocks of chunks of n blocks are below n
 abbrev AllBelow : ℕ → List ℕ → Type 0
 AllBelow n [] = Unit {0}
@@ -150,9 +141,9 @@ all_inside P n bs [] below a = tt
 all_inside P n [] (r ∷ rs) below a = absurd a
 all_inside P n (x ∷ bs) (r ∷ rs) below a = ((below.0, a.0), all_inside P n bs rs below.1 a.1)
 
-front_at : (base w : ℕ) (xs : List (Worker Lister)) (x : Worker Lister) → AllAtBase base (passes_of xs) → get_elem? xs w ≡ some x → x.pass.view.front ≡ base
+front_at : {N A : Type 0} (base w : ℕ) (xs : List (Worker (Lister N A))) (x : Worker (Lister N A)) → AllAtBase base (passes_of xs) → get_elem? xs w ≡ some x → x.pass.view.front ≡ base
 front_at base w [] x all at = absurd (some-ne-none x (sym at))
-front_at base zero (y ∷ xs) x all at = subst (λ (z : Worker Lister). z.pass.view.front ≡ base) (some-injective y x at) all.0
+front_at {N = N} {A = A} base zero (y ∷ xs) x all at = subst (λ (z : Worker (Lister N A)). z.pass.view.front ≡ base) (some-injective y x at) all.0
 front_at base (suc w) (y ∷ xs) x all at = front_at base w xs x all.1 at
 
 module _ {L G : Type 0} (contents : L → Option Pages) (m : Manager L G) where
@@ -218,31 +209,14 @@ module _ {L G : Type 0} (contents : L → Option Pages) (m : Manager L G) (rel :
       let one = read_is contents m lines block (tag_of_parts rel fork block) page r o.0 at.0 o.1 in
       ap₂ (λ (a b : List ℕ). a ++ b) one.0 (lines_origin lines (block + 1) k rs pages at.1 o.2 (omega arith) (omega arith))
 
-  at_base : (front base : ℕ) (bs : List ℕ) (rs : List BlockRead) → base ≡ base_of m.table → front ≡ base → AreKnown contents m rel fork bs rs → AllReads (λ b r. IsWithinFront front r) bs rs → AtBase bs rs
-  at_base front base bs [] same here known places = tt
-  at_base front base [] (r ∷ rs) same here known places = absurd known
-  at_base front base (b ∷ bs) (r ∷ rs) same here known places =
-      ((known.0, subst (λ (f : ℕ). IsWithinFront f r) (here ∙ same) places.0), at_base front base bs rs same here known.1 places.1)
+  at_base : (front : ℕ) (bs : List ℕ) (rs : List BlockRead) → front ≤ base_of m.table → AreKnown contents m rel fork bs rs → AllReads (λ b r. IsWithinFront front r) bs rs → AtBase bs rs
+  at_base front bs [] low known places = tt
+  at_base front [] (r ∷ rs) low known places = absurd known
+  at_base front (b ∷ bs) (r ∷ rs) low known places = ((known.0, within_front front (base_of m.table) low b r places.0), at_base front bs rs low known.1 places.1)
 
   -- the lines of the pages of a chunk of n blocks
   abbrev chunk_lines : Lines → ℕ → List Page → ℕ → List ℕ
   chunk_lines lines n pages chunk = lines_from lines (chunk_start chunk) (take (chunk_size n chunk) (drop (chunk_start chunk) pages))
-
-  chunk_origin : (lines : Lines) (n : ℕ) (pages : List Page) (cs : List (Claimed BlockRead)) (chunk : ℕ) (text : List ℕ) → Origins 0 pages → length pages ≡ n → ((w : ℕ) (c : Claimed BlockRead) → get_elem? cs w ≡ some c → AtBase (blocks_in_all n c.chunks) c.items)
-      → IsTextOf lines n cs chunk text → text ≡ chunk_lines lines n pages chunk
-  chunk_origin lines n pages cs chunk text o long each h =
-      let P : ℕ → BlockRead → Type 0 = λ b r. IsAtBase contents m (tag_of_parts rel fork b) r in
-      let mine = blocks_of n chunk in
-      let after = blocks_in_all n h.after in
-      let split : blocks_in_all n h.pass.chunks ≡ blocks_in_all n h.before ++ (mine ++ after) = ap (λ (l : List ℕ). blocks_in_all n l) h.chunks ∙ blocks_append n h.before (chunk ∷ h.after) in
-      let all : AtBase (blocks_in_all n h.before ++ (mine ++ after)) (h.first ++ (h.reads ++ h.rest)) =
-      subst (λ (l : List BlockRead). AtBase (blocks_in_all n h.before ++ (mine ++ after)) l) h.items (subst (λ (l : List ℕ). AtBase l h.pass.items) split (each h.index h.pass h.there)) in
-      let at : AtBase mine h.reads = all_first P mine after h.reads h.rest h.whole (all_rest P (blocks_in_all n h.before) (mine ++ after) h.first (h.reads ++ h.rest) h.at all) in
-      let zero_start : 0 + chunk_start chunk ≡ chunk_start chunk = omega arith in
-      let left : length (drop (chunk_start chunk) pages) ≡ length pages - chunk_start chunk = length-drop (chunk_start chunk) pages in
-      let few : chunk_size n chunk ≤ n - chunk_start chunk = omega arith in
-      h.lines_are ∙ lines_origin lines (chunk_start chunk) (chunk_size n chunk) h.reads (drop (chunk_start chunk) pages) at
-      (subst (λ (b : ℕ). Origins b (drop (chunk_start chunk) pages)) zero_start (origins_after (chunk_start chunk) 0 pages o)) (h.whole ∙ length_chunk n chunk) (omega (arith, left, few, long))
 
   -- the pages of chunks, one after the other
   join_chunk : (lines : Lines) (n many : ℕ) (pages : List Page) → length pages ≡ n → (8 * many < n) ⊎ (n ≤ 8 * many) → lines_from lines 0 (take (min (8 * many) n) pages) ++ chunk_lines lines n pages many ≡ lines_from lines 0 (take (min (8 * suc many) n) pages)
@@ -266,33 +240,77 @@ module _ {L G : Type 0} (contents : L → Option Pages) (m : Manager L G) (rel :
   front_origin lines n (suc many) pages t long h =
       h.2 ∙ ap₂ (λ (a b : List ℕ). a ++ b) (front_origin lines n many pages h.0 long h.3) h.4 ∙ join_chunk lines n many pages long (cases_lt (8 * many) n)
 
-  -- What is read at the base of the fork's pages
-  module _ (lines : Lines) (ps : List PassState) (xs : List (Worker Lister)) (cs : List (Claimed BlockRead)) (pages : List Page) (d : DoLists contents m rel fork lines ps xs cs)
-      (named : (b : ℕ) → b < blocks_in m rel fork → names_block (tag_of_parts rel fork b) ≡ true) (origin : IsOrigin contents m rel fork pages) (fronts : AllAtBase (base_of m.table) (passes_of xs)) where
-    abbrev blocks : ℕ
-    blocks = blocks_in m rel fork
+  -- the blocks of the fork
+  abbrev blocks : ℕ
+  blocks = blocks_in m rel fork
 
+  -- What is read at the base of the fork's pages
+  module _ (lines : Lines) (named : (b : ℕ) → b < blocks_in m rel fork → names_block (tag_of_parts rel fork b) ≡ true) (pages : List Page) (origin : IsOrigin contents m rel fork pages) where
     are_origins : Origins 0 pages
     are_origins =
         let block : (b : ℕ) → b < 0 + length pages → IsBlockOf (relations_of m.table) (lanes_in m.table) (lane_number (tag_of_parts rel fork b) (lanes_in m.table)) (tag_of_parts rel fork b) =
         λ b lt. record { named = named b (let c = origin.counted in omega (arith, c, lt)); listed = lt-ltb b blocks (let c = origin.counted in omega (arith, c, lt)); placed = refl } in
         origins pages 0 block (λ i b page e there. subst (λ (k : ℕ). WasKnownAtOpening contents m (tag_of_parts rel fork k) page) (let s : i ≡ b = omega arith in s) (origin.each i page there))
 
+    abbrev IsText : ℕ → List ℕ → Type 0
+    IsText = IsTextBy (IsChunkText contents m rel fork lines) (base_of m.table)
+
+    chunk_origin : (chunk : ℕ) (text : List ℕ) → IsText chunk text → text ≡ chunk_lines lines blocks pages chunk
+    chunk_origin chunk text h =
+        let t = h.2 in
+        let at : AtBase (blocks_of blocks chunk) t.reads = at_base h.0 (blocks_of blocks chunk) t.reads h.1 t.known t.places in
+        let first : 0 + chunk_start chunk ≡ chunk_start chunk = omega arith in
+        let left : length (drop (chunk_start chunk) pages) ≡ length pages - chunk_start chunk = length-drop (chunk_start chunk) pages in
+        let few : chunk_size blocks chunk ≤ blocks - chunk_start chunk = omega arith in
+        let all = origin.counted in
+        t.lines_are ∙ lines_origin lines (chunk_start chunk) (chunk_size blocks chunk) t.reads (drop (chunk_start chunk) pages) at
+        (subst (λ (b : ℕ). Origins b (drop (chunk_start chunk) pages)) first (origins_after (chunk_start chunk) 0 pages are_origins)) (t.whole ∙ length_chunk blocks chunk) (omega (arith, left, few, all))
+
+    front_is : (many : ℕ) (front : List ℕ) → AreFirstTexts IsText many front → front ≡ lines_from lines 0 (take (min (8 * many) blocks) pages)
+    front_is many front h = front_origin lines blocks many pages front origin.counted (front_of IsText (λ c s. s ≡ chunk_lines lines blocks pages c) many front chunk_origin h)
+
+    text_begins : (front : List ℕ) (count : ℕ) → AreFirstTexts IsText count front
+        → text_of_pages lines pages ≡ front ++ (lines_from lines (0 + min (8 * count) blocks) (drop (min (8 * count) blocks) pages) ++ totals_line (totals_of pages))
+    text_begins front count h =
+        let k = min (8 * count) blocks in
+        let rest = lines_from lines (0 + k) (drop k pages) in
+        let end = totals_line (totals_of pages) in
+        text_is lines pages
+        ∙ ap (λ (l : List ℕ). l ++ end) (lines_split lines 0 k pages (let c = origin.counted in omega (arith, c)) ∙ ap (λ (l : List ℕ). l ++ rest) (sym (front_is count front h)))
+        ∙ append_assoc front rest end
+
+    text_ends : (front last : List ℕ) (count : ℕ) → AreFirstTexts IsText count front → count ≡ chunk_count blocks → last ≡ totals_line (totals_of pages) → text_of_pages lines pages ≡ front ++ last
+    text_ends front last count h all is =
+        let whole : min (8 * count) blocks ≡ length pages = let c = origin.counted in omega (arith, c, all) in
+        text_is lines pages
+        ∙ ap₂ (λ (a b : List ℕ). a ++ b) (sym (front_is count front h ∙ ap (λ (k : ℕ). lines_from lines 0 (take k pages)) whole ∙ ap (lines_from lines 0) (take_all pages))) (sym is)
+
+    -- a prefix of the first texts is a prefix of the text of the pages
+    text_stops : (front : List ℕ) (count : ℕ) (old new : Option (List ℕ)) (e : JobError) → AreFirstTexts IsText count front → Puts front old new (Err e) → Puts (text_of_pages lines pages) old new (Err e)
+    text_stops front count old new e h puts =
+        stopped_in (text_of_pages lines pages) front (lines_from lines (0 + min (8 * count) blocks) (drop (min (8 * count) blocks) pages) ++ totals_line (totals_of pages)) old new e e (text_begins front count h) puts
+
+    -- where no worker began
+    pub text_of_some : (place : ℕ) → place ≡ base_of m.table → (old new : Option (List ℕ)) (e : JobError)
+        → PutsSome (IsTextBy (IsChunkText contents m rel fork lines) place) (chunk_count (blocks_in m rel fork)) old new e → Puts (text_of_pages lines pages) old new (Err e)
+    text_of_some place at old new e h =
+        let s = subst (λ (p : ℕ). PutsSome (IsTextBy (IsChunkText contents m rel fork lines) p) (chunk_count blocks) old new e) at h in
+        text_stops s.text s.many old new e s.texts_are s.puts
+
+  -- And what workers read of them
+  module _ {N A : Type 0} (base : ℕ) (lines : Lines) (ps : List PassState) (xs : List (Worker (Lister N A))) (cs : List (Claimed BlockRead)) (pages : List Page) (d : DoLists contents m rel fork base lines ps xs cs)
+      (named : (b : ℕ) → b < blocks_in m rel fork → names_block (tag_of_parts rel fork b) ≡ true) (origin : IsOrigin contents m rel fork pages) (fronts : AllAtBase (base_of m.table) (passes_of xs)) where
     claimed_base : (w : ℕ) (c : Claimed BlockRead) → get_elem? cs w ≡ some c → AtBase (blocks_in_all blocks c.chunks) c.items
     claimed_base w c at =
-        let h = claimed_at contents m rel fork lines w ps xs cs c d at in
-        at_base h.worker.pass.view.front (base_of m.table) (blocks_in_all blocks c.chunks) c.items refl (front_at (base_of m.table) w xs h.worker fronts h.there) h.did.reads.known h.did.reads.places
-
-    front_is : (many : ℕ) (front : List ℕ) → AreFirstTexts (HasText xs) many front → front ≡ lines_from lines 0 (take (min (8 * many) blocks) pages)
-    front_is many front h = front_origin lines blocks many pages front origin.counted
-        (front_of (HasText xs) (λ c s. s ≡ chunk_lines lines blocks pages c) many front
-        (λ k s t. chunk_origin lines blocks pages cs k s are_origins origin.counted claimed_base (chunk_text contents m rel fork lines ps xs cs k s d t)) h)
+        let h = claimed_at contents m rel fork base lines w ps xs cs c d at in
+        let front = front_at (base_of m.table) w xs h.worker fronts h.there in
+        at_base h.worker.pass.view.front (blocks_in_all blocks c.chunks) c.items (omega (arith, front)) h.did.reads.known h.did.reads.places
 
     -- what a block that was read weighs
     weigh : (f : ScanTotals → ℕ) (block : ℕ) (r : BlockRead) → (block < blocks) × IsAtBase contents m (tag_of_parts rel fork block) r → f (reads_totals (r ∷ [])) ≡ page_weight f pages block
     weigh f block r h =
         let p = there pages block (let c = origin.counted in let b = h.0 in omega (arith, c, b)) in
-        let had = had_page block 0 block pages p.0 are_origins (omega arith) p.1 in
+        let had = had_page block 0 block pages p.0 (are_origins lines named pages origin) (omega arith) p.1 in
         let one = read_is contents m lines block (tag_of_parts rel fork block) p.0 r had.block_of h.1 had.known in
         ap (λ (s : PageSummary). f (totals_of_summaries (s ∷ []))) one.1 ∙ sym (weight_at f pages block p.0 p.1)
 
@@ -303,44 +321,40 @@ module _ {L G : Type 0} (contents : L → Option Pages) (m : Manager L G) (rel :
     module _ (many : 0 < length ps) (once : DrewOnce xs) (done : AllDone xs) where
       totals_by_weight : (f : ScanTotals → ℕ) → AddsUp f → f (reads_totals (items_in_all cs)) ≡ f (totals_of pages)
       totals_by_weight f adds =
-          reads_all_by f adds blocks (page_weight f pages) cs (all_claimed contents m rel fork lines ps xs cs many d once done) (λ w c at. (covers_at contents m rel fork lines w ps xs cs c d done at, weighed f w c at))
+          reads_all_by f adds blocks (page_weight f pages) cs (all_claimed contents m rel fork base lines ps xs cs many d once done) (λ w c at. (covers_at contents m rel fork base lines w ps xs cs c d done at, weighed f w c at))
           ∙ ap (λ (n : ℕ). sum_below n (page_weight f pages)) (sym origin.counted)
           ∙ sym (pages_by f adds pages)
 
       totals_origin : job_totals xs ≡ totals_of pages
-      totals_origin = totals_read contents m rel fork lines ps xs cs d done ∙ totals_by (reads_totals (items_in_all cs)) (totals_of pages) totals_by_weight
+      totals_origin = totals_read contents m rel fork base lines ps xs cs d done ∙ totals_by (reads_totals (items_in_all cs)) (totals_of pages) totals_by_weight
 
-      text_whole : (front last : List ℕ) (count : ℕ) → AreFirstTexts (HasText xs) count front → count ≡ chunk_count blocks → last ≡ totals_line (job_totals xs) → text_of_pages lines pages ≡ front ++ last
-      text_whole front last count h all is =
-          let whole : min (8 * count) blocks ≡ length pages = let c = origin.counted in omega (arith, c, all) in
-          text_is lines pages
-          ∙ ap₂ (λ (a b : List ℕ). a ++ b)
-          (sym (front_is count front h ∙ ap (λ (k : ℕ). lines_from lines 0 (take k pages)) whole ∙ ap (lines_from lines 0) (take_all pages)))
-          (ap totals_line (sym totals_origin) ∙ sym is)
+      text_whole : (front last : List ℕ) (count : ℕ) → AreFirstTexts (IsTextBy (IsChunkText contents m rel fork lines) (base_of m.table)) count front → count ≡ chunk_count blocks
+          → last ≡ totals_line (job_totals xs) → text_of_pages lines pages ≡ front ++ last
+      text_whole front last count h all is = text_ends lines named pages origin front last count h all (is ∙ ap totals_line totals_origin)
 
-    text_begins : (front : List ℕ) (count : ℕ) → AreFirstTexts (HasText xs) count front
-        → text_of_pages lines pages ≡ (front ++ []) ++ (lines_from lines (0 + min (8 * count) blocks) (drop (min (8 * count) blocks) pages) ++ totals_line (totals_of pages))
-    text_begins front count h =
-        let k = min (8 * count) blocks in
-        let rest = lines_from lines (0 + k) (drop k pages) in
-        let end = totals_line (totals_of pages) in
-        text_is lines pages
-        ∙ ap (λ (l : List ℕ). l ++ end) (lines_split lines 0 k pages (let c = origin.counted in omega (arith, c)) ∙ ap (λ (l : List ℕ). l ++ rest) (sym (front_is count front h) ∙ sym (append-nil front)))
-        ∙ append_assoc (front ++ []) rest end
+    abbrev PutsAllBy : ℕ → Option (List ℕ) → Option (List ℕ) → Result Unit JobError → Type 0
+    PutsAllBy place old new end = PutsAll (IsTextBy (IsChunkText contents m rel fork lines) place) xs (chunk_count (blocks_in m rel fork)) old new end
 
-    stopped : (many : 0 < length ps) (once : DrewOnce xs) (old new : Option (List ℕ)) (e : JobError) (h : PutsAll xs (chunk_count blocks) old new (Err e)) → (h.last ≡ []) ⊎ ((h.many ≡ chunk_count blocks) × AllDone xs × (h.last ≡ totals_line (job_totals xs)))
+    stopped : (many : 0 < length ps) (once : DrewOnce xs) (old new : Option (List ℕ)) (e : JobError) (h : PutsAllBy (base_of m.table) old new (Err e))
+        → (h.last ≡ []) ⊎ ((h.many ≡ chunk_count blocks) × AllDone xs × (h.last ≡ totals_line (job_totals xs)))
         → Puts (text_of_pages lines pages) old new (Err e)
     stopped many once old new e h (inl none) =
-        stopped_in (text_of_pages lines pages) (h.text ++ []) (lines_from lines (0 + min (8 * h.many) blocks) (drop (min (8 * h.many) blocks) pages) ++ totals_line (totals_of pages)) old new e e (text_begins h.text h.many h.texts)
-        (subst (λ (l : List ℕ). Puts {E = JobError} (h.text ++ l) old new (Err e)) none h.puts)
+        text_stops lines named pages origin h.text h.many old new e h.texts_are
+        (subst (λ (l : List ℕ). Puts {E = JobError} l old new (Err e)) (ap (λ (l : List ℕ). h.text ++ l) none ∙ append-nil h.text) h.puts)
     stopped many once old new e h (inr all) =
-        subst (λ (l : List ℕ). Puts {E = JobError} l old new (Err e)) (sym (text_whole many once all.1 h.text h.last h.many h.texts all.0 all.2)) h.puts
+        subst (λ (l : List ℕ). Puts {E = JobError} l old new (Err e)) (sym (text_whole many once all.1 h.text h.last h.many h.texts_are all.0 all.2)) h.puts
 
     -- the text of the job is that of the pages, or a prefix of it
-    pub text_of_origin : {A : Type 0} (old new : Option (List ℕ)) (r : Result A JobError) → 0 < length ps → DrewOnce xs → OnOk r (AllDone xs) → PutsAll xs (chunk_count blocks) old new (as_done r) → Puts (text_of_pages lines pages) old new (as_done r)
-    text_of_origin old new (Ok a) many once ok h =
-        subst (λ (l : List ℕ). Puts {E = JobError} l old new (Ok tt)) (sym (text_whole many once ok h.text h.last h.many h.texts h.whole.0 h.whole.1)) h.puts
-    text_of_origin old new (Err e) many once ok h = stopped many once old new e h h.ending
+    text_at_base : {B : Type 0} (old new : Option (List ℕ)) (r : Result B JobError) → 0 < length ps → DrewOnce xs → OnOk r (AllDone xs) → PutsAllBy (base_of m.table) old new (as_done r)
+        → Puts (text_of_pages lines pages) old new (as_done r)
+    text_at_base old new (Ok a) many once ok h =
+        subst (λ (l : List ℕ). Puts {E = JobError} l old new (Ok tt)) (sym (text_whole many once ok h.text h.last h.many h.texts_are h.whole.0 h.whole.1)) h.puts
+    text_at_base old new (Err e) many once ok h = stopped many once old new e h h.ending
+
+    pub text_of_origin : {B : Type 0} (place : ℕ) → place ≡ base_of m.table → (old new : Option (List ℕ)) (r : Result B JobError) → 0 < length ps → DrewOnce xs → OnOk r (AllDone xs)
+        → PutsAll (IsTextBy (IsChunkText contents m rel fork lines) place) xs (chunk_count (blocks_in m rel fork)) old new (as_done r)
+        → Puts (text_of_pages lines pages) old new (as_done r)
+    text_of_origin place at old new r many once ok put = text_at_base old new r many once ok (subst (λ (p : ℕ). PutsAllBy p old new (as_done r)) at put)
 
     -- and so are its totals
     pub totals_of_origin : (r : Result Totals JobError) → 0 < length ps → DrewOnce xs → OnOk r (AllDone xs) → IfOk r (λ totals. totals ≡ totals_of_scan (job_totals xs)) → IfOk r (λ totals. totals ≡ totals_of_scan (totals_of pages))

@@ -22,7 +22,7 @@ use Rattle.page_jobs.specs.Jobs.{HaveNoTokens}
 use Rattle.page_jobs.specs.Reads.{HasNoTokens}
 use Rattle.page_jobs.specs.Rewrites.{AreOf, Outcome, outcome_totals}
 use Rattle.page_jobs.specs.Rewriting.{CountsRewrites, EndsRewriteFor, RewritesBlocks, RewritesWhole}
-use Rattle.page_jobs.specs.Working.{CanBegin, DoesBlocks, DoesChunk, DoesChunks, EndsAfter, FailsAtBlock, WorksChunk, WorksChunks}
+use Rattle.page_jobs.specs.Working.{DoesBlocks, DoesChunk, DoesChunks, EndsAfter, FailsAtBlock, WorksChunk, WorksChunks}
 use Rattle.page_jobs.proofs.Ascending.{ascend_front}
 use Rattle.page_jobs.proofs.ClaimedChunks.{IsOfDrawn, blocks_append, chunks_below, drawn_few, drawn_none, drawn_to_end, drawn_to_fault, drew_past, one_chunk}
 use Rattle.page_jobs.proofs.RewriteSums.{none_within, rewrites_first}
@@ -42,8 +42,8 @@ abbrev claim_of : List ℕ → List Outcome → Claimed Outcome
 claim_of chunks items = record { chunks = chunks; items = items }
 
 -- what a rewriter does at the end of a chunk, and how it begins
-abbrev pub rewrites_closes : ℕ → Rewriter → Rewriter → Result Unit JobError → Type 0
-rewrites_closes chunk k l end = (l ≡ k) × (end ≡ Ok tt)
+abbrev pub rewrites_closes : ℕ → PassState → Rewriter → Rewriter → Result Unit JobError → Type 0
+rewrites_closes chunk q k l end = (l ≡ k) × (end ≡ Ok tt)
 
 abbrev pub rewriter_begins : Rewriter → Type 0
 rewriter_begins k = k.totals ≡ no_rewrite_totals
@@ -192,12 +192,11 @@ module _ {L G : Type 0} (contents : L → Option Pages) (m : Manager L G) (rel :
   DoRewrites n (p ∷ ps) (x ∷ xs) (c ∷ cs) = RewritesClaims n x.seat.me.0.drawn p x.pass x.task.totals x.end c × DoRewrites n ps xs cs
   DoRewrites n ps xs cs = ⊥
 
-  pub do_rewrites : (fits : Rewriter → ℕ → Type 0) (n : ℕ) (ps : List PassState) (xs : List (Worker Rewriter)) → HaveNoTokens contents m ps → HaveDone (λ k. rewriter_begins k × CanBegin fits k) rewrites_block rewrites_closes n ps xs
-      → (cs : List (Claimed Outcome)) × DoRewrites n ps xs cs
-  do_rewrites fits n [] [] free d = ([], tt)
-  do_rewrites fits n [] (x ∷ xs) free d = absurd d
-  do_rewrites fits n (p ∷ ps) [] free d = absurd d
-  do_rewrites fits n (p ∷ ps) (x ∷ xs) free d =
-      let one = worker_claims n x.seat.me.0.drawn p x.pass d.0.0 x.task x.end free.0 d.0.1.0 d.0.2 in
-      let rest = do_rewrites fits n ps xs free.1 d.1 in
+  pub do_rewrites : (n : ℕ) (ps : List PassState) (xs : List (Worker Rewriter)) → HaveNoTokens contents m ps → HaveDone rewriter_begins rewrites_block rewrites_closes n ps xs → (cs : List (Claimed Outcome)) × DoRewrites n ps xs cs
+  do_rewrites n [] [] free d = ([], tt)
+  do_rewrites n [] (x ∷ xs) free d = absurd d
+  do_rewrites n (p ∷ ps) [] free d = absurd d
+  do_rewrites n (p ∷ ps) (x ∷ xs) free d =
+      let one = worker_claims n x.seat.me.0.drawn p x.pass d.0.0 x.task x.end free.0 d.0.1 d.0.2 in
+      let rest = do_rewrites n ps xs free.1 d.1 in
       (one.0 ∷ rest.0, (one.1, rest.1))

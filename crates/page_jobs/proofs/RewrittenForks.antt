@@ -1,9 +1,11 @@
 -- What a rewrite of a fork comes to, once its workers have ended.
-use Rattle.std.proofs.Common.{◌≡◌, ℕ, ◌+◌, ◌<◌, ◌≤◌, ◌⊎◌, true, List, [], ◌∷◌, ◌++◌, length, map, Option, Result, Ok, Err, sym, ap, ◌∙◌, subst, arith}
+use Rattle.std.proofs.Common.{◌≡◌, ℕ, ◌+◌, ◌<◌, ◌≤◌, ◌⊎◌, ◌^◌, true, List, [], ◌∷◌, ◌++◌, length, map, Option, Result, Ok, Err, sym, ap, ◌∙◌, subst, arith}
 use Rattle.std.specs.Prelude.{IfErr, IfOk, OnOk}
 use Rattle.std.proofs.lemmas.List.{length-append}
 use Rattle.block_tag.specs.declared.tag.Fork.{Fork}
 use Rattle.block_tag.specs.Names.{names_block, tag_of_parts}
+use Rattle.page_layout.specs.declared.outcomes.RewriteTotals.{RewriteTotals}
+use Rattle.page_layout.specs.Outcomes.{IsRewriteWithin}
 use Rattle.segment_store.specs.Contents.{Pages}
 use Rattle.chunk_claims.specs.Claims.{sum_below}
 use Rattle.backend_pass.specs.declared.manager.Manager.{Manager}
@@ -26,8 +28,13 @@ use Rattle.page_jobs.specs.Rewrites.{Outcome}
 use Rattle.page_jobs.specs.Working.{CanBegin}
 use Rattle.page_jobs.proofs.BesideWork.{done_met, last_did, ends_rewrite, job_met, last_stays, rewrites_met}
 use Rattle.page_jobs.proofs.Deals.{free_front, workers_before}
+use Rattle.page_jobs.proofs.RewriteSums.{none_within}
 use Rattle.page_jobs.proofs.RewrittenChunks.{DoRewrites, do_rewrites, rewriter_begins, rewrites_block, rewrites_closes}
 use Rattle.page_jobs.proofs.RewriteWorkers.{rewrite_cause, rewrite_done, rewrite_parts, rewrites_counted, rewrites_few, workers_long}
+
+-- the task of a worker that begins can count the blocks of any fork
+pub rewriter_fits : (k : Rewriter) → rewriter_begins k → CanBegin (λ (l : Rewriter) (n : ℕ). IsRewriteWithin l.totals l.totals.blocks × (l.totals.blocks + n ≤ 2 ^ 32)) k
+rewriter_fits k begins n few = let none = ap (λ (t : RewriteTotals). t.blocks) begins in (none_within k.totals begins, omega (arith, none, few))
 
 -- What a rewrite comes to, with this end
 pub record ComesTo {L G : Type 0} (contents : L → Option Pages) (m : Manager L G) (rel : ℕ) (fork : Fork) (did : PassState → PassState → Type 0) (ps qs : List PassState) (end : Result Totals JobError) : Type 0 where
@@ -38,9 +45,9 @@ pub record ComesTo {L G : Type 0} (contents : L → Option Pages) (m : Manager L
   pub done : IfOk end (RewritesFork contents m rel fork (workers_in ps) (workers_in qs))
   pub cause : IfErr end (EndsRewrite contents m rel fork ps qs)
 
-module _ {L G : Type 0} (contents : L → Option Pages) (m : Manager L G) (rel : ℕ) (fork : Fork) (fits : Rewriter → ℕ → Type 0) (did : PassState → PassState → Type 0) (all : List PassState) (ran : Ran Rewriter)
+module _ {L G : Type 0} (contents : L → Option Pages) (m : Manager L G) (rel : ℕ) (fork : Fork) (did : PassState → PassState → Type 0) (all : List PassState) (ran : Ran Rewriter)
     (many : 2 ≤ length all) (free : HaveNoTokens contents m all) (named : (block : ℕ) → block < blocks_in m rel fork → names_block (tag_of_parts rel fork block) ≡ true)
-    (h : HasRun contents m rel fork (rewrites_block contents m rel fork) rewrites_closes (λ k. rewriter_begins k × CanBegin fits k) did all ran) where
+    (h : HasRun contents m rel fork (rewrites_block contents m rel fork) rewrites_closes rewriter_begins did all ran) where
   long : length all ≡ length h.before + 1
   long = ap length h.split ∙ length-append h.before (h.last ∷ [])
 
@@ -54,7 +61,7 @@ module _ {L G : Type 0} (contents : L → Option Pages) (m : Manager L G) (rel :
   module _ (xs : List (Worker Rewriter)) (same : xs ≡ ran.workers.items) where
     did_claim : (cs : List (Claimed Outcome)) × DoRewrites contents m rel fork (blocks_in m rel fork) h.before xs cs
     did_claim = subst (λ (l : List (Worker Rewriter)). (cs : List (Claimed Outcome)) × DoRewrites contents m rel fork (blocks_in m rel fork) h.before l cs) (sym same)
-        (do_rewrites contents m rel fork fits (blocks_in m rel fork) h.before ran.workers.items (free_front contents m rel fork h.before (h.last ∷ []) (subst (HaveNoTokens contents m) h.split free)) h.done)
+        (do_rewrites contents m rel fork (blocks_in m rel fork) h.before ran.workers.items (free_front contents m rel fork h.before (h.last ∷ []) (subst (HaveNoTokens contents m) h.split free)) h.done)
 
     pub some_work : 0 < length xs
     some_work = let d = did_claim in let l = workers_long contents m rel fork (blocks_in m rel fork) h.before xs d.0 d.1 in let more = several in omega (arith, l, more)
@@ -97,8 +104,8 @@ module _ {L G : Type 0} (contents : L → Option Pages) (m : Manager L G) (rel :
         ends = let d = did_claim in ends_rewrite contents m all qs h.before ended h.last ran.last h.split back_is parts_in.counted rel fork r
             (rewrite_cause contents m rel fork h.before xs d.0 d.1 once.0 drawn_once several h.last ran.last ran.beside_end h.beside r cause)
 
-        pub comes_to : (end : Result Totals JobError) → end ≡ r → ComesTo contents m rel fork did all qs end
-        comes_to end is = subst (ComesTo contents m rel fork did all qs) (sym is) record {
+        pub comes_to : ComesTo contents m rel fork did all qs r
+        comes_to = record {
           passes = rewritten;
           last = last_stays contents m all qs h.before ended h.last ran.last h.split back_is parts_in.counted h.beside.works;
           met = job_met contents m all qs h.before ended h.last ran.last h.split back_is parts_in.counted r

@@ -1,23 +1,21 @@
--- The texts of chunks, put in their order.
-use Rattle.std.proofs.Common.{◌≡◌, ℕ, zero, suc, ◌+◌, ◌<◌, ◌≤◌, List, [], ◌∷◌, ◌++◌, length, drop, get_or, Option, Some, None, Result, Ok, Err, refl, sym, ap, ◌∙◌, subst, arith, append_assoc, inl, inr}
-use Rattle.std.specs.Prelude.{option_map, IfSome, IsSomeAnd}
+-- What was put at the end of a job, and how its workers ended.
+use Rattle.std.proofs.Common.{◌≡◌, ℕ, zero, suc, ◌+◌, ◌≤◌, ◌⊎◌, Bool, true, false, List, [], ◌∷◌, ◌++◌, drop, length, Option, Some, None, Result, Ok, Err, refl, sym, ap, ◌∙◌, subst, arith, append_assoc, inl, inr}
+use Rattle.std.specs.Prelude.{option_map, IfErr, IfSome, IsSomeAnd, OnOk}
 use Rattle.std.proofs.lemmas.List.{append-nil}
 use mathlib.Core.Option.{some, some-injective, some-ne-none}
 use lib.ListN.{get_elem?}
-use Rattle.atomic_table.proofs.Lists.{at_index, drop_at}
+use Rattle.atomic_table.proofs.Lists.{drop_at}
 use Rattle.log_device.specs.Bytes.{GainsPrefix, Puts}
-use Rattle.log_device.specs.declared.device.Failed.{Failed}
 use Rattle.page_layout.specs.declared.scan.ScanTotals.{ScanTotals}
-use Rattle.page_layout.specs.Scan.{IsWithin, sum_of_totals}
+use Rattle.page_layout.specs.Scan.{IsWithin}
+use Rattle.text_window.specs.Texts.{AreFirstTexts, HasPut, HasPutSome, IsFinished, IsTextBy, Job}
+use Rattle.text_window.proofs.Streams.{front_next}
 use Rattle.page_jobs.specs.declared.ending.JobError.{JobError}
-use Rattle.page_jobs.specs.declared.listing.ChunkText.{ChunkText}
 use Rattle.page_jobs.specs.declared.listing.Lister.{Lister}
 use Rattle.page_jobs.specs.declared.working.Worker.{Worker}
-use Rattle.page_jobs.specs.Chunks.{AreFirstTexts}
-use Rattle.page_jobs.specs.Dealt.{AllDone, AnyEnds, EndsFirst, HasNext, HasText, PutsAll, PutsFirst, TotalsAreInRange, job_totals}
+use Rattle.page_jobs.specs.Dealt.{AllDone, AnyEnds, EndsAsStopper, EndsFirst, PutsAll, PutsEnd, TotalsAreInRange, job_totals}
 use Rattle.page_jobs.specs.Printed.{totals_line}
-use Rattle.page_jobs.proofs.Standing.{inside, standing_or}
-use Rattle.page_jobs.proofs.Sums.{sum_assoc}
+use Rattle.page_jobs.proofs.Standing.{inside}
 
 -- two texts put one after the other
 pub put_twice : (a b : List ℕ) (old mid new : Option (List ℕ)) → mid ≡ option_map (λ bytes. bytes ++ a) old → new ≡ option_map (λ bytes. bytes ++ b) mid → new ≡ option_map (λ bytes. bytes ++ (a ++ b)) old
@@ -63,6 +61,24 @@ gains_on text part piece rest None mid new split is g = tt
 gains_on text part piece rest (Some old) mid new split is g =
     tells_after text part piece rest old new split (subst (λ (m : Option (List ℕ)). Gains piece m new) is g)
 
+gains_both : (part piece : List ℕ) (old new : Option (List ℕ)) → IfSome old (λ bytes. IsSomeAnd new (GainsPrefix piece (bytes ++ part))) → Gains (part ++ piece) old new
+gains_both part piece None new told = tt
+gains_both part piece (Some old) new told = tells_after (part ++ piece) part piece [] old new (ap (λ (l : List ℕ). part ++ l) (sym (append-nil piece))) told
+
+-- nothing was put after it
+none_before : (a b : List ℕ) → [] ≡ a ++ b → a ≡ []
+none_before [] b e = refl
+none_before (x ∷ a) b e = cc
+
+gains_none : (old new : List ℕ) → GainsPrefix [] old new → new ≡ old
+gains_none old new g = g.is ∙ ap (λ (l : List ℕ). old ++ l) (none_before g.prefix g.rest g.whole) ∙ append-nil old
+
+gains_still : (text : List ℕ) (old mid new : Option (List ℕ)) → Gains text old mid → Gains [] mid new → Gains text old new
+gains_still text None mid new g still = tt
+gains_still text (Some old) None new g still = absurd g
+gains_still text (Some old) (Some mid) None g still = absurd still
+gains_still text (Some old) (Some mid) (Some new) g still = subst (λ (l : List ℕ). GainsPrefix text old l) (sym (gains_none mid new still)) g
+
 -- a piece was put after the first part of a text, and then it ended
 pub stopped_after : {E F : Type 0} (text part piece rest : List ℕ) (old mid new : Option (List ℕ)) (r : Result Unit E) (f : F) → text ≡ part ++ (piece ++ rest) → mid ≡ option_map (λ b. b ++ part) old → Puts piece mid new r → Puts {E = F} text old new (Err f)
 stopped_after text part piece rest old mid new r f split is puts = record { ok = tt; failed = gains_on text part piece rest old mid new split is (gains_piece piece mid new r puts) }
@@ -75,140 +91,126 @@ stopped_in text part rest old new e f split puts =
 pub stopped_at : {F : Type 0} (text part rest : List ℕ) (old new : Option (List ℕ)) (f : F) → text ≡ part ++ rest → new ≡ option_map (λ b. b ++ part) old → Puts {E = F} text old new (Err f)
 stopped_at text part rest old new f split is = record { ok = tt; failed = gains_whole text part rest old new split is }
 
--- what stands at a place of a list, whatever stands past its end
-at_or : {A : Type 0} (l : List A) (i : ℕ) (d : A) → i < length l → get_elem? l i ≡ some (get_or l i d)
-at_or [] i d below = absurd (omega arith)
-at_or (x ∷ l) zero d below = refl
-at_or (x ∷ l) (suc i) d below = at_or l i d (omega arith)
+-- two pieces were put, the second one maybe in part
+puts_after : {E : Type 0} (part piece : List ℕ) (old mid new : Option (List ℕ)) (r : Result Unit E) → mid ≡ option_map (λ b. b ++ part) old → Puts piece mid new r → Puts (part ++ piece) old new r
+puts_after part piece old mid new (Ok done) is puts = record { ok = put_twice part piece old mid new is puts.ok; failed = tt }
+puts_after part piece old mid new (Err e) is puts = stopped_after (part ++ piece) part piece [] old mid new (Err e) e (ap (λ (l : List ℕ). part ++ l) (sym (append-nil piece))) is puts
 
--- what holds of each text holds of the texts of the first chunks
-pub front_of : (P Q : ℕ → List ℕ → Type 0) (many : ℕ) (t : List ℕ) → ((k : ℕ) (s : List ℕ) → P k s → Q k s) → AreFirstTexts P many t → AreFirstTexts Q many t
-front_of P Q zero t f h = h
-front_of P Q (suc many) t f h = (h.0, h.1, h.2, front_of P Q many h.0 f h.3, f many h.1 h.4)
+-- what holds in any case
+on_ok : {E : Type 0} (P : Type 0) (r : Result Unit E) → P → OnOk r P
+on_ok P (Ok done) p = p
+on_ok P (Err e) p = tt
 
-front_next : (P : ℕ → List ℕ → Type 0) (many : ℕ) (a x : List ℕ) → AreFirstTexts P many a → P many x → AreFirstTexts P (many + 1) (a ++ x)
-front_next P many a x h p = let e : suc many ≡ many + 1 = omega arith in subst (λ (k : ℕ). AreFirstTexts P k (a ++ x)) e (a, x, refl, h, p)
-
--- The texts of the first chunks, so many, were put
-pub record HasPut (ws : List (Worker Lister)) (many : ℕ) (old new : Option (List ℕ)) : Type 0 where
+-- Texts of some of the first chunks were put, or a prefix of them
+pub record PutsSome (texts : ℕ → List ℕ → Type 0) (chunks : ℕ) (old new : Option (List ℕ)) (e : JobError) : Type 0 where
+  pub many : ℕ
+  pub within : many ≤ chunks
   pub text : List ℕ
-  pub texts : AreFirstTexts (HasText ws) many text
-  pub out : new ≡ option_map (λ b. b ++ text) old
+  pub texts_are : AreFirstTexts texts many text
+  pub puts : Puts text old new (Err e)
 
-pub put_none : (ws : List (Worker Lister)) (old : Option (List ℕ)) → HasPut ws 0 old old
-put_none ws old = record { text = []; texts = refl; out = put_nothing old }
+-- what a window put: where a put failed, maybe only a prefix of the last of the texts
+put_some : (T : ℕ → ℕ → List ℕ → Type 0) (job : Job) (place : ℕ) (output : Bool) (mid : Option (List ℕ)) (e : JobError) → HasPutSome T job place output mid → PutsSome (IsTextBy T place) job.chunks job.before mid e
+put_some T job place true mid e h =
+    let p = h.1 in
+    record {
+      many = h.0 + 1;
+      within = (let w = p.within in omega (arith, w));
+      text = p.front ++ p.piece;
+      texts_are = front_next (IsTextBy T place) h.0 p.front p.piece p.is p.text;
+      puts = record { ok = tt; failed = gains_both p.front p.piece job.before mid p.part };
+    }
+put_some T job place false mid e h =
+    let p = h.2 in
+    record {
+      many = h.0;
+      within = h.1;
+      text = p.front;
+      texts_are = p.is;
+      puts = stopped_at p.front p.front [] job.before mid e (sym (append-nil p.front)) p.bytes_are;
+    }
 
-pub put_next : (ws : List (Worker Lister)) (many : ℕ) (text : List ℕ) (old mid new : Option (List ℕ)) → HasPut ws many old mid → HasText ws many text → new ≡ option_map (λ b. b ++ text) mid → HasPut ws (many + 1) old new
-put_next ws many text old mid new h has is = record {
-  text = h.text ++ text;
-  texts = front_next (HasText ws) many h.text text h.texts has;
-  out = put_twice h.text text old mid new h.out is;
+-- and nothing after that
+some_still : (texts : ℕ → List ℕ → Type 0) (chunks : ℕ) (old mid new : Option (List ℕ)) (e : JobError) (last : List ℕ) → PutsSome texts chunks old mid e → last ≡ [] → Puts last mid new (Err e)
+    → PutsSome texts chunks old new e
+some_still texts chunks old mid new e last h none puts = record {
+  many = h.many;
+  within = h.within;
+  text = h.text;
+  texts_are = h.texts_are;
+  puts = record { ok = tt; failed = gains_still h.text old mid new h.puts.failed (subst (λ (l : List ℕ). Gains l mid new) none puts.failed) };
 }
 
-pub put_failed : {E : Type 0} (ws : List (Worker Lister)) (many chunks : ℕ) (text : List ℕ) (old mid new : Option (List ℕ)) (r : Result Unit E) (f : Failed) → HasPut ws many old mid → HasText ws many text → Puts text mid new r → PutsFirst ws chunks old new (Err f)
-put_failed ws many chunks text old mid new r f h has puts = (
-  many + 1,
-  h.text ++ text,
-  front_next (HasText ws) many h.text text h.texts has,
-  stopped_after (h.text ++ text) h.text text [] old mid new r f (ap (λ (l : List ℕ). h.text ++ l) (sym (append-nil text))) h.out puts,
-)
+-- no line of totals was put where the workers had failed
+none_last : (output : Bool) (worked beside : Result Unit JobError) (totals : ScanTotals) (w : JobError) (last : List ℕ) → worked ≡ Err w
+    → (last ≡ []) ⊎ ((output ≡ false) × (worked ≡ Ok tt) × (beside ≡ Ok tt) × (last ≡ totals_line totals)) → last ≡ []
+none_last output worked beside totals w last failed (inl none) = none
+none_last output worked beside totals w last failed (inr h) = let done = h.1 in cc
 
-pub put_first : (ws : List (Worker Lister)) (many chunks : ℕ) (old new : Option (List ℕ)) → many ≤ chunks → HasPut ws many old new → PutsFirst ws chunks old new (Ok many)
-put_first ws many chunks old new le h = (le, (h.text, h.texts, record { ok = h.out; failed = tt }))
+-- what a window put at a job's end, where a put had failed, or workers had
+pub puts_some : (T : ℕ → ℕ → List ℕ → Type 0) (job : Job) (delivered above : ℕ) (output : Bool) (worked beside : Result Unit JobError) (totals : ScanTotals) (w : JobError) (old mid new : Option (List ℕ)) (e : JobError)
+    → (f : IsFinished T job delivered above output mid) → job.before ≡ old → worked ≡ Err w
+    → PutsEnd output worked beside totals mid new (Err e) → PutsSome (IsTextBy T f.place) job.chunks old new e
+puts_some T job delivered above output worked beside totals w old mid new e f before failed h =
+    subst (λ (o : Option (List ℕ)). PutsSome (IsTextBy T f.place) job.chunks o new e) before
+    (some_still (IsTextBy T f.place) job.chunks job.before mid new e h.last (put_some T job f.place output mid e f.some) (none_last output worked beside totals w h.last failed h.ending) h.puts)
 
--- the worker that was found has the text of the chunk
-next_of : (nexts : List ℕ) (place next : ℕ) → get_elem? nexts place ≡ some next → get_or nexts place 0 ≡ next
-next_of nexts place next at = standing_or nexts place next 0 at
+module _ {N A : Type 0} (T : ℕ → ℕ → List ℕ → Type 0) (job : Job) where
+  -- no line of totals was put
+  put_most : (place : ℕ) (ws : List (Worker (Lister N A))) (new : Option (List ℕ)) (e : JobError) → PutsSome (IsTextBy T place) job.chunks job.before new e
+      → PutsAll (IsTextBy T place) ws job.chunks job.before new (Err e)
+  put_most place ws new e h = record {
+    many = h.many;
+    within = h.within;
+    text = h.text;
+    texts_are = h.texts_are;
+    last = [];
+    ending = inl refl;
+    puts = stopped_in (h.text ++ []) h.text [] job.before new e e refl h.puts;
+    whole = tt;
+  }
 
-pub found_next : (ws : List (Worker Lister)) (nexts : List ℕ) (chunk place : ℕ) (w : Worker Lister) → HasNext ws nexts chunk place → get_or nexts place 0 < length (get_or ws place w).task.texts.items
-found_next ws nexts chunk place w h =
-    let same = standing_or ws place h.worker w h.there in
-    let number = next_of nexts place h.next h.at in
-    let below = inside h.worker.task.texts.items h.next h.kept h.listed in
-    subst (λ (x : Worker Lister). get_or nexts place 0 < length x.task.texts.items) (sym same) (omega (arith, number, below))
+  -- it was, after the texts of all chunks
+  put_line : (place : ℕ) (ws : List (Worker (Lister N A))) (totals : ScanTotals) (last : List ℕ) (mid new : Option (List ℕ)) (end : Result Unit JobError) → HasPut T job place job.chunks mid
+      → AllDone ws → totals ≡ job_totals ws → last ≡ totals_line totals
+      → Puts last mid new end → PutsAll (IsTextBy T place) ws job.chunks job.before new end
+  put_line place ws totals last mid new end h done counted line puts =
+      let is : last ≡ totals_line (job_totals ws) = line ∙ ap totals_line counted in
+      record {
+        many = job.chunks;
+        within = omega arith;
+        text = h.front;
+        texts_are = h.is;
+        last = last;
+        ending = inr (refl, done, is);
+        puts = puts_after h.front last job.before mid new end h.bytes_are puts;
+        whole = on_ok ((job.chunks ≡ job.chunks) × (last ≡ totals_line (job_totals ws))) end (refl, is);
+      }
 
-pub found_text : (ws : List (Worker Lister)) (nexts : List ℕ) (chunk place : ℕ) (w : Worker Lister) (k : ChunkText) (text : List ℕ) → HasNext ws nexts chunk place → k ≡ get_or (get_or ws place w).task.texts.items (get_or nexts place 0) k → text ≡ k.text.items
-    → HasText ws chunk text
-found_text ws nexts chunk place w k text h is text_is =
-    let same = standing_or ws place h.worker w h.there in
-    let number = next_of nexts place h.next h.at in
-    let kept : k ≡ h.kept = is
-    ∙ ap (λ (x : Worker Lister). get_or x.task.texts.items (get_or nexts place 0) k) same
-    ∙ ap (λ (n : ℕ). get_or h.worker.task.texts.items n k) number
-    ∙ standing_or h.worker.task.texts.items h.next h.kept k h.listed in
-    record {
-      place = place;
-      worker = h.worker;
-      there = h.there;
-      index = h.next;
-      kept = h.kept;
-      listed = h.listed;
-      number = h.number;
-      text_is = sym (text_is ∙ ap (λ (x : ChunkText). x.text.items) kept);
-    }
+  put_at_end : (delivered above : ℕ) (output : Bool) (worked beside : Result Unit JobError) (totals : ScanTotals) (ws : List (Worker (Lister N A))) (mid new : Option (List ℕ)) (end : Result Unit JobError)
+      → (f : IsFinished T job delivered above output mid) → PutsEnd output worked beside totals mid new end
+      → (worked ≡ Ok tt → (delivered ≡ job.chunks) × AllDone ws × (totals ≡ job_totals ws)) → OnOk end ((output ≡ false) × (worked ≡ Ok tt)) → PutsAll (IsTextBy T f.place) ws job.chunks job.before new end
+  put_at_end delivered above output worked beside totals ws mid new (Ok done) f h all ok =
+      let a = all ok.1 in
+      put_line f.place ws totals h.last mid new (Ok done) (f.whole ok.0 a.0) a.1 a.2 h.whole h.puts
+  put_at_end delivered above output worked beside totals ws mid new (Err e) f h all ok = ended h.ending
+    where
+      ended : (h.last ≡ []) ⊎ ((output ≡ false) × (worked ≡ Ok tt) × (beside ≡ Ok tt) × (h.last ≡ totals_line totals)) → PutsAll (IsTextBy T f.place) ws job.chunks job.before new (Err e)
+      ended (inl none) = put_most f.place ws new e (some_still (IsTextBy T f.place) job.chunks job.before mid new e h.last (put_some T job f.place output mid e f.some) none h.puts)
+      ended (inr line) =
+          let a = all line.1 in
+          put_line f.place ws totals h.last mid new (Err e) (f.whole line.0 a.0) a.1 a.2 line.3 h.puts
 
--- such a worker
-pub has_next : (ws : List (Worker Lister)) (nexts : List ℕ) (chunk place : ℕ) (w : Worker Lister) (k : ChunkText) (texts : List ChunkText) → length nexts ≡ length ws → place < length ws → w ≡ get_or ws place w → texts ≡ (get_or ws place w).task.texts.items
-    → get_or nexts place 0 < length texts → k ≡ get_or texts (get_or nexts place 0) k → k.number ≡ chunk → HasNext ws nexts chunk place
-has_next ws nexts chunk place w k texts long below is texts_are less kept number = record {
-  worker = w;
-  there = at_index ws place w below is;
-  next = get_or nexts place 0;
-  at = at_or nexts place 0 (omega (arith, long, below));
-  kept = k;
-  listed = subst (λ (t : List ChunkText). get_elem? t (get_or nexts place 0) ≡ some k) (texts_are ∙ ap (λ (x : Worker Lister). x.task.texts.items) (sym is)) (at_index texts (get_or nexts place 0) k less kept);
-  number = number;
-}
+-- and at any end
+pub puts_all : {N A : Type 0} (T : ℕ → ℕ → List ℕ → Type 0) (job : Job) (delivered above : ℕ) (output : Bool) (worked beside : Result Unit JobError) (totals : ScanTotals) (ws : List (Worker (Lister N A))) (old mid new : Option (List ℕ)) (end : Result Unit JobError)
+    → (f : IsFinished T job delivered above output mid) → PutsEnd output worked beside totals mid new end
+    → job.before ≡ old → (worked ≡ Ok tt → (delivered ≡ job.chunks) × AllDone ws × (totals ≡ job_totals ws)) → OnOk end ((output ≡ false) × (worked ≡ Ok tt)) → PutsAll (IsTextBy T f.place) ws job.chunks old new end
+puts_all T job delivered above output worked beside totals ws old mid new end f h before all ok =
+    subst (λ (o : Option (List ℕ)). PutsAll (IsTextBy T f.place) ws job.chunks o new end) before (put_at_end T job delivered above output worked beside totals ws mid new end f h all ok)
 
--- nothing was put
-pub put_not : (ws : List (Worker Lister)) (chunks : ℕ) (old : Option (List ℕ)) (e : JobError) → PutsAll ws chunks old old (Err e)
-put_not ws chunks old e = record { many = 0; text = []; texts = refl; last = []; ending = inl refl; puts = stopped_at [] [] [] old old e refl (put_nothing old); whole = tt }
-
--- no line of totals was put
-pub put_some : (ws : List (Worker Lister)) (chunks : ℕ) (old new : Option (List ℕ)) (r : Result ℕ Failed) (e : JobError) → PutsFirst ws chunks old new r → PutsAll ws chunks old new (Err e)
-put_some ws chunks old new (Ok many) e h =
-    let p = h.1 in
-    record { many = many; text = p.0; texts = p.1; last = []; ending = inl refl; puts = stopped_at (p.0 ++ []) p.0 [] old new e refl p.2.ok; whole = tt }
-put_some ws chunks old new (Err f) e h = record { many = h.0; text = h.1; texts = h.2; last = []; ending = inl refl; puts = stopped_in (h.1 ++ []) h.1 [] old new f e refl h.3; whole = tt }
-
--- it was put in part
-pub put_most : {E : Type 0} (ws : List (Worker Lister)) (many chunks : ℕ) (totals : ScanTotals) (old mid new : Option (List ℕ)) (r : Result Unit E) (e : JobError) → PutsFirst ws chunks old mid (Ok many) → chunks ≤ many → AllDone ws → totals ≡ job_totals ws
-    → Puts (totals_line totals) mid new r → PutsAll ws chunks old new (Err e)
-put_most ws many chunks totals old mid new r e h all done is puts =
-    let p = h.1 in
-    let line = totals_line totals in
-    record {
-      many = many;
-      text = p.0;
-      texts = p.1;
-      last = line;
-      ending = inr ((let le = h.0 in omega (arith, le, all)), done, ap totals_line is);
-      puts = stopped_after (p.0 ++ line) p.0 line [] old mid new r e (ap (λ (l : List ℕ). p.0 ++ l) (sym (append-nil line))) p.2.ok puts;
-      whole = tt;
-    }
-
--- and whole
-pub put_whole : {E : Type 0} (ws : List (Worker Lister)) (many chunks : ℕ) (totals : ScanTotals) (old mid new : Option (List ℕ)) → PutsFirst ws chunks old mid (Ok many) → chunks ≤ many → AllDone ws → totals ≡ job_totals ws
-    → Puts {E = E} (totals_line totals) mid new (Ok tt) → PutsAll ws chunks old new (Ok tt)
-put_whole ws many chunks totals old mid new h all done is puts =
-    let p = h.1 in
-    let line = totals_line totals in
-    let count : many ≡ chunks = let le = h.0 in omega (arith, le, all) in
-    record {
-      many = many;
-      text = p.0;
-      texts = p.1;
-      last = line;
-      ending = inr (count, done, ap totals_line is);
-      puts = record { ok = put_twice p.0 line old mid new p.2.ok puts.ok; failed = tt };
-      whole = (count, ap totals_line is);
-    }
-
-pub drop_all : {A : Type 0} (l : List A) (i : ℕ) → length l ≤ i → drop i l ≡ []
-drop_all [] zero le = refl
-drop_all [] (suc i) le = refl
-drop_all (x ∷ l) zero le = absurd (omega arith)
-drop_all (x ∷ l) (suc i) le = drop_all l i (omega arith)
+-- at a job's end nothing was put
+pub end_none : (output : Bool) (worked beside : Result Unit JobError) (totals : ScanTotals) (old : Option (List ℕ)) (e : JobError) → PutsEnd output worked beside totals old old (Err e)
+end_none output worked beside totals old e = record { last = []; ending = inl refl; puts = stopped_at [] [] [] old old e refl (put_nothing old); whole = tt }
 
 -- the first of the workers from one on that failed is the first of all, where those before it are done
 pub first_here : {K : Type 0} (ws : List (Worker K)) (i : ℕ) (w : Worker K) (e : JobError) → get_elem? ws i ≡ some w → w.end ≡ Err e → EndsFirst e (drop i ws)
@@ -224,31 +226,39 @@ any_first e [] ends = absurd ends
 any_first e (w ∷ ws) (inl is) = inl is
 any_first e (w ∷ ws) (inr later) = inr (any_first e ws later.1)
 
+pub any_at : {K : Type 0} (ws : List (Worker K)) (i : ℕ) (w : Worker K) (e : JobError) → get_elem? ws i ≡ some w → w.end ≡ Err e → AnyEnds e ws
+any_at [] i w e at is = absurd (some-ne-none w (sym at))
+any_at {K = K} (x ∷ ws) zero w e at is = inl (subst (λ (y : Worker K). y.end ≡ Err e) (sym (some-injective x w at)) is)
+any_at (x ∷ ws) (suc i) w e at is = inr (any_at ws i w e at is)
+
+-- how a worker ended is how one of them did
+pub any_end : {K : Type 0} (ws : List (Worker K)) (i : ℕ) (w : Worker K) → get_elem? ws i ≡ some w → IfErr w.end (λ e. AnyEnds e ws)
+any_end ws i w at = from w.end refl
+  where
+    from : (r : Result Unit JobError) → w.end ≡ r → IfErr r (λ e. AnyEnds e ws)
+    from (Ok done) is = tt
+    from (Err e) is = any_at ws i w e at is
+
+-- the worker that stopped the job ended so
+pub stopper_there : {K : Type 0} (ws : List (Worker K)) (stopped_by : Option ℕ) (i : ℕ) (a : Worker K) → stopped_by ≡ Some i → get_elem? ws i ≡ some a → EndsAsStopper stopped_by ws a.end
+stopper_there {K = K} ws stopped_by i a is there n w e by at failed =
+    let both : Some i ≡ Some n = sym is ∙ by in
+    let same : i ≡ n = cc in
+    ap (λ (x : Worker K). x.end) (some-injective a w (sym there ∙ ap (λ (k : ℕ). get_elem? ws k) same ∙ at)) ∙ failed
+
+-- there is none of that number
+pub stopper_none : {K : Type 0} (ws : List (Worker K)) (stopped_by : Option ℕ) (i : ℕ) (end : Result Unit JobError) → stopped_by ≡ Some i → length ws ≤ i → EndsAsStopper stopped_by ws end
+stopper_none ws stopped_by i end is past n w e by at failed =
+    let both : Some i ≡ Some n = sym is ∙ by in
+    let same : i ≡ n = cc in
+    let below = inside ws n w at in
+    absurd (omega (arith, same, below, past))
+
 -- where the rest is done all are, of any workers
 pub done_next : {K : Type 0} (ws : List (Worker K)) (i : ℕ) (w : Worker K) → get_elem? ws i ≡ some w → w.end ≡ Ok tt → (AllDone (drop i ws) → AllDone ws) → AllDone (drop (i + 1) ws) → AllDone ws
 done_next ws i w at ok f rest = let n : suc i ≡ i + 1 = omega arith in f (subst AllDone (sym (drop_at ws i w at)) (ok, subst (λ (k : ℕ). AllDone (drop k ws)) (sym n) rest))
 
-pub done_all : {K : Type 0} (ws : List (Worker K)) (i : ℕ) → length ws ≤ i → (AllDone (drop i ws) → AllDone ws) → AllDone ws
-done_all ws i all f = f (subst AllDone (sym (drop_all ws i all)) tt)
-
-pub counted_at : (ws : List (Worker Lister)) (i : ℕ) (w : Worker Lister) → TotalsAreInRange ws → get_elem? ws i ≡ some w → IsWithin w.task.printed.totals w.task.printed.totals.blocks
+pub counted_at : {N A : Type 0} (ws : List (Worker (Lister N A))) (i : ℕ) (w : Worker (Lister N A)) → TotalsAreInRange ws → get_elem? ws i ≡ some w → IsWithin w.task.printed.totals w.task.printed.totals.blocks
 counted_at [] i w c at = absurd (some-ne-none w (sym at))
-counted_at (x ∷ ws) zero w c at = subst (λ (y : Worker Lister). IsWithin y.task.printed.totals y.task.printed.totals.blocks) (some-injective x w at) c.0
+counted_at {N = N} {A = A} (x ∷ ws) zero w c at = subst (λ (y : Worker (Lister N A)). IsWithin y.task.printed.totals y.task.printed.totals.blocks) (some-injective x w at) c.0
 counted_at (x ∷ ws) (suc i) w c at = counted_at ws i w c.1 at
-
-next_totals : (ws : List (Worker Lister)) (i : ℕ) (w : Worker Lister) → get_elem? ws i ≡ some w → job_totals (drop i ws) ≡ sum_of_totals w.task.printed.totals (job_totals (drop (i + 1) ws))
-next_totals ws i w at = ap job_totals (drop_at ws i w at) ∙ ap (λ (n : ℕ). sum_of_totals w.task.printed.totals (job_totals (drop n ws))) (let e : suc i ≡ i + 1 = omega arith in e)
-
-pub totals_next : (ws : List (Worker Lister)) (i : ℕ) (w : Worker Lister) (t u : ScanTotals) → get_elem? ws i ≡ some w → sum_of_totals t (job_totals (drop i ws)) ≡ job_totals ws → u ≡ sum_of_totals t w.task.printed.totals → sum_of_totals u (job_totals (drop (i + 1) ws)) ≡ job_totals ws
-totals_next ws i w t u at so_far more =
-    ap (λ (x : ScanTotals). sum_of_totals x (job_totals (drop (i + 1) ws))) more
-    ∙ sum_assoc t w.task.printed.totals (job_totals (drop (i + 1) ws))
-    ∙ ap (λ (x : ScanTotals). sum_of_totals t x) (sym (next_totals ws i w at))
-    ∙ so_far
-
-pub totals_fit : (ws : List (Worker Lister)) (i : ℕ) (w : Worker Lister) (t : ScanTotals) → get_elem? ws i ≡ some w → sum_of_totals t (job_totals (drop i ws)) ≡ job_totals ws → t.blocks + w.task.printed.totals.blocks ≤ (job_totals ws).blocks
-totals_fit ws i w t at so_far =
-    let a = ap (λ (x : ScanTotals). x.blocks) so_far in let b = ap (λ (x : ScanTotals). x.blocks) (next_totals ws i w at) in omega arith
-
-pub totals_all : (ws : List (Worker Lister)) (i : ℕ) (t : ScanTotals) → length ws ≤ i → sum_of_totals t (job_totals (drop i ws)) ≡ job_totals ws → sum_of_totals t (job_totals []) ≡ job_totals ws
-totals_all ws i t all so_far = ap (λ (l : List (Worker Lister)). sum_of_totals t (job_totals l)) (sym (drop_all ws i all)) ∙ so_far

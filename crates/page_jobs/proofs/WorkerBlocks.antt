@@ -10,7 +10,7 @@ use Rattle.page_jobs.specs.declared.working.Worker.{Worker}
 use Rattle.page_jobs.specs.Chunks.{Ascend, chunk_count, chunk_size}
 use Rattle.page_jobs.specs.Dealt.{AreDealt, HaveDone}
 use Rattle.page_jobs.specs.Working.{DoesBlocks, DoesChunk, DoesChunks, HasWorked, HaveWorked, WorksChunk, WorksChunks}
-use Rattle.page_jobs.proofs.ChunkSums.{total_nothing}
+use Rattle.chunk_claims.proofs.Weights.{total_nothing}
 
 module _ {K : Type 0} (does : ℕ → PassState → PassState → K → K → Result Unit JobError → Type 0) where
   -- one block more
@@ -29,7 +29,7 @@ module _ {K : Type 0} (does : ℕ → PassState → PassState → K → K → Re
         does_more (from + 1) n so_far.0 q r so_far.1 l i so_far.3 (subst (λ (b : ℕ). does b q r l i (Ok tt)) at d),
       )
 
-module _ {K : Type 0} (does : ℕ → PassState → PassState → K → K → Result Unit JobError → Type 0) (closes : ℕ → K → K → Result Unit JobError → Type 0) (n : ℕ) where
+module _ {K : Type 0} (does : ℕ → PassState → PassState → K → K → Result Unit JobError → Type 0) (closes : ℕ → PassState → K → K → Result Unit JobError → Type 0) (n : ℕ) where
   -- one chunk more
   pub chunks_more : (cs : List ℕ) (c : ℕ) (p q r : PassState) (k l i : K) → DoesChunks does closes n cs p q k l → c < chunk_count n → DoesChunk does closes n c q r l i (Ok tt) → DoesChunks does closes n (cs ++ c ∷ []) p r k i
   chunks_more [] c p q r k l i so_far low d = (

@@ -1,5 +1,5 @@
 -- The blocks of a fork in chunks of eight.
-use Rattle.std.specs.Prelude.{◌≡◌, ℕ, zero, suc, ◌+◌, ◌*◌, ◌-◌, ◌/◌, ◌<◌, ◌≤◌, List, [], ◌∷◌, ◌++◌, length, min}
+use Rattle.std.specs.Prelude.{◌≡◌, ℕ, ◌+◌, ◌*◌, ◌-◌, ◌/◌, ◌<◌, ◌≤◌, List, [], ◌∷◌, ◌++◌, length, min}
 use mathlib.Core.Option.{some}
 use lib.ListN.{get_elem?}
 use Rattle.grid.specs.Shape.{total}
@@ -63,8 +63,3 @@ AreFirstClaimed n cs = (many : ℕ) × (many ≤ chunk_count n) × ((g : ℕ →
 -- they claimed all chunks, each once
 abbrev pub AreAllClaimed : {A : Type 0} → ℕ → List (Claimed A) → Type 0
 AreAllClaimed n cs = (g : ℕ → ℕ) → total (λ c. total g c.chunks) cs ≡ sum_below (chunk_count n) g
-
--- the texts of the first chunks, so many, one after the other
-abbrev pub AreFirstTexts : (ℕ → List ℕ → Type 0) → ℕ → List ℕ → Type 0
-AreFirstTexts texts zero t = t ≡ []
-AreFirstTexts texts (suc n) t = (a : List ℕ) × (x : List ℕ) × (t ≡ a ++ x) × AreFirstTexts texts n a × texts n x

@@ -1,5 +1,5 @@
 -- What the workers of a job begin with, and what became of them.
-use Rattle.std.specs.Prelude.{◌≡◌, ◌⊎◌, ℕ, ◌+◌, ◌<◌, ◌≤◌, ◌^◌, List, [], ◌∷◌, ◌++◌, Option, Result, Ok, Err, OnOk, length, All, vec_capacity, vec_len}
+use Rattle.std.specs.Prelude.{◌≡◌, ◌⊎◌, ℕ, ◌+◌, ◌<◌, ◌≤◌, ◌^◌, Bool, false, MatchBool, List, [], ◌∷◌, ◌++◌, Option, Some, Result, Ok, Err, OnOk, length, All, vec_capacity, vec_len}
 use mathlib.Core.Option.{some}
 use lib.ListN.{get_elem?}
 use Rattle.block_tag.specs.declared.tag.Fork.{Fork}
@@ -8,20 +8,21 @@ use Rattle.chunk_claims.specs.declared.claims.Claims.{Claims}
 use Rattle.chunk_claims.specs.Claims.{SitsAt}
 use Rattle.grid.specs.Shape.{total}
 use Rattle.log_device.specs.Bytes.{Puts}
-use Rattle.log_device.specs.declared.device.Failed.{Failed}
+use Rattle.log_device.specs.Faults.{Rose}
+use Rattle.text_window.specs.Texts.{AreFirstTexts}
 use Rattle.page_layout.specs.declared.scan.ScanTotals.{ScanTotals}
 use Rattle.page_layout.specs.Scan.{IsWithin, no_totals, sum_of_totals}
 use Rattle.segment_store.specs.Contents.{Pages}
 use Rattle.backend_pass.specs.declared.manager.Manager.{Manager}
 use Rattle.backend_pass.specs.Passes.{PassState}
 use Rattle.page_jobs.specs.declared.ending.JobError.{JobError}
-use Rattle.page_jobs.specs.declared.listing.ChunkText.{ChunkText}
+use Rattle.page_jobs.specs.declared.ending.JobError.TheVariants.{Memory, OutFault}
 use Rattle.page_jobs.specs.declared.listing.Lister.{Lister}
 use Rattle.page_jobs.specs.declared.running.Dealt.{Dealt}
 use Rattle.page_jobs.specs.declared.running.Ran.{Ran}
 use Rattle.page_jobs.specs.declared.working.Worker.{Worker}
 use Rattle.page_jobs.specs.Beside.{EndsBeside}
-use Rattle.page_jobs.specs.Chunks.{AreFirstTexts, chunk_count}
+use Rattle.page_jobs.specs.Chunks.{chunk_count}
 use Rattle.page_jobs.specs.Parts.{blocks_in}
 use Rattle.page_jobs.specs.Printed.{totals_line}
 use Rattle.page_jobs.specs.Reads.{HasNoTokens}
@@ -63,7 +64,7 @@ module _ {K : Type 0} (begins : K → Type 0) (claims : Claims) where
   AreDealt number (p ∷ ps) [] = ⊥
   AreDealt number (p ∷ ps) (w ∷ ws) = IsDealt number p w × AreDealt (number + 1) ps ws
 
-module _ {K : Type 0} (begins : K → Type 0) (does : ℕ → PassState → PassState → K → K → Result Unit JobError → Type 0) (closes : ℕ → K → K → Result Unit JobError → Type 0) (n : ℕ) where
+module _ {K : Type 0} (begins : K → Type 0) (does : ℕ → PassState → PassState → K → K → Result Unit JobError → Type 0) (closes : ℕ → PassState → K → K → Result Unit JobError → Type 0) (n : ℕ) where
   -- the workers that the passes became have worked, on chunks of n blocks
   abbrev pub HaveDone : List PassState → List (Worker K) → Type 0
   HaveDone [] [] = Unit {0}
@@ -95,61 +96,66 @@ abbrev pub EndsFirst : {K : Type 0} → JobError → List (Worker K) → Type 0
 EndsFirst e [] = ⊥
 EndsFirst e (w ∷ ws) = (w.end ≡ Err e) ⊎ ((w.end ≡ Ok tt) × EndsFirst e ws)
 
+-- where the worker that stopped the job failed, this is how it ended
+abbrev pub EndsAsStopper : {K : Type 0} → Option ℕ → List (Worker K) → Result Unit JobError → Type 0
+EndsAsStopper {K = K} stopped_by ws end = (n : ℕ) (w : Worker K) (e : JobError) → stopped_by ≡ Some n → get_elem? ws n ≡ some w → w.end ≡ Err e → end ≡ Err e
+
+-- the workers gave their tasks back to the job's, the last worker first
+abbrev pub HaveJoined : {K : Type 0} → (K → K → K → Type 0) → List (Worker K) → K → K → Type 0
+HaveJoined joins [] k l = l ≡ k
+HaveJoined {K = K} joins (w ∷ ws) k l = (i : K) × HaveJoined joins ws k i × joins i w.task l
+
 -- what they count, in all
-abbrev pub job_totals : List (Worker Lister) → ScanTotals
+abbrev pub job_totals : {N A : Type 0} → List (Worker (Lister N A)) → ScanTotals
 job_totals [] = no_totals
 job_totals (w ∷ ws) = sum_of_totals w.task.printed.totals (job_totals ws)
 
--- one of the workers kept this text of a chunk
-pub record HasText (ws : List (Worker Lister)) (chunk : ℕ) (text : List ℕ) : Type 0 where
-  pub place : ℕ
-  pub worker : Worker Lister
-  pub there : get_elem? ws place ≡ some worker
-  pub index : ℕ
-  pub kept : ChunkText
-  pub listed : get_elem? worker.task.texts.items index ≡ some kept
-  pub number : kept.number ≡ chunk
-  pub text_is : kept.text.items ≡ text
+-- no number of theirs is above what their blocks can give
+abbrev pub TotalsAreInRange : {N A : Type 0} → List (Worker (Lister N A)) → Type 0
+TotalsAreInRange [] = Unit {0}
+TotalsAreInRange (w ∷ ws) = IsWithin w.task.printed.totals w.task.printed.totals.blocks × TotalsAreInRange ws
 
--- The worker at this place kept the text of a chunk, which is the next one of its texts
-pub record HasNext (ws : List (Worker Lister)) (nexts : List ℕ) (chunk place : ℕ) : Type 0 where
-  pub worker : Worker Lister
-  pub there : get_elem? ws place ≡ some worker
-  pub next : ℕ
-  pub at : get_elem? nexts place ≡ some next
-  pub kept : ChunkText
-  pub listed : get_elem? worker.task.texts.items next ≡ some kept
-  pub number : kept.number ≡ chunk
+-- how many texts they delivered, and how many of those they read past the log's base
+abbrev pub total_delivered : {N A : Type 0} → List (Worker (Lister N A)) → ℕ
+total_delivered ws = total (λ w. w.task.shares.delivered.amount) ws
 
--- the texts of the first chunks were put, in their order, so many; or a prefix of the texts of some of the first
-abbrev pub PutsFirst : List (Worker Lister) → ℕ → Option (List ℕ) → Option (List ℕ) → Result ℕ Failed → Type 0
-PutsFirst ws chunks old new (Ok many) = (many ≤ chunks) × ((text : List ℕ) × AreFirstTexts (HasText ws) many text × Puts {E = Failed} text old new (Ok tt))
-PutsFirst ws chunks old new (Err e) = (many : ℕ) × (text : List ℕ) × AreFirstTexts (HasText ws) many text × Puts text old new (Err e)
+abbrev pub total_above : {N A : Type 0} → List (Worker (Lister N A)) → ℕ
+total_above ws = total (λ w. w.task.shares.above.amount) ws
 
--- What was put of all that the workers have to show: a prefix of the texts of some of the first chunks, and after those of all chunks of the line of the totals; where it ended well, all of these
-pub record PutsAll (ws : List (Worker Lister)) (chunks : ℕ) (old new : Option (List ℕ)) (end : Result Unit JobError) : Type 0 where
+-- At the end of a job the line of the totals was put, or a prefix of it, if no put had failed before, and the workers and the work beside them had ended well; otherwise nothing
+pub record PutsEnd (output : Bool) (worked beside : Result Unit JobError) (totals : ScanTotals) (old new : Option (List ℕ)) (end : Result Unit JobError) : Type 0 where
+  pub last : List ℕ
+  pub ending : (last ≡ []) ⊎ ((output ≡ false) × (worked ≡ Ok tt) × (beside ≡ Ok tt) × (last ≡ totals_line totals))
+  pub puts : Puts last old new end
+  pub whole : OnOk end (last ≡ totals_line totals)
+
+-- Why no totals were put: a put had failed before, or this one did; or a worker had failed, the work beside them was refused, or there was no memory
+abbrev pub PutsNoEnd : Bool → Result Unit JobError → Result Unit JobError → ℕ → ℕ → JobError → Type 0
+PutsNoEnd output worked beside outs outs_now e =
+    ((e ≡ OutFault) × MatchBool output (outs_now ≡ outs) (Rose outs outs_now))
+    ⊎ ((output ≡ false) × (outs_now ≡ outs) × ((e ≡ Memory) ⊎ ((worked ≡ Err e) ⊎ (beside ≡ Err e))))
+
+-- What was put in all: a prefix of the texts of some of the first chunks, and after those of all chunks of the line of the totals; where it ended well, all of these
+pub record PutsAll {N A : Type 0} (texts : ℕ → List ℕ → Type 0) (ws : List (Worker (Lister N A))) (chunks : ℕ) (old new : Option (List ℕ)) (end : Result Unit JobError) : Type 0 where
   pub many : ℕ
+  pub within : many ≤ chunks
   pub text : List ℕ
-  pub texts : AreFirstTexts (HasText ws) many text
+  pub texts_are : AreFirstTexts texts many text
   pub last : List ℕ
   pub ending : (last ≡ []) ⊎ ((many ≡ chunks) × AllDone ws × (last ≡ totals_line (job_totals ws)))
   pub puts : Puts (text ++ last) old new end
   pub whole : OnOk end ((many ≡ chunks) × (last ≡ totals_line (job_totals ws)))
 
--- no number of theirs is above what their blocks can give
-abbrev pub TotalsAreInRange : List (Worker Lister) → Type 0
-TotalsAreInRange [] = Unit {0}
-TotalsAreInRange (w ∷ ws) = IsWithin w.task.printed.totals w.task.printed.totals.blocks × TotalsAreInRange ws
-
 module _ {L G : Type 0} (contents : L → Option Pages) (m : Manager L G) where
-  -- A worker can begin: its pass has no token, its seat claimed nothing, and its task can count
-  pub record IsReady {K : Type 0} (claims : Claims) (fits : K → ℕ → Type 0) (w : Worker K) : Type 0 where
+  -- A worker can begin: its pass has no token, its seat claimed nothing, and its task can count and can begin a chunk
+  pub record IsReady {K : Type 0} (claims : Claims) (fits : K → ℕ → Type 0) (opens : K → Type 0) (w : Worker K) : Type 0 where
     pub free : HasNoTokens contents m w.pass
     pub seat : HasSeat claims w
     pub task : CanBegin fits w.task
+    pub opened : opens w.task
 
   -- The passes but the last one worked, on chunks of the fork's blocks, and the last one worked beside them: where its work ended well, it did this. There is room for all of them in the list that they were in, and their seats can be given back
-  pub record HasRun {K : Type 0} (rel : ℕ) (fork : Fork) (does : ℕ → PassState → PassState → K → K → Result Unit JobError → Type 0) (closes : ℕ → K → K → Result Unit JobError → Type 0) (begins : K → Type 0) (did : PassState → PassState → Type 0) (ps : List PassState) (ran : Ran K) : Type 0 where
+  pub record HasRun {K : Type 0} (rel : ℕ) (fork : Fork) (does : ℕ → PassState → PassState → K → K → Result Unit JobError → Type 0) (closes : ℕ → PassState → K → K → Result Unit JobError → Type 0) (begins : K → Type 0) (did : PassState → PassState → Type 0) (ps : List PassState) (ran : Ran K) : Type 0 where
     pub before : List PassState
     pub last : PassState
     pub split : ps ≡ before ++ last ∷ []

@@ -1,5 +1,5 @@
 -- What a scan and a dump do.
-use Rattle.std.specs.Prelude.{◌≡◌, ℕ, ◌-◌, ◌⊎◌, List, [], ◌∷◌, ◌++◌, length, take, Option, Some, Result, IfOk}
+use Rattle.std.specs.Prelude.{◌≡◌, ℕ, ◌-◌, ◌≤◌, ◌⊎◌, List, [], ◌∷◌, ◌++◌, length, take, Option, Some, Result, IfOk}
 use mathlib.Core.Option.{some}
 use lib.ListN.{get_elem?}
 use Rattle.block_tag.specs.declared.tag.Fork.{Fork}
@@ -9,7 +9,8 @@ use Rattle.log_device.specs.Bytes.{Puts}
 use Rattle.log_device.specs.Faults.{Rose}
 use Rattle.segment_store.specs.Contents.{Pages}
 use Rattle.pin_core.specs.State.{Page}
-use Rattle.frame_table.specs.Seats.{lanes_in, opened_of}
+use Rattle.text_window.specs.Texts.{AreFirstTexts, IsTextBy}
+use Rattle.frame_table.specs.Seats.{base_of, lanes_in, opened_of}
 use Rattle.held_pins.specs.Tokens.{no_tokens}
 use Rattle.backend_pass.specs.declared.manager.Manager.{Manager}
 use Rattle.backend_pass.specs.Passes.{PassState}
@@ -18,9 +19,11 @@ use Rattle.page_jobs.specs.declared.ending.JobError.TheVariants.{Memory, OutFaul
 use Rattle.page_jobs.specs.declared.ending.Totals.{Totals}
 use Rattle.page_jobs.specs.declared.printing.Lines.{Lines}
 use Rattle.page_jobs.specs.Beside.{LastIsRefused}
-use Rattle.page_jobs.specs.Chunks.{AreAllClaimed, AreFirstClaimed, Claimed, CoversAll, CoversChunks, AreFirstTexts, blocks_in_all, blocks_of, chunk_count, items_in_all}
+use Rattle.page_jobs.specs.Chunks.{AreAllClaimed, AreFirstClaimed, Claimed, CoversAll, CoversChunks, blocks_in_all, chunk_count, items_in_all}
+use Rattle.page_jobs.specs.ChunkTexts.{IsChunkText}
 use Rattle.page_jobs.specs.Ending.{as_done, totals_of_scan}
-use Rattle.page_jobs.specs.Printed.{BlockRead, reads_lines, reads_totals, totals_line}
+use Rattle.page_jobs.specs.Printed.{BlockRead, reads_totals, totals_line}
+use Rattle.page_jobs.specs.Relations.{MeetNothing}
 use Rattle.page_jobs.specs.Reads.{HasNoTokens, IsWithinFront, Stays, calls_of_reads}
 use Rattle.page_jobs.specs.Parts.{AllReads, AreKnown, MeetsFault, blocks_in}
 
@@ -32,23 +35,6 @@ workers_in ps = take (length ps - 1) ps
 abbrev pub AllAtBase : ℕ → List PassState → Type 0
 AllAtBase base [] = Unit {0}
 AllAtBase base (p ∷ ps) = (p.view.front ≡ base) × AllAtBase base ps
-
--- This is the text of a chunk of a fork of n blocks, which one of the passes read to its end
-pub record IsTextOf (lines : Lines) (n : ℕ) (claimed : List (Claimed BlockRead)) (chunk : ℕ) (text : List ℕ) : Type 0 where
-  pub index : ℕ
-  pub pass : Claimed BlockRead
-  pub there : get_elem? claimed index ≡ some pass
-  -- the chunks that the pass read before it and after it, and what it read of those, and of this one
-  pub before : List ℕ
-  pub after : List ℕ
-  pub chunks : pass.chunks ≡ before ++ chunk ∷ after
-  pub first : List BlockRead
-  pub reads : List BlockRead
-  pub rest : List BlockRead
-  pub items : pass.items ≡ first ++ (reads ++ rest)
-  pub at : length first ≡ length (blocks_in_all n before)
-  pub whole : length reads ≡ length (blocks_of n chunk)
-  pub lines_are : text ≡ reads_lines lines (blocks_of n chunk) reads
 
 module _ {L G : Type 0} (contents : L → Option Pages) (m : Manager L G) where
   -- each pass is the manager's, and has no token
@@ -103,14 +89,18 @@ module _ {L G : Type 0} (contents : L → Option Pages) (m : Manager L G) (rel :
     pub all : AreAllClaimed (blocks_in m rel fork) claimed
     pub totals_is : totals ≡ totals_of_scan (reads_totals (items_in_all claimed))
 
-  -- What was put, with any end: a prefix of the texts of the first chunks, in order, with the line of the totals after them where these are all chunks; where the job ended well, all of that
-  pub record PutsReads (lines : Lines) (ps qs : List PassState) (old new : Option (List ℕ)) (end : Result Totals JobError) : Type 0 where
+  -- What was put, with any end: a prefix of the texts of the first chunks, in order, and after those of all chunks, if the passes met no fault, of the line of the totals of what they read; if the job ended well, all of that
+  pub record PutsTexts (lines : Lines) (ps qs : List PassState) (old new : Option (List ℕ)) (end : Result Totals JobError) : Type 0 where
     pub parts : ReadParts ps qs
+    -- nothing in the texts was read past this place, which is the log's base where no pass has seen more of the log
+    pub place : ℕ
+    pub at_base : AllAtBase (base_of m.table) qs → place ≡ base_of m.table
     pub many : ℕ
+    pub within : many ≤ chunk_count (blocks_in m rel fork)
     pub text : List ℕ
-    pub texts : AreFirstTexts (IsTextOf lines (blocks_in m rel fork) parts.claimed) many text
+    pub texts : AreFirstTexts (IsTextBy (IsChunkText contents m rel fork lines) place) many text
     pub last : List ℕ
-    pub ending : (last ≡ []) ⊎ ((many ≡ chunk_count (blocks_in m rel fork)) × (last ≡ totals_line (reads_totals (items_in_all parts.claimed))))
+    pub ending : (last ≡ []) ⊎ ((many ≡ chunk_count (blocks_in m rel fork)) × MeetNothing ps qs × (last ≡ totals_line (reads_totals (items_in_all parts.claimed))))
     pub puts : Puts (text ++ last) old new (as_done end)
     -- the totals that the job answers are those of the line
     pub whole : IfOk end (λ totals. (many ≡ chunk_count (blocks_in m rel fork)) × (last ≡ totals_line (reads_totals (items_in_all parts.claimed))) × (totals ≡ totals_of_scan (reads_totals (items_in_all parts.claimed))))

@@ -6,7 +6,7 @@ pub mod Blocks
 pub mod Chunks
 pub mod Working
 pub mod Beside
-pub mod Kept
+pub mod ChunkTexts
 pub mod Dealt
 pub mod Jobs
 pub mod Relations
@@ -18,3 +18,4 @@ pub mod Rewriters
 pub mod RewriteJobs
 pub mod RewriteCloses
 pub mod Completeness
+pub mod Listings

@@ -43,12 +43,20 @@ module _ {K : Type 0} (does : ℕ → PassState → PassState → K → K → Re
   DoesUpTo n chunk p q k l (Ok done) = DoesBlocks (blocks_of n chunk) p q k l
   DoesUpTo n chunk p q k l (Err e) = FailsAtBlock n chunk p q k l e
 
-  module _ (closes : ℕ → K → K → Result Unit JobError → Type 0) (n : ℕ) where
+  -- The pass and the task at the end of a chunk of n blocks: all of its blocks were dealt with, by a pass without tokens and from a task that could begin the chunk
+  pub record IsAtEnd (free : PassState → Type 0) (opens : K → Type 0) (n chunk : ℕ) (q : PassState) (l : K) : Type 0 where
+    pub pass : PassState
+    pub task : K
+    pub free_then : free pass
+    pub opened : opens task
+    pub blocks : DoesBlocks (blocks_of n chunk) pass q task l
+
+  module _ (closes : ℕ → PassState → K → K → Result Unit JobError → Type 0) (n : ℕ) where
     -- All blocks of the chunk were dealt with, and then it was closed
     pub record DoesChunk (chunk : ℕ) (p q : PassState) (k l : K) (end : Result Unit JobError) : Type 0 where
       pub task : K
       pub blocks : DoesBlocks (blocks_of n chunk) p q k task
-      pub ends : closes chunk task l end
+      pub ends : closes chunk q task l end
 
     -- so it was, or the task failed before that
     abbrev pub WorksChunk : ℕ → PassState → PassState → K → K → Result Unit JobError → Type 0

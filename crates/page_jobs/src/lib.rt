@@ -6,6 +6,7 @@ mod dealing;
 mod ending;
 mod gate;
 mod laws;
+mod lending;
 mod listing;
 mod printing;
 mod puts;

@@ -1,36 +1,33 @@
 //! What a scan or a dump does with a block.
 ghost use Rattle.std.specs.Prelude.{◌≡◌, ℕ, ◌+◌, ◌<◌, ◌≤◌, ◌/◌, ◌^◌, [], ◌∷◌, IfOk, is_some, nat_lt};
 ghost use Rattle.page_layout.specs.Scan.{IsWithin, no_totals};
-ghost use Rattle.page_jobs.specs.Kept.{KeepsText};
+ghost use Rattle.text_window.specs.Shares.{HoldsParts, IsMerged, KeepsParts};
+ghost use Rattle.page_jobs.specs.ChunkTexts.{ClosesText, HasDelivered, OpensText};
 ghost use Rattle.page_jobs.specs.Parts.{ListsBlocks};
 
 use crate::ending::JobError;
 use crate::gate::Gate;
 use crate::printing::{Lines, Printed};
 use crate::reading::copy_if_sound;
-use crate::working::{BlockTask, Buffers};
+use crate::working::{BlockTask, Buffers, ForkBlocks, JobTask};
 use access_rings::{Ring, RingKind};
 use backend_pass::{Manager, Pass};
 use block_tag::Tag;
-use log_device::LogDevice;
+use log_device::{LogDevice, Sink};
+use page_layout::Lsn;
 use segment_store::BlockLane;
 use std::alloc::{AllocError, Global};
-use std::mem::replace;
-use std::sync::Wait;
+use std::sync::ledger::Ledger;
+use std::sync::{Mutex, Wait};
+use std::thread;
+use text_window::{Delivery, Naming, Shares, Window};
 
-/// The text of a chunk, all of whose blocks are printed.
+/// Blocks are read and printed: what is printed of the chunk that is read now, the totals so far, and the worker's shares of what it delivered.
 #[derive(Drop)]
-pub(crate) struct ChunkText {
-    pub(crate) number: u32,
-    pub(crate) text: Vec<u8>,
-}
-
-/// Blocks are read and printed: their totals so far, what is printed of the chunk that is read now, and the texts of the chunks before it.
-#[derive(Drop)]
-pub(crate) struct Lister {
+pub(crate) struct Lister<N: Naming, A: Ledger> {
     pub(crate) lines: Lines,
     pub(crate) printed: Printed,
-    pub(crate) texts: Vec<ChunkText>,
+    pub(crate) shares: Shares<N, A>,
 }
 
 /// A ring where there are more blocks than a quarter of the frames (`initscan`).
@@ -45,35 +42,87 @@ fn ring_for(alloc: Global, blocks: u32, frames: u32) -> Result<Option<Ring>, All
     Ok(Some(ring))
 }
 
-impl Lister {
-    /// One with nothing printed.
-    pub(crate) fn of(alloc: Global, lines: Lines) -> Lister
+impl<N: Naming, A: Ledger> Lister<N, A> {
+    /// A lister that has printed nothing.
+    pub(crate) fn of(alloc: Global, lines: Lines, shares: Shares<N, A>) -> Lister<N, A>
         ensures lines { result.lines ≡ lines }
         ensures text { result.printed.text.items ≡ [] }
         ensures totals { result.printed.totals ≡ no_totals }
-        ensures texts { result.texts.items ≡ [] }
+        ensures shares { result.shares ≡ shares }
     {
         Lister {
             lines,
             printed: Printed::none(alloc),
-            texts: Vec::new(alloc),
+            shares,
         }
     }
 }
 
-impl<L: BlockLane, G: LogDevice> BlockTask<L, G> for Lister {
-    ghost does = { λ m rel fork block p q k l end. (l.lines ≡ k.lines) × (l.texts.items ≡ k.texts.items)
+/// Delivers the text of a chunk to the window, and waits while the window has no room for it; or finds that the job has stopped.
+fn deliver_text<N: Naming, A: Ledger, O: Sink, R: Wait>(
+    rt: &R,
+    window: &Mutex<Window<N, A, O>>,
+    chunk: u32,
+    place: Lsn,
+    text: &mut Vec<u8>,
+    shares: &mut Shares<N, A>,
+) -> Result<(), JobError>
+    requires chunk { chunk < N.job.chunks }
+    requires text { N.texts place chunk text.old.items }
+    requires parts { (0 < shares.old.delivered.parts) × (0 < shares.old.above.parts) }
+    ensures parts { KeepsParts shares.old shares.new }
+    ensures delivered { HasDelivered shares.old.delivered.amount shares.new.delivered.amount
+        result }
+    ensures above { place ≤ N.job.base → shares.new.above.amount ≡ shares.old.above.amount }
+{
+    for _ in rt.forever() {
+        // The lock is released before the pause.
+        let delivery = window.lock(rt).deliver(chunk, place, text, shares);
+        match delivery {
+            Delivery::Delivered => return Ok(()),
+            // The window has the reason. This error ends the worker, and not the job.
+            Delivery::Stopped => return Err(JobError::Memory),
+            Delivery::Later => {}
+        }
+        thread::yield_now();
+    }
+    unreachable!()
+}
+
+impl<N: Naming, A: Ledger> JobTask for Lister<N, A> {
+    ghost begins = { λ k l. (l.lines ≡ k.lines) × (l.printed.text.items ≡ []) × (l.printed.totals ≡ no_totals) × HoldsParts 1 l.shares };
+
+    ghost deals = { λ n k. HoldsParts n k.shares };
+
+    ghost joins = { λ k other l. IsMerged k.shares other.shares l.shares };
+
+    fn begin(&mut self, alloc: Global) -> Lister<N, A> {
+        Lister::of(alloc, self.lines, self.shares.split())
+    }
+
+    fn join(&mut self, other: Lister<N, A>) {
+        let Lister {
+            lines: _,
+            printed: _,
+            shares,
+        } = other;
+        self.shares.merge(shares);
+    }
+}
+
+impl<L: BlockLane, G: LogDevice, N: Naming, A: Ledger, O: Sink> BlockTask<
+    L,
+    G,
+    Mutex<Window<N, A, O>>,
+> for Lister<N, A> {
+    ghost does = { λ m rel fork block p q k l end. (l.lines ≡ k.lines) × (l.shares ≡ k.shares)
         × ListsBlocks L.contents m rel fork k.lines (block ∷ []) p q k.printed.text.items l.printed.text.items k.printed.totals l.printed.totals end };
 
-    ghost closes = { λ chunk k l end. KeepsText chunk k l end };
+    ghost closes = { λ _ q k l end. ClosesText N.job.base q.view.front k l end };
 
-    ghost begins = { λ k l. (l.lines ≡ k.lines) × (l.printed.text.items ≡ []) × (l.printed.totals ≡ no_totals) × (l.texts.items ≡ []) };
+    ghost opens = { λ m rel fork k. OpensText L.contents m rel fork N.texts N.job k };
 
     ghost fits = { λ k n. IsWithin k.printed.totals k.printed.totals.blocks × (k.printed.totals.blocks + n ≤ 2 ^ 32) };
-
-    fn begin(&self, alloc: Global) -> Lister {
-        Lister::of(alloc, self.lines)
-    }
 
     fn ring(&self, alloc: Global, blocks: u32, frames: u32) -> Result<Option<Ring>, AllocError> {
         ring_for(alloc, blocks, frames)
@@ -105,17 +154,30 @@ impl<L: BlockLane, G: LogDevice> BlockTask<L, G> for Lister {
         Ok(())
     }
 
-    fn end_chunk(&mut self, alloc: Global, chunk: u32) -> Result<(), JobError> {
-        // The next chunk's text is likely to be as long as this one's.
-        let room = Vec::with_capacity(alloc, self.printed.text.len())?;
-        let text = replace(&mut self.printed.text, room);
-        let kept = ChunkText {
-            number: chunk,
-            text,
-        };
-        if self.texts.push(kept).is_err() {
-            return Err(JobError::Memory);
-        }
+    fn end_chunk<R: Wait>(
+        &mut self,
+        _manager: &Manager<L, G>,
+        rt: &R,
+        shared: &Mutex<Window<N, A, O>>,
+        _blocks: ForkBlocks,
+        chunk: u32,
+        pass: &Pass,
+    ) -> Result<(), JobError> {
+        let place = pass.front();
+        deliver_text(
+            rt,
+            shared,
+            chunk,
+            place,
+            &mut self.printed.text,
+            &mut self.shares,
+        )?;
+        // The window left another buffer there, with an older text.
+        self.printed.text.clear();
         Ok(())
+    }
+
+    fn stop<R: Wait>(&self, rt: &R, shared: &Mutex<Window<N, A, O>>, worker: u32) {
+        shared.lock(rt).stop(worker);
     }
 }

@@ -45,9 +45,12 @@ fn end_rewrite(
 ) -> Result<Totals, JobError>
     requires counts { AreRewritesCounted workers.now }
     requires few { (rewritten_totals workers.now).blocks ≤ 2 ^ 40 }
-    ensures done { IfOk result (λ totals. (totals ≡ totals_of_rewrite (rewritten_totals workers.now)) × AllDone workers.now) }
+    ensures done { IfOk result
+        (λ totals. (totals ≡ totals_of_rewrite (rewritten_totals workers.now))
+        × AllDone workers.now) }
     ensures beside { OnOk result (beside_end ≡ Ok tt) }
-    ensures cause { IfErr result (λ e. EndsFirst e workers.now ⊎ (AllDone workers.now × (beside_end ≡ Err e))) }
+    ensures cause { IfErr result
+        (λ e. EndsFirst e workers.now ⊎ (AllDone workers.now × (beside_end ≡ Err e))) }
 {
     first_fault(workers)?;
     beside_end?;
@@ -74,12 +77,18 @@ pub fn rewrite<
     requires several { 2 ≤ vec_len passes }
     requires few { vec_len passes ≤ 64 }
     requires free { HaveNoTokens L.contents manager.now passes.items }
-    ensures passes { RewriteParts L.contents manager.now rel.0 fork (workers_in passes.items) (workers_in result.passes.items) }
+    ensures passes { RewriteParts L.contents manager.now rel.0 fork (workers_in passes.items)
+        (workers_in result.passes.items) }
     ensures last { StaysBeside L.contents manager.now passes.items result.passes.items }
     ensures met { OnOk result.end (MeetNothing passes.items result.passes.items) }
-    ensures beside { OnOk result.end (LastDid (λ p q. B.works manager.now beside.old beside.new p q (Ok tt)) passes.items result.passes.items) }
-    ensures done { IfOk result.end (RewritesFork L.contents manager.now rel.0 fork (workers_in passes.items) (workers_in result.passes.items)) }
-    ensures cause { IfErr result.end (EndsRewrite L.contents manager.now rel.0 fork passes.items result.passes.items) }
+    ensures beside { OnOk result.end
+        (LastDid (λ p q. B.works manager.now beside.old beside.new p q (Ok tt)) passes.items
+        result.passes.items) }
+    ensures done { IfOk result.end
+        (RewritesFork L.contents manager.now rel.0 fork (workers_in passes.items)
+        (workers_in result.passes.items)) }
+    ensures cause { IfErr result.end
+        (EndsRewrite L.contents manager.now rel.0 fork passes.items result.passes.items) }
     // Where no device fails for any of the passes, it ends well, out of memory, at a page past the log's end, or as the log is full.
     ensures short { NoDeviceFailsIn passes.items result.passes.items
         → IsDoneFullShortOrMemory result.end }
@@ -87,19 +96,22 @@ pub fn rewrite<
         → IsDoneFullOrMemory result.end }
 {
     let blocks = ForkBlocks { rel, fork };
+    let mut task = Rewriter::none();
     match run_job(
         manager,
         rt,
         alloc,
         passes,
         blocks,
-        &Rewriter::none(),
+        &mut task,
+        &(),
         gate,
         beside,
     ) {
         Ok(ran) => {
             let end = end_rewrite(&ran.workers, ran.beside_end);
-            ran.give_back(end)
+            let passes = ran.give_back(&mut task);
+            JobEnd { passes, end }
         }
         Err(passes) => JobEnd {
             passes,

@@ -13,7 +13,7 @@ ghost use Rattle.page_jobs.specs.Rewriting.{CountsRewrites, LocksOne, RewritesBl
 use crate::ending::JobError;
 use crate::gate::Gate;
 use crate::reading::{fault_of, pin_block};
-use crate::working::{BlockTask, Buffers};
+use crate::working::{BlockTask, Buffers, ForkBlocks, JobTask};
 use access_rings::{Ring, RingKind};
 use backend_pass::{Exclusive, Manager, Pass, PutError, ReadError, Refused};
 use block_tag::Tag;
@@ -59,10 +59,12 @@ fn rewrite_locked<L: BlockLane, G: LogDevice, R: Wait, T: Gate>(
     buffers: &mut Buffers,
 ) -> Result<PageRewrite, PutError>
     requires belongs { Belongs L.contents manager.now pass.old }
-    requires pinned { IsPinnedFor exclusive.old.pinned.tag exclusive.old.pinned.frame pass.old.tokens }
+    requires pinned { IsPinnedFor exclusive.old.pinned.tag exclusive.old.pinned.frame
+        pass.old.tokens }
     requires locked { HasLock content.Exclusive exclusive.old.pinned.frame pass.old }
     ensures same { exclusive.new ≡ exclusive.old }
-    ensures rewrites { RewritesLocked L.contents manager.now exclusive.old.pinned.tag pass.old pass.new result }
+    ensures rewrites { RewritesLocked L.contents manager.now exclusive.old.pinned.tag pass.old
+        pass.new result }
 {
     let _place = pass.read_exclusive(manager, rt, exclusive, &mut buffers.page);
     gate.seen(worker, exclusive.pinned());
@@ -90,7 +92,8 @@ fn rewrite_held<L: BlockLane, G: LogDevice, R: Wait, T: Gate>(
     requires pinned { IsPinnedFor exclusive.pinned.tag exclusive.pinned.frame pass.old.tokens }
     requires last { tokens_less exclusive.pinned.frame pass.old.tokens ≡ no_tokens }
     requires locked { HasLock content.Exclusive exclusive.pinned.frame pass.old }
-    ensures rewrites { RewritesHeld L.contents manager.now exclusive.pinned.tag exclusive.pinned.frame pass.old pass.new result }
+    ensures rewrites { RewritesHeld L.contents manager.now exclusive.pinned.tag
+        exclusive.pinned.frame pass.old pass.new result }
 {
     let answer = rewrite_locked(manager, rt, gate, worker, pass, &mut exclusive, buffers);
     let pinned = pass.unexclusive(manager, exclusive);
@@ -121,7 +124,8 @@ fn rewrite_block<L: BlockLane, G: LogDevice, R: Wait, T: Gate>(
 ) -> Result<PageRewrite, JobError>
     requires free { HasNoTokens L.contents manager.now pass.old }
     requires block { tag.block < blocks_at (relations_of manager.now.table) tag.rel.0 tag.fork }
-    ensures rewrites { RewritesBlock L.contents manager.now tag.rel.0 tag.fork tag.block pass.old pass.new result }
+    ensures rewrites { RewritesBlock L.contents manager.now tag.rel.0 tag.fork tag.block pass.old
+        pass.new result }
 {
     match lock_block(manager, rt, pass, tag, &mut buffers.ring) {
         Ok(exclusive) => match rewrite_held(manager, rt, gate, worker, pass, exclusive, buffers) {
@@ -152,18 +156,29 @@ impl Rewriter {
     }
 }
 
-impl<L: BlockLane, G: LogDevice> BlockTask<L, G> for Rewriter {
-    ghost does = { λ m rel fork block p q k l end. CountsRewrites L.contents m rel fork (block ∷ []) p q k.totals l.totals end };
-
-    ghost closes = { λ _ k l end. (l ≡ k) × (end ≡ Ok tt) };
-
+impl JobTask for Rewriter {
     ghost begins = { λ _ l. l.totals ≡ no_rewrite_totals };
 
-    ghost fits = { λ k n. IsRewriteWithin k.totals k.totals.blocks × (k.totals.blocks + n ≤ 2 ^ 32) };
+    ghost deals = { λ _ _. Unit {0} };
 
-    fn begin(&self, _alloc: Global) -> Rewriter {
+    ghost joins = { λ k _ l. l ≡ k };
+
+    fn begin(&mut self, _alloc: Global) -> Rewriter {
         Rewriter::none()
     }
+
+    // What each worker's task counted is added up before.
+    fn join(&mut self, _other: Rewriter) {}
+}
+
+impl<L: BlockLane, G: LogDevice> BlockTask<L, G, ()> for Rewriter {
+    ghost does = { λ m rel fork block p q k l end. CountsRewrites L.contents m rel fork (block ∷ []) p q k.totals l.totals end };
+
+    ghost closes = { λ _ _ k l end. (l ≡ k) × (end ≡ Ok tt) };
+
+    ghost opens = { λ _ _ _ _. Unit {0} };
+
+    ghost fits = { λ k n. IsRewriteWithin k.totals k.totals.blocks × (k.totals.blocks + n ≤ 2 ^ 32) };
 
     fn ring(&self, alloc: Global, _blocks: u32, frames: u32) -> Result<Option<Ring>, AllocError> {
         let ring = Ring::build(alloc, RingKind::Vacuum, frames)?;
@@ -186,7 +201,18 @@ impl<L: BlockLane, G: LogDevice> BlockTask<L, G> for Rewriter {
         Ok(())
     }
 
-    fn end_chunk(&mut self, _alloc: Global, _chunk: u32) -> Result<(), JobError> {
+    fn end_chunk<R: Wait>(
+        &mut self,
+        _manager: &Manager<L, G>,
+        _rt: &R,
+        _shared: &(),
+        _blocks: ForkBlocks,
+        _chunk: u32,
+        _pass: &Pass,
+    ) -> Result<(), JobError> {
         Ok(())
     }
+
+    // Nothing is put in order here, so the others go on.
+    fn stop<R: Wait>(&self, _rt: &R, _shared: &(), _worker: u32) {}
 }

@@ -1,12 +1,12 @@
 //! A job from its passes to its workers' ends, whatever it does with the blocks.
-ghost use Rattle.std.specs.Prelude.{◌≡◌, ℕ, true, ◌+◌, ◌<◌, ◌≤◌, ◌++◌, [], ◌∷◌, ◌^◌, Ok, IfErr, IfOk, OnErr, OnOk, map, vec_capacity, vec_len, All};
+ghost use Rattle.std.specs.Prelude.{◌≡◌, ℕ, true, ◌+◌, ◌-◌, ◌<◌, ◌≤◌, ◌++◌, [], ◌∷◌, ◌^◌, Ok, IfErr, IfOk, OnErr, OnOk, map, vec_capacity, vec_len, All};
 ghost use Rattle.grid.specs.Shape.{total};
 ghost use Rattle.chunk_claims.specs.Claims.{SitsAt, sum_below};
 ghost use Rattle.block_tag.specs.Names.{names_block, tag_of_parts};
 ghost use Rattle.page_jobs.specs.declared.working.Worker.{Worker};
 ghost use Rattle.page_jobs.specs.Beside.{EndsBeside};
 ghost use Rattle.page_jobs.specs.Chunks.{chunk_count};
-ghost use Rattle.page_jobs.specs.Dealt.{HasRun, HasWorkedSeat, IsDealing, IsDealtOut, IsReady, total_drawn};
+ghost use Rattle.page_jobs.specs.Dealt.{HasRun, HasWorkedSeat, HaveJoined, IsDealing, IsDealtOut, IsReady, total_drawn};
 ghost use Rattle.page_jobs.specs.Jobs.{HaveNoTokens};
 ghost use Rattle.page_jobs.specs.Parts.{blocks_in};
 ghost use Rattle.page_jobs.specs.Reads.{HasNoTokens};
@@ -14,9 +14,9 @@ ghost use Rattle.page_jobs.specs.Working.{CanBegin, HaveWorked};
 
 use crate::beside::{Beside, work_last};
 use crate::dealing::{deal, gather};
-use crate::ending::{JobEnd, JobError, Totals};
+use crate::ending::JobError;
 use crate::gate::Gate;
-use crate::working::{BlockTask, ForkBlocks, Worker, chunk_count, work};
+use crate::working::{BlockTask, ForkBlocks, JobTask, Worker, chunk_count, work};
 use atomic_table::Seat;
 use backend_pass::{Manager, Pass};
 use chunk_claims::{Claimant, Claims};
@@ -43,21 +43,26 @@ fn work_all<
     G: LogDevice + Send,
     R: Threads + Wait + Sync,
     T: Gate + Sync,
-    K: BlockTask<L, G> + Send,
+    W: Sync,
+    K: BlockTask<L, G, W> + Send,
 >(
     manager: &Manager<L, G>,
     rt: &R,
     alloc: Global,
     gate: &T,
+    shared: &W,
     blocks: ForkBlocks,
     claims: &Claims,
     workers: &mut Vec<Worker<K>>,
 )
     requires some { 0 < vec_len workers.old }
-    requires chunks { claims.now.chunks ≡ chunk_count (blocks_in manager.now blocks.rel.0 blocks.fork) }
-    requires ready { All (IsReady L.contents manager.now claims.now K.fits) workers.old.items }
+    requires chunks { claims.now.chunks
+        ≡ chunk_count (blocks_in manager.now blocks.rel.0 blocks.fork) }
+    requires ready { All (IsReady L.contents manager.now claims.now K.fits
+        (K.opens manager.now blocks.rel.0 blocks.fork)) workers.old.items }
     ensures count { vec_len workers.new ≡ vec_len workers.old }
-    ensures worked { HaveWorked (K.does manager.now blocks.rel.0 blocks.fork) K.closes (blocks_in manager.now blocks.rel.0 blocks.fork) workers.old.items workers.new.items }
+    ensures worked { HaveWorked (K.does manager.now blocks.rel.0 blocks.fork) K.closes
+        (blocks_in manager.now blocks.rel.0 blocks.fork) workers.old.items workers.new.items }
     ensures seats { All (HasWorkedSeat claims.now) workers.new.items }
 {
     let threads = workers.len();
@@ -65,7 +70,7 @@ fn work_all<
         rt,
         workers.as_mut_slice(),
         threads,
-        &|_place, worker| { work(manager, rt, alloc, gate, blocks, claims, worker) },
+        &|_index, worker| { work(manager, rt, alloc, gate, shared, blocks, claims, worker) },
     );
 }
 
@@ -76,38 +81,47 @@ fn work_beside<
     R: Threads + Wait + Sync,
     T: Gate + Sync,
     B: Beside<L, G>,
-    K: BlockTask<L, G> + Send,
+    W: Sync,
+    K: BlockTask<L, G, W> + Send,
 >(
     manager: &Manager<L, G>,
     rt: &R,
     alloc: Global,
     workers: &mut Vec<Worker<K>>,
     last: &mut Pass,
+    shared: &W,
     blocks: ForkBlocks,
     claims: &Claims,
     gate: &T,
     beside: &mut B,
 ) -> Result<(), JobError>
     requires some { 0 < vec_len workers.old }
-    requires chunks { claims.now.chunks ≡ chunk_count (blocks_in manager.now blocks.rel.0 blocks.fork) }
-    requires ready { All (IsReady L.contents manager.now claims.now K.fits) workers.old.items }
+    requires chunks { claims.now.chunks
+        ≡ chunk_count (blocks_in manager.now blocks.rel.0 blocks.fork) }
+    requires ready { All (IsReady L.contents manager.now claims.now K.fits
+        (K.opens manager.now blocks.rel.0 blocks.fork)) workers.old.items }
     requires free { HasNoTokens L.contents manager.now last.old }
     ensures count { vec_len workers.new ≡ vec_len workers.old }
-    ensures worked { HaveWorked (K.does manager.now blocks.rel.0 blocks.fork) K.closes (blocks_in manager.now blocks.rel.0 blocks.fork) workers.old.items workers.new.items }
+    ensures worked { HaveWorked (K.does manager.now blocks.rel.0 blocks.fork) K.closes
+        (blocks_in manager.now blocks.rel.0 blocks.fork) workers.old.items workers.new.items }
     ensures seats { All (HasWorkedSeat claims.now) workers.new.items }
     ensures beside { EndsBeside L.contents manager.now last.old last.new result }
-    ensures works { OnOk result (B.works manager.now beside.old beside.new last.old last.new (Ok tt)) }
+    ensures works { OnOk result
+        (B.works manager.now beside.old beside.new last.old last.new (Ok tt)) }
 {
     let (_, end) = thread::join_mut(
         rt,
         &mut ||
             requires { (0 < vec_len workers.now)
                 × (claims.now.chunks ≡ chunk_count (blocks_in manager.now blocks.rel.0 blocks.fork))
-                × All (IsReady L.contents manager.now claims.now K.fits) workers.now.items }
+                × All (IsReady L.contents manager.now claims.now K.fits
+                (K.opens manager.now blocks.rel.0 blocks.fork)) workers.now.items }
             ensures { (vec_len workers.exit.now ≡ vec_len workers.entry.now)
-                × HaveWorked (K.does manager.entry.now blocks.rel.0 blocks.fork) K.closes (blocks_in manager.entry.now blocks.rel.0 blocks.fork) workers.entry.now.items workers.exit.now.items
-                × All (HasWorkedSeat claims.entry.now) workers.exit.now.items }
-        { work_all(manager, rt, alloc, gate, blocks, claims, workers) },
+                × HaveWorked (K.does manager.entry.now blocks.rel.0 blocks.fork) K.closes
+                (blocks_in manager.entry.now blocks.rel.0 blocks.fork) workers.entry.now.items
+                workers.exit.now.items × All (HasWorkedSeat claims.entry.now)
+                workers.exit.now.items }
+        { work_all(manager, rt, alloc, gate, shared, blocks, claims, workers) },
         &mut || work_last(manager, rt, last, beside),
     );
     end
@@ -121,15 +135,19 @@ struct Dealt<K> {
 }
 
 /// Each pass becomes a worker, which claims chunks of so many blocks.
-fn deal_out<L: BlockLane, G: LogDevice, K: BlockTask<L, G>>(
+fn deal_out<K: JobTask>(
     alloc: Global,
     blocks: u32,
     passes: &mut Vec<Pass>,
-    task: &K,
+    task: &mut K,
 ) -> Result<Dealt<K>, AllocError>
     requires few { vec_len passes.old < 2 ^ 16 }
-    ensures dealt { IfOk result (λ dealt. IsDealtOut (λ k. K.begins task.now k × CanBegin K.fits k) blocks passes.old.items dealt × (passes.new.items ≡ [])) }
-    ensures refused { OnErr result (passes.new.items ≡ passes.old.items) }
+    requires deals { K.deals (vec_len passes.old) task.old }
+    ensures dealt { IfOk result
+        (λ dealt. IsDealtOut (K.begins task.old) blocks passes.old.items dealt
+        × (passes.new.items ≡ [])) }
+    ensures deals { OnOk result (K.deals 0 task.new) }
+    ensures refused { OnErr result ((passes.new.items ≡ passes.old.items) × (task.new ≡ task.old)) }
     ensures capacity { vec_capacity passes.new ≡ vec_capacity passes.old }
 {
     let (claims, mut seat) = Claims::build(alloc, chunk_count(blocks), passes.len() as u32)?;
@@ -141,30 +159,40 @@ fn deal_out<L: BlockLane, G: LogDevice, K: BlockTask<L, G>>(
     })
 }
 
-/// Runs a job to its workers' ends: all passes but the last one work, each on the chunks that it claims, and the last one does other work beside them. Out of memory, the passes are given back.
+/// Runs a job to its workers' ends: all passes but the last one work, each on the chunks that it claims, and the last one does other work beside them. If memory runs out, the passes are given back.
 pub(crate) fn run_job<
     L: BlockLane + Send,
     G: LogDevice + Send,
     R: Threads + Wait + Sync,
     T: Gate + Sync,
     B: Beside<L, G>,
-    K: BlockTask<L, G> + Send,
+    W: Sync,
+    K: BlockTask<L, G, W> + JobTask + Send,
 >(
     manager: &Manager<L, G>,
     rt: &R,
     alloc: Global,
     mut passes: Vec<Pass>,
     blocks: ForkBlocks,
-    task: &K,
+    task: &mut K,
+    shared: &W,
     gate: &T,
     beside: &mut B,
 ) -> Result<Ran<K>, Vec<Pass>>
     requires several { 2 ≤ vec_len passes }
     requires few { vec_len passes ≤ 64 }
     requires free { HaveNoTokens L.contents manager.now passes.items }
-    ensures ran { IfOk result (HasRun L.contents manager.now blocks.rel.0 blocks.fork (K.does manager.now blocks.rel.0 blocks.fork) K.closes (λ k. K.begins task.now k × CanBegin K.fits k) (λ p q. B.works manager.now beside.old beside.new p q (Ok tt)) passes.items) }
-    ensures refused { IfErr result (λ given. given.items ≡ passes.items) }
-    ensures named { (block : ℕ) → block < blocks_in manager.now blocks.rel.0 blocks.fork → names_block (tag_of_parts blocks.rel.0 blocks.fork block) ≡ true }
+    requires deals { K.deals (vec_len passes - 1) task.old }
+    requires starts { (k : K) → K.begins task.old k → CanBegin K.fits k
+        × K.opens manager.now blocks.rel.0 blocks.fork k }
+    ensures ran { IfOk result
+        (HasRun L.contents manager.now blocks.rel.0 blocks.fork
+        (K.does manager.now blocks.rel.0 blocks.fork) K.closes (K.begins task.old)
+        (λ p q. B.works manager.now beside.old beside.new p q (Ok tt)) passes.items) }
+    ensures deals { OnOk result (K.deals 0 task.new) }
+    ensures refused { IfErr result (λ given. (given.items ≡ passes.items) × (task.new ≡ task.old)) }
+    ensures named { (block : ℕ) → block < blocks_in manager.now blocks.rel.0 blocks.fork
+        → names_block (tag_of_parts blocks.rel.0 blocks.fork block) ≡ true }
 {
     let mut last = passes.take_last();
     let count = manager.blocks(blocks.rel, blocks.fork);
@@ -176,6 +204,7 @@ pub(crate) fn run_job<
                 alloc,
                 &mut dealt.workers,
                 &mut last,
+                shared,
                 blocks,
                 &dealt.claims,
                 gate,
@@ -202,17 +231,21 @@ pub(crate) fn run_job<
     }
 }
 
-impl<K: Drop> Ran<K> {
-    /// The end of the job, with the passes in their order.
-    pub(crate) fn give_back(self, end: Result<Totals, JobError>) -> JobEnd
+impl<K: JobTask> Ran<K> {
+    /// The passes, in their order. The job's task gets back what the workers' tasks have.
+    pub(crate) fn give_back(self, task: &mut K) -> Vec<Pass>
         requires none { self.passes.items ≡ [] }
         requires room { vec_len self.workers < vec_capacity self.passes }
-        requires seats { All (HasWorkedSeat self.claims) self.workers.items × (vec_len self.workers ≡ self.claims.workers) × (0 < vec_len self.workers) }
-        requires seat { SitsAt self.claims.table.shared.table_id self.seat × IsDealing self.claims.chunks self.claims.workers 0 self.seat.me.0 }
+        requires seats { All (HasWorkedSeat self.claims) self.workers.items
+            × (vec_len self.workers ≡ self.claims.workers) × (0 < vec_len self.workers) }
+        requires seat { SitsAt self.claims.table.shared.table_id self.seat
+            × IsDealing self.claims.chunks self.claims.workers 0 self.seat.me.0 }
         // The numbers that the workers drew are those below one, each once.
-        ensures once { (word : ℕ) × ((g : ℕ → ℕ) → total_drawn g self.workers.items ≡ sum_below word g) }
-        ensures passes { result.passes.items ≡ map (λ (w : Worker K). w.pass) self.workers.items ++ self.last ∷ [] }
-        ensures end { result.end ≡ end }
+        ensures once { (word : ℕ)
+            × ((g : ℕ → ℕ) → total_drawn g self.workers.items ≡ sum_below word g) }
+        ensures passes { result.items ≡ map (λ (w : Worker K). w.pass) self.workers.items ++
+            self.last ∷ [] }
+        ensures joined { HaveJoined K.joins self.workers.items task.old task.new }
     {
         let Ran {
             workers,
@@ -222,9 +255,9 @@ impl<K: Drop> Ran<K> {
             claims,
             mut seat,
         } = self;
-        gather(&claims, &mut seat, workers, &mut passes);
+        gather(&claims, &mut seat, workers, &mut passes, task);
         let _drawn = claims.claimed(&mut seat);
         passes.push_reserved(last);
-        JobEnd { passes, end }
+        passes
     }
 }

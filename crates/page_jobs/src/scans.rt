@@ -1,40 +1,63 @@
 //! Scans and dumps.
-ghost use Rattle.std.specs.Prelude.{◌≡◌, ◌≤◌, List, Ok, IfErr, IfOk, OnOk, vec_len};
+ghost use Rattle.std.specs.Prelude.{◌≡◌, ℕ, ◌+◌, ◌-◌, ◌<◌, ◌≤◌, ◌⊎◌, List, [], Ok, IfErr, IfOk, OnOk, length, vec_len};
+ghost use mathlib.Core.Option.{some};
+ghost use lib.ListN.{get_elem?};
 ghost use Rattle.page_layout.specs.Dump.{dump_text};
 ghost use Rattle.page_layout.specs.Scan.{scan_text, totals_of};
 ghost use Rattle.pin_core.specs.State.{Page};
 ghost use Rattle.log_device.specs.Bytes.{Puts};
 ghost use Rattle.frame_table.specs.Seats.{base_of};
+ghost use Rattle.backend_pass.specs.Passes.{PassState};
+ghost use Rattle.page_jobs.specs.declared.ending.JobError.TheVariants.{OutFault};
 ghost use Rattle.page_jobs.specs.declared.printing.Lines.TheVariants.{Dump, Scan};
 ghost use Rattle.page_jobs.specs.Beside.{LastDid, StaysBeside};
+ghost use Rattle.page_jobs.specs.ChunkTexts.{IsChunkText, job_of};
 ghost use Rattle.page_jobs.specs.Completeness.{IsDoneOrMemory, IsDoneShortOrMemory, NoDeviceFailsIn, NothingFailsIn, OutIsQuiet};
 ghost use Rattle.page_jobs.specs.Ending.{as_done, totals_of_scan};
-ghost use Rattle.page_jobs.specs.Jobs.{AllAtBase, EndsJob, HaveNoTokens, IsOrigin, PutsReads, ReadParts, ReadsAll, workers_in};
+ghost use Rattle.page_jobs.specs.Jobs.{AllAtBase, EndsJob, HaveNoTokens, IsOrigin, PutsTexts, ReadParts, ReadsAll, workers_in};
+ghost use Rattle.page_jobs.specs.Listings.{IsListed};
+ghost use Rattle.page_jobs.specs.Parts.{blocks_in};
 ghost use Rattle.page_jobs.specs.Printed.{text_of_pages};
 ghost use Rattle.page_jobs.specs.Relations.{MeetNothing};
 
 use crate::beside::Beside;
 use crate::ending::{JobEnd, JobError};
 use crate::gate::Gate;
+use crate::lending::lend_value;
 use crate::listing::Lister;
 use crate::printing::Lines;
-use crate::puts::put_all;
+use crate::puts::{end_of_workers, put_end, sum_totals};
 use crate::running::run_job;
-use crate::working::{ForkBlocks, chunk_count};
+use crate::working::ForkBlocks;
 use backend_pass::{Manager, Pass};
 use block_tag::{Fork, RelNo};
 use log_device::{LogDevice, Sink};
+use page_layout::{Lsn, ScanTotals};
 use segment_store::BlockLane;
 use std::alloc::Global;
-use std::sync::Wait;
+use std::marker::Brand;
+use std::mem::replace;
+use std::sync::ledger::{Blank, Ledger};
+use std::sync::{Mutex, Wait};
 use std::thread::Threads;
+use text_window::{Naming, Shares, Window};
 
-/// Lists the blocks of a fork: all passes but the last work, and what they print is put.
-fn list_fork<
+/// The front of the first pass.
+fn first_front(passes: &[Pass]) -> Lsn
+    requires { 0 < length passes.now }
+    ensures { (p : PassState) → get_elem? passes.now 0 ≡ some p → result ≡ p.view.front }
+{
+    passes[0].front()
+}
+
+/// Lists the blocks of a fork: all passes but the last work, and the texts of the chunks go out through a window, which has the sink in the meantime.
+fn list_over<
+    N: Naming + Send + Sync,
+    A: Ledger + Send + Sync,
     L: BlockLane + Send,
     G: LogDevice + Send,
     R: Threads + Wait + Sync,
-    O: Sink,
+    O: Sink + Send,
     T: Gate + Sync,
     B: Beside<L, G>,
 >(
@@ -44,6 +67,133 @@ fn list_fork<
     passes: Vec<Pass>,
     blocks: ForkBlocks,
     lines: Lines,
+    base: Lsn,
+    sink: O,
+    gate: &T,
+    beside: &mut B,
+    delivered: Blank,
+    above: Blank,
+) -> (O, JobEnd)
+    requires several { 2 ≤ vec_len passes }
+    requires few { vec_len passes ≤ 64 }
+    requires free { HaveNoTokens L.contents manager.now passes.items }
+    requires names { (delivered.name ≡ N.name) × (above.name ≡ A.name) }
+    requires parts { (delivered.parts ≡ N.parts) × (above.parts ≡ A.parts) }
+    requires workers { (N.parts + 1 ≡ vec_len passes) × (A.parts + 1 ≡ vec_len passes) }
+    requires job { N.job ≡ job_of (blocks_in manager.now blocks.rel.0 blocks.fork)
+        (vec_len passes - 1) base (O.bytes sink) (O.faults sink) }
+    requires base { (p : PassState) → get_elem? passes.items 0 ≡ some p → base ≡ p.view.front }
+    // The window takes the texts that the fork's chunks may have, and no others.
+    requires takes { (place chunk : ℕ) (text : List ℕ)
+        → IsChunkText L.contents manager.now blocks.rel.0 blocks.fork lines place chunk text
+        → N.texts place chunk text }
+    requires only { (place chunk : ℕ) (text : List ℕ) → N.texts place chunk text
+        → IsChunkText L.contents manager.now blocks.rel.0 blocks.fork lines place chunk text }
+    ensures lists { IsListed L.contents manager.now blocks.rel.0 blocks.fork lines
+        (λ p q. B.works manager.now beside.old beside.new p q (Ok tt)) passes.items
+        result.1.passes.items (O.bytes sink) (O.bytes result.0)
+        (O.faults sink) (O.faults result.0) result.1.end }
+{
+    // A fork has fewer than 2^32 blocks, so its chunks can be numbered.
+    let _blocks = manager.blocks(blocks.rel, blocks.fork);
+    let backends = passes.len() as u32 - 1;
+    let (delivered, delivered_shares) = delivered.open::<N>();
+    let (above, above_shares) = above.open::<A>();
+    let shares = Shares {
+        delivered: delivered_shares,
+        above: above_shares,
+    };
+    let mut task = Lister::of(alloc, lines, shares);
+    let window = match Window::build(alloc, 2 * backends, base, sink, delivered, above) {
+        Ok(window) => Mutex::new(window),
+        Err((_, sink)) => {
+            let end = Err(JobError::Memory);
+            return (sink, JobEnd { passes, end });
+        }
+    };
+    let run = run_job(
+        manager, rt, alloc, passes, blocks, &mut task, &window, gate, beside,
+    );
+    let window = window.into_inner();
+    match run {
+        Ok(ran) => {
+            let worked = end_of_workers(&ran.workers, window.stopped_by());
+            let totals = sum_totals(&ran.workers);
+            let beside_end = ran.beside_end;
+            let passes = ran.give_back(&mut task);
+            let (mut sink, stop) = window.finish(&mut task.shares);
+            let end = put_end(alloc, stop, worked, beside_end, totals, &mut sink);
+            (sink, JobEnd { passes, end })
+        }
+        Err(passes) => {
+            let (mut sink, stop) = window.finish(&mut task.shares);
+            let worked = Err(JobError::Memory);
+            let end = put_end(alloc, stop, worked, Ok(()), ScanTotals::none(), &mut sink);
+            (sink, JobEnd { passes, end })
+        }
+    }
+}
+
+/// Lists the blocks of a fork, with ledgers made for this job.
+fn list_sink<
+    L: BlockLane + Send,
+    G: LogDevice + Send,
+    R: Threads + Wait + Sync,
+    O: Sink + Send,
+    T: Gate + Sync,
+    B: Beside<L, G>,
+>(
+    manager: &Manager<L, G>,
+    rt: &R,
+    alloc: Global,
+    passes: Vec<Pass>,
+    blocks: ForkBlocks,
+    lines: Lines,
+    sink: O,
+    gate: &T,
+    beside: &mut B,
+) -> (O, JobEnd)
+    requires several { 2 ≤ vec_len passes }
+    requires few { vec_len passes ≤ 64 }
+    requires free { HaveNoTokens L.contents manager.now passes.items }
+    ensures lists { IsListed L.contents manager.now blocks.rel.0 blocks.fork lines
+        (λ p q. B.works manager.now beside.old beside.new p q (Ok tt)) passes.items
+        result.1.passes.items (O.bytes sink) (O.bytes result.0)
+        (O.faults sink) (O.faults result.0) result.1.end }
+{
+    let base = first_front(&passes);
+    let backends = passes.len() as u64 - 1;
+    list_over::<Brand, Brand, L, G, R, O, T, B>(
+        manager,
+        rt,
+        alloc,
+        passes,
+        blocks,
+        lines,
+        base,
+        sink,
+        gate,
+        beside,
+        Blank::new(backends),
+        Blank::new(backends),
+    )
+}
+
+/// Lists the blocks of a fork: all passes but the last work, and what they print is put.
+fn list_fork<
+    L: BlockLane + Send,
+    G: LogDevice + Send,
+    R: Threads + Wait + Sync,
+    O: Sink + Send,
+    T: Gate + Sync,
+    B: Beside<L, G>,
+>(
+    manager: &Manager<L, G>,
+    rt: &R,
+    alloc: Global,
+    mut passes: Vec<Pass>,
+    blocks: ForkBlocks,
+    lines: Lines,
     out: &mut O,
     gate: &T,
     beside: &mut B,
@@ -51,46 +201,36 @@ fn list_fork<
     requires several { 2 ≤ vec_len passes }
     requires few { vec_len passes ≤ 64 }
     requires free { HaveNoTokens L.contents manager.now passes.items }
-    ensures passes { ReadParts L.contents manager.now blocks.rel.0 blocks.fork (workers_in passes.items) (workers_in result.passes.items) }
-    ensures last { StaysBeside L.contents manager.now passes.items result.passes.items }
-    ensures met { OnOk result.end (MeetNothing passes.items result.passes.items) }
-    ensures beside { OnOk result.end (LastDid (λ p q. B.works manager.now beside.old beside.new p q (Ok tt)) passes.items result.passes.items) }
-    ensures done { IfOk result.end (ReadsAll L.contents manager.now blocks.rel.0 blocks.fork (workers_in passes.items) (workers_in result.passes.items)) }
-    // The lines that were put are those of what the passes read.
-    ensures puts { PutsReads L.contents manager.now blocks.rel.0 blocks.fork lines (workers_in passes.items) (workers_in result.passes.items) (O.bytes out.old) (O.bytes out.new) result.end }
-    ensures totals { (pages : List Page) → IsOrigin L.contents manager.now blocks.rel.0 blocks.fork pages → AllAtBase (base_of manager.now.table) (workers_in result.passes.items)
-        → IfOk result.end (λ totals. totals ≡ totals_of_scan (totals_of pages)) }
-    ensures text { (pages : List Page) → IsOrigin L.contents manager.now blocks.rel.0 blocks.fork pages → AllAtBase (base_of manager.now.table) (workers_in result.passes.items)
-        → Puts (text_of_pages lines pages) (O.bytes out.old) (O.bytes out.new) (as_done result.end) }
-    ensures quiet { OnOk result.end (O.faults out.new ≡ O.faults out.old) }
-    ensures later { O.faults out.old ≤ O.faults out.new }
-    ensures cause { IfErr result.end (EndsJob L.contents manager.now blocks.rel.0 blocks.fork passes.items result.passes.items (O.faults out.old) (O.faults out.new)) }
-    // Where no device fails for any of the passes, it ends well, out of memory, or at a page past the log's end.
-    ensures short { NoDeviceFailsIn passes.items result.passes.items
-        → OutIsQuiet (O.faults out.old) (O.faults out.new) → IsDoneShortOrMemory result.end }
-    ensures complete { NothingFailsIn L.contents manager.now passes.items result.passes.items
-        → OutIsQuiet (O.faults out.old) (O.faults out.new) → IsDoneOrMemory result.end }
+    ensures lists { IsListed L.contents manager.now blocks.rel.0 blocks.fork lines
+        (λ p q. B.works manager.now beside.old beside.new p q (Ok tt)) passes.items
+        result.passes.items (O.bytes out.old) (O.bytes out.new)
+        (O.faults out.old) (O.faults out.new) result.end }
 {
-    let task = Lister::of(alloc, lines);
-    match run_job(manager, rt, alloc, passes, blocks, &task, gate, beside) {
-        Ok(ran) => {
-            let chunks = chunk_count(manager.blocks(blocks.rel, blocks.fork));
-            let end = put_all(alloc, &ran.workers, chunks, ran.beside_end, out);
-            ran.give_back(end)
-        }
-        Err(passes) => JobEnd {
-            passes,
-            end: Err(JobError::Memory),
+    let end = lend_value(
+        out,
+        &mut |sink: O| -> (O, JobEnd)
+            requires { (2 ≤ vec_len passes) × (vec_len passes ≤ 64)
+                × HaveNoTokens L.contents manager.now passes.items }
+            ensures { IsListed L.contents manager.entry.now blocks.rel.0 blocks.fork lines
+                (λ p q. B.works manager.entry.now beside.entry.now beside.exit.now p q (Ok tt))
+                passes.entry.items result.1.passes.items (O.bytes sink) (O.bytes result.0)
+                (O.faults sink) (O.faults result.0) result.1.end
+                × (passes.exit.items ≡ []) }
+        {
+            let mine = replace(&mut passes, Vec::new(alloc));
+            list_sink(manager, rt, alloc, mine, blocks, lines, sink, gate, beside)
         },
-    }
+    );
+    passes.destroy_empty();
+    end
 }
 
-/// Scans the blocks of a fork: a line for each in the order of blocks, then one of their totals. All passes are given, of which all but the last work, each on the chunks of eight blocks that it claims, and the last one does other work beside them; all are given back.
+/// Scans the blocks of a fork: a line for each in the order of blocks, then one of their totals. Lines are put while later blocks are still being read. All passes are given, of which all but the last work, each on the chunks of eight blocks that it claims, and the last one does other work beside them; all are given back.
 pub fn scan<
     L: BlockLane + Send,
     G: LogDevice + Send,
     R: Threads + Wait + Sync,
-    O: Sink,
+    O: Sink + Send,
     T: Gate + Sync,
     B: Beside<L, G>,
 >(
@@ -107,20 +247,32 @@ pub fn scan<
     requires several { 2 ≤ vec_len passes }
     requires few { vec_len passes ≤ 64 }
     requires free { HaveNoTokens L.contents manager.now passes.items }
-    ensures passes { ReadParts L.contents manager.now rel.0 fork (workers_in passes.items) (workers_in result.passes.items) }
+    ensures passes { ReadParts L.contents manager.now rel.0 fork
+        (workers_in passes.items) (workers_in result.passes.items) }
     ensures last { StaysBeside L.contents manager.now passes.items result.passes.items }
     ensures met { OnOk result.end (MeetNothing passes.items result.passes.items) }
-    ensures beside { OnOk result.end (LastDid (λ p q. B.works manager.now beside.old beside.new p q (Ok tt)) passes.items result.passes.items) }
-    ensures done { IfOk result.end (ReadsAll L.contents manager.now rel.0 fork (workers_in passes.items) (workers_in result.passes.items)) }
-    // The lines that were put are those of what the passes read.
-    ensures puts { PutsReads L.contents manager.now rel.0 fork Scan (workers_in passes.items) (workers_in result.passes.items) (O.bytes out.old) (O.bytes out.new) result.end }
-    ensures totals { (pages : List Page) → IsOrigin L.contents manager.now rel.0 fork pages → AllAtBase (base_of manager.now.table) (workers_in result.passes.items)
+    ensures beside { OnOk result.end (LastDid
+        (λ p q. B.works manager.now beside.old beside.new p q (Ok tt))
+        passes.items result.passes.items) }
+    ensures done { IfOk result.end (ReadsAll L.contents manager.now rel.0 fork
+        (workers_in passes.items) (workers_in result.passes.items)) }
+    // The texts of chunks that were put have a line for each of their blocks, in order.
+    ensures puts { PutsTexts L.contents manager.now rel.0 fork Scan
+        (workers_in passes.items) (workers_in result.passes.items)
+        (O.bytes out.old) (O.bytes out.new) result.end }
+    ensures totals { (pages : List Page) → IsOrigin L.contents manager.now rel.0 fork pages
+        → AllAtBase (base_of manager.now.table) (workers_in result.passes.items)
         → IfOk result.end (λ totals. totals ≡ totals_of_scan (totals_of pages)) }
-    ensures text { (pages : List Page) → IsOrigin L.contents manager.now rel.0 fork pages → AllAtBase (base_of manager.now.table) (workers_in result.passes.items)
+    ensures text { (pages : List Page) → IsOrigin L.contents manager.now rel.0 fork pages
+        → AllAtBase (base_of manager.now.table) (workers_in result.passes.items)
         → Puts (scan_text pages) (O.bytes out.old) (O.bytes out.new) (as_done result.end) }
     ensures quiet { OnOk result.end (O.faults out.new ≡ O.faults out.old) }
     ensures later { O.faults out.old ≤ O.faults out.new }
-    ensures cause { IfErr result.end (EndsJob L.contents manager.now rel.0 fork passes.items result.passes.items (O.faults out.old) (O.faults out.new)) }
+    // With any other error the output's count of faults is as it was.
+    ensures steady { IfErr result.end
+        (λ e. (e ≡ OutFault) ⊎ (O.faults out.new ≡ O.faults out.old)) }
+    ensures cause { IfErr result.end (EndsJob L.contents manager.now rel.0 fork
+        passes.items result.passes.items (O.faults out.old) (O.faults out.new)) }
     // Where no device fails for any of the passes, it ends well, out of memory, or at a page past the log's end.
     ensures short { NoDeviceFailsIn passes.items result.passes.items
         → OutIsQuiet (O.faults out.old) (O.faults out.new) → IsDoneShortOrMemory result.end }
@@ -146,7 +298,7 @@ pub fn dump<
     L: BlockLane + Send,
     G: LogDevice + Send,
     R: Threads + Wait + Sync,
-    O: Sink,
+    O: Sink + Send,
     T: Gate + Sync,
     B: Beside<L, G>,
 >(
@@ -163,20 +315,32 @@ pub fn dump<
     requires several { 2 ≤ vec_len passes }
     requires few { vec_len passes ≤ 64 }
     requires free { HaveNoTokens L.contents manager.now passes.items }
-    ensures passes { ReadParts L.contents manager.now rel.0 fork (workers_in passes.items) (workers_in result.passes.items) }
+    ensures passes { ReadParts L.contents manager.now rel.0 fork
+        (workers_in passes.items) (workers_in result.passes.items) }
     ensures last { StaysBeside L.contents manager.now passes.items result.passes.items }
     ensures met { OnOk result.end (MeetNothing passes.items result.passes.items) }
-    ensures beside { OnOk result.end (LastDid (λ p q. B.works manager.now beside.old beside.new p q (Ok tt)) passes.items result.passes.items) }
-    ensures done { IfOk result.end (ReadsAll L.contents manager.now rel.0 fork (workers_in passes.items) (workers_in result.passes.items)) }
-    // The lines that were put are those of what the passes read.
-    ensures puts { PutsReads L.contents manager.now rel.0 fork Dump (workers_in passes.items) (workers_in result.passes.items) (O.bytes out.old) (O.bytes out.new) result.end }
-    ensures totals { (pages : List Page) → IsOrigin L.contents manager.now rel.0 fork pages → AllAtBase (base_of manager.now.table) (workers_in result.passes.items)
+    ensures beside { OnOk result.end (LastDid
+        (λ p q. B.works manager.now beside.old beside.new p q (Ok tt))
+        passes.items result.passes.items) }
+    ensures done { IfOk result.end (ReadsAll L.contents manager.now rel.0 fork
+        (workers_in passes.items) (workers_in result.passes.items)) }
+    // The texts of chunks that were put have a line for each of their blocks, in order.
+    ensures puts { PutsTexts L.contents manager.now rel.0 fork Dump
+        (workers_in passes.items) (workers_in result.passes.items)
+        (O.bytes out.old) (O.bytes out.new) result.end }
+    ensures totals { (pages : List Page) → IsOrigin L.contents manager.now rel.0 fork pages
+        → AllAtBase (base_of manager.now.table) (workers_in result.passes.items)
         → IfOk result.end (λ totals. totals ≡ totals_of_scan (totals_of pages)) }
-    ensures text { (pages : List Page) → IsOrigin L.contents manager.now rel.0 fork pages → AllAtBase (base_of manager.now.table) (workers_in result.passes.items)
+    ensures text { (pages : List Page) → IsOrigin L.contents manager.now rel.0 fork pages
+        → AllAtBase (base_of manager.now.table) (workers_in result.passes.items)
         → Puts (dump_text pages) (O.bytes out.old) (O.bytes out.new) (as_done result.end) }
     ensures quiet { OnOk result.end (O.faults out.new ≡ O.faults out.old) }
     ensures later { O.faults out.old ≤ O.faults out.new }
-    ensures cause { IfErr result.end (EndsJob L.contents manager.now rel.0 fork passes.items result.passes.items (O.faults out.old) (O.faults out.new)) }
+    // With any other error the output's count of faults is as it was.
+    ensures steady { IfErr result.end
+        (λ e. (e ≡ OutFault) ⊎ (O.faults out.new ≡ O.faults out.old)) }
+    ensures cause { IfErr result.end (EndsJob L.contents manager.now rel.0 fork
+        passes.items result.passes.items (O.faults out.old) (O.faults out.new)) }
     // Where no device fails for any of the passes, it ends well, out of memory, or at a page past the log's end.
     ensures short { NoDeviceFailsIn passes.items result.passes.items
         → OutIsQuiet (O.faults out.old) (O.faults out.new) → IsDoneShortOrMemory result.end }

@@ -8,7 +8,7 @@ ghost use Rattle.page_jobs.specs.Parts.{blocks_in};
 ghost use Rattle.page_jobs.specs.Reads.{HasNoTokens};
 ghost use Rattle.chunk_claims.specs.Claims.{SitsAt};
 ghost use Rattle.page_jobs.specs.Chunks.{chunk_count, chunk_size};
-ghost use Rattle.page_jobs.specs.Working.{CanBegin, CanCount, ClaimsNothing, DoesUpTo, WorksChunk, WorksChunks};
+ghost use Rattle.page_jobs.specs.Working.{CanBegin, CanCount, ClaimsNothing, DoesUpTo, IsAtEnd, WorksChunk, WorksChunks};
 
 use crate::ending::JobError;
 use crate::gate::Gate;
@@ -31,30 +31,48 @@ pub(crate) struct Buffers {
     pub(crate) ring: Option<Ring>,
 }
 
-/// What a worker does with a block, and what it has to show for the blocks that it dealt with. `L` and `G` are the manager's lanes and log.
-pub(crate) trait BlockTask<L: BlockLane, G: LogDevice> {
-    // What was done with a block of the fork, between two states of the pass and of the task, and how that ended.
-    ghost does: { Manager L G → ℕ → Fork → ℕ → PassState → PassState → Self → Self → Result Unit JobError → Type 0 };
-
-    // What was done at the end of a chunk, between two states of the task, and how that ended.
-    ghost closes: { ℕ → Self → Self → Result Unit JobError → Type 0 };
-
+/// What the workers of a job begin with, and give back when they have ended.
+pub(crate) trait JobTask {
     // The second one is the task of a worker that begins, where the first one is the job's.
     ghost begins: { Self → Self → Type 0 };
 
-    // It can count so many blocks more.
-    ghost fits: { Self → ℕ → Type 0 };
+    // So many workers can still begin.
+    ghost deals: { ℕ → Self → Type 0 };
+
+    // The third one is what the job's task, the first one, is after a worker gave the second one back.
+    ghost joins: { Self → Self → Self → Type 0 };
 
     /// The task of a worker that begins: it has nothing to show yet.
-    fn begin(&self, alloc: Global) -> Self
-        ensures begins { begins self.now result }
-        ensures fits { CanBegin fits result };
+    fn begin(&mut self, alloc: Global) -> Self
+        requires deals { (n : ℕ) × deals (n + 1) self.old }
+        ensures begins { begins self.old result }
+        ensures same { (k : Self) → begins self.new k → begins self.old k }
+        ensures deals { (n : ℕ) → deals (n + 1) self.old → deals n self.new };
+
+    /// A worker that has ended gives its task back.
+    fn join(&mut self, other: Self)
+        ensures joins { joins self.old other self.new };
+}
+
+/// What a worker does with a block, and with a chunk once all its blocks are worked on. `L` and `G` are the manager's lanes and log, and all workers of a job share a `W`.
+pub(crate) trait BlockTask<L: BlockLane, G: LogDevice, W> {
+    // What was done with a block of the fork, between two states of the pass and of the task, and how that ended.
+    ghost does: { Manager L G → ℕ → Fork → ℕ → PassState → PassState → Self → Self → Result Unit JobError → Type 0 };
+
+    // What was done at the end of a chunk, whose blocks left the pass so, between two states of the task, and how that ended.
+    ghost closes: { ℕ → PassState → Self → Self → Result Unit JobError → Type 0 };
+
+    // It can begin a chunk of the fork.
+    ghost opens: { Manager L G → ℕ → Fork → Self → Type 0 };
+
+    // It can count so many blocks more.
+    ghost fits: { Self → ℕ → Type 0 };
 
     /// The ring to read with, for a fork of so many blocks and a table of so many frames.
     fn ring(&self, alloc: Global, blocks: u32, frames: u32) -> Result<Option<Ring>, AllocError>
         requires { (16 ≤ frames) × (frames ≤ 4096) };
 
-    /// Deals with a block. The gate has heard of it.
+    /// Works on a block. The gate has heard of it.
     fn work_block<R: Wait, T: Gate>(
         &mut self,
         manager: &Manager<L, G>,
@@ -69,14 +87,31 @@ pub(crate) trait BlockTask<L: BlockLane, G: LogDevice> {
         requires free { HasNoTokens L.contents manager.now pass.old }
         requires block { tag.block < blocks_in manager.now tag.rel.0 tag.fork }
         requires fits { fits self.old 1 }
-        ensures does { does manager.now tag.rel.0 tag.fork tag.block pass.old pass.new self.old self.new result }
+        ensures does { does manager.now tag.rel.0 tag.fork tag.block pass.old pass.new self.old
+            self.new result }
         ensures free { OnOk result (HasNoTokens L.contents manager.now pass.new) }
         ensures fits { OnOk result ((n : ℕ) → fits self.old (n + 1) → fits self.new n) };
 
-    /// All blocks of the chunk of this number are dealt with.
-    fn end_chunk(&mut self, alloc: Global, chunk: u32) -> Result<(), JobError>
-        ensures closes { closes chunk self.old self.new result }
+    /// All blocks of the chunk are worked on.
+    fn end_chunk<R: Wait>(
+        &mut self,
+        manager: &Manager<L, G>,
+        rt: &R,
+        shared: &W,
+        blocks: ForkBlocks,
+        chunk: u32,
+        pass: &Pass,
+    ) -> Result<(), JobError>
+        requires chunk { chunk < chunk_count (blocks_in manager.now blocks.rel.0 blocks.fork) }
+        requires worked { IsAtEnd (does manager.now blocks.rel.0 blocks.fork)
+            (HasNoTokens L.contents manager.now) (opens manager.now blocks.rel.0 blocks.fork)
+            (blocks_in manager.now blocks.rel.0 blocks.fork) chunk pass.now self.old }
+        ensures closes { closes chunk pass.now self.old self.new result }
+        ensures opens { OnOk result (opens manager.now blocks.rel.0 blocks.fork self.new) }
         ensures fits { OnOk result ((n : ℕ) → fits self.old n → fits self.new n) };
+
+    /// The worker of this number has failed: the others can stop.
+    fn stop<R: Wait>(&self, rt: &R, shared: &W, worker: u32);
 }
 
 /// The blocks that a job works on: those of a fork.
@@ -86,7 +121,7 @@ pub(crate) struct ForkBlocks {
     pub(crate) fork: Fork,
 }
 
-/// A backend that claims chunks of the blocks, and deals with each.
+/// A backend that claims chunks of the blocks, and works on each.
 pub(crate) struct Worker<K> {
     pub(crate) number: u32,
     pub(crate) pass: Pass,
@@ -103,7 +138,7 @@ pub(crate) fn chunk_count(blocks: u32) -> u32
 }
 
 /// The blocks of a chunk, in order, up to the first that the task fails at.
-fn work_blocks<L: BlockLane, G: LogDevice, R: Wait, T: Gate, K: BlockTask<L, G>>(
+fn work_blocks<L: BlockLane, G: LogDevice, R: Wait, T: Gate, W, K: BlockTask<L, G, W>>(
     manager: &Manager<L, G>,
     rt: &R,
     alloc: Global,
@@ -119,9 +154,12 @@ fn work_blocks<L: BlockLane, G: LogDevice, R: Wait, T: Gate, K: BlockTask<L, G>>
     requires chunk { chunk < chunk_count count }
     requires fits { CanCount K.fits worker.old.task (chunk_size count chunk) }
     ensures same { (worker.new.number ≡ worker.old.number) × (worker.new.seat ≡ worker.old.seat) }
-    ensures does { DoesUpTo (K.does manager.now blocks.rel.0 blocks.fork) count chunk worker.old.pass worker.new.pass worker.old.task worker.new.task result }
+    ensures does { DoesUpTo (K.does manager.now blocks.rel.0 blocks.fork) count chunk
+        worker.old.pass worker.new.pass worker.old.task worker.new.task result }
     ensures free { OnOk result (HasNoTokens L.contents manager.now worker.new.pass) }
-    ensures fits { OnOk result ((n : ℕ) → CanCount K.fits worker.old.task (n + chunk_size count chunk) → CanCount K.fits worker.new.task n) }
+    ensures fits { OnOk result
+        ((n : ℕ) → CanCount K.fits worker.old.task (n + chunk_size count chunk)
+        → CanCount K.fits worker.new.task n) }
 {
     let from = chunk * 8;
     let to = from + (count - from).min(8);
@@ -147,11 +185,12 @@ fn work_blocks<L: BlockLane, G: LogDevice, R: Wait, T: Gate, K: BlockTask<L, G>>
 }
 
 /// The blocks of a chunk, and then its end.
-fn work_chunk<L: BlockLane, G: LogDevice, R: Wait, T: Gate, K: BlockTask<L, G>>(
+fn work_chunk<L: BlockLane, G: LogDevice, R: Wait, T: Gate, W, K: BlockTask<L, G, W>>(
     manager: &Manager<L, G>,
     rt: &R,
     alloc: Global,
     gate: &T,
+    shared: &W,
     blocks: ForkBlocks,
     count: u32,
     chunk: u32,
@@ -162,36 +201,49 @@ fn work_chunk<L: BlockLane, G: LogDevice, R: Wait, T: Gate, K: BlockTask<L, G>>(
     requires count { count ≡ blocks_in manager.now blocks.rel.0 blocks.fork }
     requires chunk { chunk < chunk_count count }
     requires fits { CanCount K.fits worker.old.task (chunk_size count chunk) }
+    requires opens { K.opens manager.now blocks.rel.0 blocks.fork worker.old.task }
     ensures same { (worker.new.number ≡ worker.old.number) × (worker.new.seat ≡ worker.old.seat) }
-    ensures works { WorksChunk (K.does manager.now blocks.rel.0 blocks.fork) K.closes count chunk worker.old.pass worker.new.pass worker.old.task worker.new.task result }
+    ensures works { WorksChunk (K.does manager.now blocks.rel.0 blocks.fork) K.closes count chunk
+        worker.old.pass worker.new.pass worker.old.task worker.new.task result }
     ensures free { OnOk result (HasNoTokens L.contents manager.now worker.new.pass) }
-    ensures fits { OnOk result ((n : ℕ) → CanCount K.fits worker.old.task (n + chunk_size count chunk) → CanCount K.fits worker.new.task n) }
+    ensures opens { OnOk result (K.opens manager.now blocks.rel.0 blocks.fork worker.new.task) }
+    ensures fits { OnOk result
+        ((n : ℕ) → CanCount K.fits worker.old.task (n + chunk_size count chunk)
+        → CanCount K.fits worker.new.task n) }
 {
-    work_blocks(
+    work_blocks::<L, G, R, T, W, K>(
         manager, rt, alloc, gate, blocks, count, chunk, worker, buffers,
     )?;
-    worker.task.end_chunk(alloc, chunk)
+    worker
+        .task
+        .end_chunk(manager, rt, shared, blocks, chunk, &worker.pass)
 }
 
 /// Chunks are claimed until none is left, up to the first that the task fails in.
-fn work_chunks<L: BlockLane, G: LogDevice, R: Wait, T: Gate, K: BlockTask<L, G>>(
+fn work_chunks<L: BlockLane, G: LogDevice, R: Wait, T: Gate, W, K: BlockTask<L, G, W>>(
     manager: &Manager<L, G>,
     rt: &R,
     alloc: Global,
     gate: &T,
+    shared: &W,
     blocks: ForkBlocks,
     claims: &Claims,
     worker: &mut Worker<K>,
 ) -> Result<(), JobError>
     requires free { HasNoTokens L.contents manager.now worker.old.pass }
-    requires chunks { claims.now.chunks ≡ chunk_count (blocks_in manager.now blocks.rel.0 blocks.fork) }
+    requires chunks { claims.now.chunks
+        ≡ chunk_count (blocks_in manager.now blocks.rel.0 blocks.fork) }
     requires seat { SitsAt claims.now.table.shared.table_id worker.old.seat }
     requires claims { ClaimsNothing claims.now.chunks claims.now.workers worker.old.seat.me.0 }
     requires fits { CanBegin K.fits worker.old.task }
+    requires opens { K.opens manager.now blocks.rel.0 blocks.fork worker.old.task }
     ensures same { worker.new.number ≡ worker.old.number }
     ensures seat { SitsAt claims.now.table.shared.table_id worker.new.seat }
-    ensures part { (worker.new.seat.me.0.parts ≡ 1) × (worker.new.seat.me.0.workers ≡ claims.now.workers) }
-    ensures works { WorksChunks (K.does manager.now blocks.rel.0 blocks.fork) K.closes (blocks_in manager.now blocks.rel.0 blocks.fork) worker.new.seat.me.0.drawn worker.old.pass worker.new.pass worker.old.task worker.new.task result }
+    ensures part { (worker.new.seat.me.0.parts ≡ 1)
+        × (worker.new.seat.me.0.workers ≡ claims.now.workers) }
+    ensures works { WorksChunks (K.does manager.now blocks.rel.0 blocks.fork) K.closes
+        (blocks_in manager.now blocks.rel.0 blocks.fork) worker.new.seat.me.0.drawn worker.old.pass
+        worker.new.pass worker.old.task worker.new.task result }
 {
     let count = manager.blocks(blocks.rel, blocks.fork);
     let mut buffers = Buffers {
@@ -208,6 +260,7 @@ fn work_chunks<L: BlockLane, G: LogDevice, R: Wait, T: Gate, K: BlockTask<L, G>>
             rt,
             alloc,
             gate,
+            shared,
             blocks,
             count,
             chunk,
@@ -218,25 +271,35 @@ fn work_chunks<L: BlockLane, G: LogDevice, R: Wait, T: Gate, K: BlockTask<L, G>>
     unreachable!()
 }
 
-/// The same, with its end noted.
-pub(crate) fn work<L: BlockLane, G: LogDevice, R: Wait, T: Gate, K: BlockTask<L, G>>(
+/// Runs a worker, and notes how it ended. If it failed, the others can stop.
+pub(crate) fn work<L: BlockLane, G: LogDevice, R: Wait, T: Gate, W, K: BlockTask<L, G, W>>(
     manager: &Manager<L, G>,
     rt: &R,
     alloc: Global,
     gate: &T,
+    shared: &W,
     blocks: ForkBlocks,
     claims: &Claims,
     worker: &mut Worker<K>,
 )
     requires free { HasNoTokens L.contents manager.now worker.old.pass }
-    requires chunks { claims.now.chunks ≡ chunk_count (blocks_in manager.now blocks.rel.0 blocks.fork) }
+    requires chunks { claims.now.chunks
+        ≡ chunk_count (blocks_in manager.now blocks.rel.0 blocks.fork) }
     requires seat { SitsAt claims.now.table.shared.table_id worker.old.seat }
     requires claims { ClaimsNothing claims.now.chunks claims.now.workers worker.old.seat.me.0 }
     requires fits { CanBegin K.fits worker.old.task }
+    requires opens { K.opens manager.now blocks.rel.0 blocks.fork worker.old.task }
     ensures same { worker.new.number ≡ worker.old.number }
     ensures seat { SitsAt claims.now.table.shared.table_id worker.new.seat }
-    ensures part { (worker.new.seat.me.0.parts ≡ 1) × (worker.new.seat.me.0.workers ≡ claims.now.workers) }
-    ensures works { WorksChunks (K.does manager.now blocks.rel.0 blocks.fork) K.closes (blocks_in manager.now blocks.rel.0 blocks.fork) worker.new.seat.me.0.drawn worker.old.pass worker.new.pass worker.old.task worker.new.task worker.new.end }
+    ensures part { (worker.new.seat.me.0.parts ≡ 1)
+        × (worker.new.seat.me.0.workers ≡ claims.now.workers) }
+    ensures works { WorksChunks (K.does manager.now blocks.rel.0 blocks.fork) K.closes
+        (blocks_in manager.now blocks.rel.0 blocks.fork) worker.new.seat.me.0.drawn worker.old.pass
+        worker.new.pass worker.old.task worker.new.task worker.new.end }
 {
-    worker.end = work_chunks(manager, rt, alloc, gate, blocks, claims, worker);
+    let end = work_chunks(manager, rt, alloc, gate, shared, blocks, claims, worker);
+    if end.is_err() {
+        worker.task.stop(rt, shared, worker.number);
+    }
+    worker.end = end;
 }

@@ -37,7 +37,7 @@ fn say<E: Sink>(alloc: Global, error: &ToolError<'_>, err: &mut E) -> u8
 }
 
 /// Does what the words ask for.
-fn perform<'a, H: Host, R: Threads + Wait + Sync, O: Sink, G: Gate + Sync>(
+fn perform<'a, H: Host, R: Threads + Wait + Sync, O: Sink + Send, G: Gate + Sync>(
     rt: &R,
     alloc: Global,
     words: &'a [String],
@@ -91,7 +91,7 @@ fn perform<'a, H: Host, R: Threads + Wait + Sync, O: Sink, G: Gate + Sync>(
 /// The blocks are read and written by as many backends as `--backends` says, through a buffer
 /// manager of `--frames` frames. The answer is the status that the program ends with; a refusal has
 /// its line on the error stream.
-pub fn run<H: Host, R: Threads + Wait + Sync, O: Sink, E: Sink, G: Gate + Sync>(
+pub fn run<H: Host, R: Threads + Wait + Sync, O: Sink + Send, E: Sink, G: Gate + Sync>(
     rt: &R,
     alloc: Global,
     words: &[String],

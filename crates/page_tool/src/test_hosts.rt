@@ -1,12 +1,13 @@
 //! Runs of the tests on hosts in memory.
 use crate::OpenGate;
 use crate::run::run;
-use log_device::{FaultPlan, LogPlan, MemSink};
+use log_device::{Failed, FaultPlan, LogPlan, MemSink, Sink};
 use page_jobs::Gate;
 use segment_store::{LanePlan, MemFile, MemHost, MemLogs};
 use std::alloc::Global;
 use std::process::Abort;
 use std::sync::Wait;
+use std::sync::atomic::{AtomicU64, Ordering};
 use std::test::Fail;
 use std::thread::Threads;
 
@@ -107,6 +108,35 @@ pub(crate) fn has_log(host: &MemHost, path: &str, bytes: Option<&[u8]>) -> bool 
     }
 }
 
+/// Counts the pieces that are put, and drops them. No put fails.
+#[derive(Drop)]
+pub(crate) struct CountingSink<'a> {
+    puts: &'a AtomicU64,
+}
+
+impl<'a> CountingSink<'a> {
+    pub(crate) fn new(puts: &'a AtomicU64) -> CountingSink<'a> {
+        CountingSink { puts }
+    }
+}
+
+impl Sink for CountingSink<'_> {
+    ghost use Rattle.std.specs.Prelude.{None};
+    ghost use Rattle.std.proofs.Common.{rules};
+    ghost use Prim.{search};
+
+    ghost bytes = { λ _. None };
+
+    ghost faults = { λ _. 0 };
+
+    fn put(&mut self, _piece: &[u8]) -> Result<(), Failed> {
+        self.puts.fetch_add(1, Ordering::SeqCst);
+        Ok(())
+    }
+
+    ghost faults_fit = { λ _. search rules };
+}
+
 /// The status of a run, and what it wrote.
 #[derive(Drop)]
 pub(crate) struct Answer {
@@ -124,7 +154,7 @@ impl Answer {
     }
 }
 
-fn words_of(alloc: Global, line: &str) -> Result<Vec<String>, Fail> {
+pub(crate) fn words_of(alloc: Global, line: &str) -> Result<Vec<String>, Fail> {
     let mut words = Vec::new(alloc);
     for word in line.split_whitespace() {
         words.push(String::from_str(alloc, word)?)?;

@@ -1,7 +1,11 @@
 //! Scans by several workers, and scans in which a call of a device fails.
-use crate::test_hosts::{Failing, NONE_FAIL, RELATION, answer_at, answer_of, host_of};
+use crate::run::run;
+use crate::test_hosts::{
+    CountingSink, Failing, NONE_FAIL, RELATION, answer_at, answer_of, host_of, words_of,
+};
 use crate::test_pages::{dead_items_page, one_item_page, with_bytes};
 use backend_pass::Pinned;
+use log_device::{FaultPlan, MemSink};
 use page_jobs::Gate;
 use std::alloc::Global;
 use std::process::Abort;
@@ -171,7 +175,7 @@ fn chunks_are_printed_in_order(rt: HostRuntime) -> Result<(), Fail> {
     Ok(())
 }
 
-/// One worker meets a fault, and the other goes on: what is put is a prefix of the text.
+/// One worker meets a fault, and the others stop: what is put is a prefix of the text.
 #[test]
 fn one_worker_meets_a_fault(rt: HostRuntime) -> Result<(), Fail> {
     let alloc = rt.alloc();
@@ -180,14 +184,115 @@ fn one_worker_meets_a_fault(rt: HostRuntime) -> Result<(), Fail> {
         reads: &[5],
         ..NONE_FAIL
     };
-    let mut host = host_of(alloc, &[(RELATION, &bytes)], failing)?;
-    let line = "scan base/5/16384 --backends 2 --lanes 1";
-    let answer = answer_of(&rt, alloc, line, &mut host, &[])?;
-    let begins = text.as_bytes().starts_with(answer.out.bytes());
-    assert_eq!(rt;
-        (answer.status, begins, answer.err.bytes()),
-        (4, true, b"page_tool: read fault\n".as_slice())
-    );
+    for backends in [2, 7] {
+        let mut host = host_of(alloc, &[(RELATION, &bytes)], failing)?;
+        let line = format!(in alloc; "scan base/5/16384 --lanes 1 --backends {backends}")?;
+        let answer = answer_of(&rt, alloc, line.as_str(), &mut host, &[])?;
+        let begins = text.as_bytes().starts_with(answer.out.bytes());
+        assert_eq!(rt;
+            (answer.status, begins, answer.err.bytes()),
+            (4, true, b"page_tool: read fault\n".as_slice())
+        );
+    }
+    Ok(())
+}
+
+/// Notes how many pieces were put before block 8, and before block 16.
+#[derive(Drop)]
+struct OutputGate<'a> {
+    puts: &'a AtomicU64,
+    before_8: AtomicU64,
+    before_16: AtomicU64,
+}
+
+impl Gate for OutputGate<'_> {
+    fn before(&self, _worker: u32, block: u32) {
+        let puts = self.puts.load(Ordering::SeqCst);
+        match block {
+            8 => self.before_8.store(puts, Ordering::SeqCst),
+            16 => self.before_16.store(puts, Ordering::SeqCst),
+            _ => {}
+        }
+    }
+
+    fn seen(&self, _worker: u32, _pinned: &Pinned) {}
+}
+
+/// The text of a chunk is put before the next chunk is read.
+#[test]
+fn output_begins_at_once(rt: HostRuntime) -> Result<(), Fail> {
+    let alloc = rt.alloc();
+    let (bytes, _text) = numbered_pages(alloc)?;
+    let mut host = host_of(alloc, &[(RELATION, &bytes)], NONE_FAIL)?;
+    let puts = AtomicU64::new(0);
+    let mut out = CountingSink::new(&puts);
+    let mut err = MemSink::new(alloc, 0, FaultPlan::new(Vec::new(alloc)))?;
+    let gate = OutputGate {
+        puts: &puts,
+        before_8: AtomicU64::new(0),
+        before_16: AtomicU64::new(0),
+    };
+    let words = words_of(alloc, "scan base/5/16384 --backends 1")?;
+    let status = run(&rt, alloc, &words, &mut host, &mut out, &mut err, &gate);
+    let before_8 = gate.before_8.load(Ordering::SeqCst);
+    let before_16 = gate.before_16.load(Ordering::SeqCst);
+    let all = puts.load(Ordering::SeqCst);
+    assert_eq!(rt; (status, before_8, before_16, all), (0, 1, 2, 10));
+    Ok(())
+}
+
+/// Holds block 0 until block 39 was called, and then for some turns more. Of two workers, one has the
+/// first chunk then, and the other the next four, of which the window takes the texts of three. It
+/// notes whether a block after those was called meanwhile.
+#[derive(Drop)]
+struct FullWindowGate {
+    came: AtomicBool,
+    let_go: AtomicBool,
+    went_on: AtomicBool,
+}
+
+impl Gate for FullWindowGate {
+    fn before(&self, _worker: u32, block: u32) {
+        if block == 0 {
+            for _ in 0..TURNS {
+                if self.came.load(Ordering::SeqCst) {
+                    break;
+                }
+                yield_now();
+            }
+            for _ in 0..1000 {
+                yield_now();
+            }
+            self.let_go.store(true, Ordering::SeqCst);
+        }
+        if block == 39 {
+            self.came.store(true, Ordering::SeqCst);
+        }
+        if block >= 40 && !self.let_go.load(Ordering::SeqCst) {
+            self.went_on.store(true, Ordering::SeqCst);
+        }
+    }
+
+    fn seen(&self, _worker: u32, _pinned: &Pinned) {}
+}
+
+/// A worker whose text finds no room in the window waits with it, and reads nothing meanwhile.
+#[test]
+fn a_full_window_holds_workers_up(rt: HostRuntime) -> Result<(), Fail> {
+    let alloc = rt.alloc();
+    let (bytes, text) = numbered_pages(alloc)?;
+    let mut host = host_of(alloc, &[(RELATION, &bytes)], NONE_FAIL)?;
+    let gate = FullWindowGate {
+        came: AtomicBool::new(false),
+        let_go: AtomicBool::new(false),
+        went_on: AtomicBool::new(false),
+    };
+    let line = "scan base/5/16384 --backends 2";
+    let answer = answer_at(&rt, alloc, line, &mut host, &[], &gate)?;
+    answer.check(&rt, 0, text.as_str(), "");
+    let came = gate.came.load(Ordering::SeqCst);
+    let went_on = gate.went_on.load(Ordering::SeqCst);
+    assert_eq!(rt; (came, went_on), (true, false));
     Ok(())
 }
 
@@ -200,6 +305,9 @@ fn many_pages(alloc: Global) -> Result<Vec<u8>, Fail> {
     Ok(bytes)
 }
 
+/// How many backends scan, and which put fails: that of a chunk's text, or that of the totals.
+static FAILING_PUTS: [(u32, u64); 4] = [(1, 51), (1, 101), (7, 51), (7, 101)];
+
 /// The text of each chunk goes out in one piece, and the totals in another: what was put before a piece
 /// that fails stays.
 #[test]
@@ -208,10 +316,13 @@ fn later_pieces_may_fail(rt: HostRuntime) -> Result<(), Fail> {
     let bytes = many_pages(alloc)?;
     let mut host = host_of(alloc, &[(RELATION, &bytes)], NONE_FAIL)?;
     let whole = answer_of(&rt, alloc, "scan base/5/16384", &mut host, &[])?;
-    let cut = answer_of(&rt, alloc, "scan base/5/16384", &mut host, &[101])?;
-    let (text, piece) = (whole.out.bytes(), cut.out.bytes());
-    let is_cut = piece.len() > 65536 && piece.len() < text.len() && text.starts_with(piece);
-    assert_eq!(rt; (whole.status, cut.status, is_cut), (0, 7, true));
+    for (backends, put) in &FAILING_PUTS {
+        let line = format!(in alloc; "scan base/5/16384 --backends {backends}")?;
+        let cut = answer_of(&rt, alloc, line.as_str(), &mut host, &[*put])?;
+        let (text, piece) = (whole.out.bytes(), cut.out.bytes());
+        let is_cut = piece.len() > 32768 && piece.len() < text.len() && text.starts_with(piece);
+        assert_eq!(rt; (whole.status, cut.status, is_cut), (0, 7, true), "{line}");
+    }
     Ok(())
 }
 

@@ -26,6 +26,7 @@ use Rattle.backend_pass.specs.declared.manager.Manager.{Manager}
 use Rattle.backend_pass.specs.Closing.{ClosesAll, met_by_passes}
 use Rattle.backend_pass.specs.Passes.{PassState}
 use Rattle.chunk_claims.specs.Claims.{sum_below}
+use Rattle.chunk_claims.proofs.Weights.{sum_first}
 use Rattle.page_jobs.specs.Parts.{blocks_in}
 use Rattle.page_jobs.specs.RewriteCloses.{HoldEither, HoldRewritten}
 use Rattle.page_jobs.specs.RewriteEnds.{HasEntry, change_weight}
@@ -51,12 +52,6 @@ changed_sound page changes = from (is_sound_page page) refl
         let none : false ≡ true = no in
         cc
         )
-
--- the sum over the numbers below n begins with that of 0
-sum_first : (n : ℕ) (g : ℕ → ℕ) → sum_below (suc n) g ≡ g 0 + sum_below n (λ i. g (suc i))
-unfolding sum_below
-sum_first zero g = omega arith
-sum_first (suc n) g = let e = sum_first n g in omega arith
 
 -- as many pages are changed as the weights of their blocks say
 changed_counted : (pages : List Page) (g : ℕ → ℕ) → ((i : ℕ) (page : Page) → get_elem? pages i ≡ some page → g i ≡ (if is_changed_outcome (page_rewrite_of page) then 1 else 0)) → sum_below (length pages) g ≡ changed_pages pages

@@ -104,7 +104,7 @@ pub(crate) struct ListingEnd<L> {
 }
 
 /// The backends read the blocks, and what is printed of them is put.
-fn list_blocks<L: BlockLane + Send, R: Threads + Wait + Sync, O: Sink, T: Gate + Sync>(
+fn list_blocks<L: BlockLane + Send, R: Threads + Wait + Sync, O: Sink + Send, T: Gate + Sync>(
     manager: &Manager<L, MemLog>,
     rt: &R,
     alloc: Global,
@@ -138,7 +138,7 @@ fn list_blocks<L: BlockLane + Send, R: Threads + Wait + Sync, O: Sink, T: Gate +
 }
 
 /// The backends list the blocks, and the manager is closed, which returns its lanes.
-fn list_and_close<L: BlockLane + Send, R: Threads + Wait + Sync, O: Sink, T: Gate + Sync>(
+fn list_and_close<L: BlockLane + Send, R: Threads + Wait + Sync, O: Sink + Send, T: Gate + Sync>(
     manager: Manager<L, MemLog>,
     rt: &R,
     alloc: Global,
@@ -167,7 +167,7 @@ fn list_and_close<L: BlockLane + Send, R: Threads + Wait + Sync, O: Sink, T: Gat
 }
 
 /// Lists the blocks of a relation from its lanes, by as many backends as the options say, and returns the lanes.
-pub(crate) fn list<L: BlockLane + Send, R: Threads + Wait + Sync, O: Sink, T: Gate + Sync>(
+pub(crate) fn list<L: BlockLane + Send, R: Threads + Wait + Sync, O: Sink + Send, T: Gate + Sync>(
     rt: &R,
     alloc: Global,
     options: &Options,

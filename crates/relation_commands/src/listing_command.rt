@@ -23,7 +23,7 @@ use std::sync::Wait;
 use std::thread::Threads;
 
 /// Lists the blocks of a relation that is open, and gives its lanes back.
-fn list_opened<H: Host, R: Threads + Wait + Sync, O: Sink, G: Gate + Sync>(
+fn list_opened<H: Host, R: Threads + Wait + Sync, O: Sink + Send, G: Gate + Sync>(
     rt: &R,
     alloc: Global,
     request: &ListRequest,
@@ -66,7 +66,7 @@ fn list_opened<H: Host, R: Threads + Wait + Sync, O: Sink, G: Gate + Sync>(
 }
 
 /// Lists the blocks of the relation at a path.
-pub fn list_relation<'a, H: Host, R: Threads + Wait + Sync, O: Sink, G: Gate + Sync>(
+pub fn list_relation<'a, H: Host, R: Threads + Wait + Sync, O: Sink + Send, G: Gate + Sync>(
     rt: &R,
     alloc: Global,
     request: &ListRequest<'a>,

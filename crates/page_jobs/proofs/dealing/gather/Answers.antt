@@ -1,8 +1,9 @@
-use Rattle.std.proofs.Common.{rules, ◌≡◌, ◌+◌, List, [], Some, length, refl, ap, ◌∙◌, arith}
+use Rattle.std.proofs.Common.{rules, ◌≡◌, ◌+◌, List, [], ◌∷◌, ◌++◌, Some, length, refl, sym, ap, ◌∙◌, subst, arith, append_assoc}
+use Rattle.std.proofs.lemmas.List.{append-nil}
 use Rattle.std.proofs.lemmas.List.Elements.{All-pop}
 use Rattle.page_jobs.specs.declared.working.Worker.{Worker}
-use Rattle.page_jobs.specs.Dealt.{HasWorkedSeat, total_drawn}
-use Rattle.page_jobs.proofs.ChunkSums.{total_nothing}
+use Rattle.page_jobs.specs.Dealt.{HasWorkedSeat, HaveJoined, total_drawn}
+use Rattle.chunk_claims.proofs.Weights.{total_nothing}
 use Rattle.page_jobs.proofs.Deals.{drawn_first, gathered, none_drawn}
 use Rattle.page_jobs.proofs.dealing.gather.Goals as goal
 
@@ -24,6 +25,7 @@ loop-worker-init g c =
       parts = let p = d.parts_are in omega (arith, p);
       drawn = λ h. let n = total_nothing h c.args.seat.now.me.0.drawn d.drawn in omega (arith, n);
       rest = r.seats;
+      joined = ([], append-nil c.args.workers.items, refl);
     }
 
 pub loop-worker-preserved : goal.loop-worker-preserved
@@ -43,6 +45,11 @@ loop-worker-preserved g c =
       parts = let both = ap (λ y. y.parts) j.both in let so_far = i.parts in omega (arith, both, so_far, part, long);
       drawn = λ h. drawn_first h c.loop-worker.workers.items c.pop.new.self.items c.in-Some.worker c.loop-worker.seat.me.0 c.join.new.seat.me.0 _ c.in-Some.ensures.items j.both (i.drawn h);
       rest = popped.0;
+      joined = (
+        c.in-Some.worker ∷ i.joined.0,
+        sym (append_assoc c.pop.new.self.items (c.in-Some.worker ∷ []) i.joined.0) ∙ ap (λ (l : List (Worker g.row.K.Denot)). l ++ i.joined.0) (sym c.in-Some.ensures.items) ∙ i.joined.1,
+        (c.loop-worker.task, i.joined.2, c.join-in-Some.ensures.joins),
+      );
     }
 
 pub returns-clause-drawn : goal.returns-clause-drawn
@@ -52,3 +59,10 @@ returns-clause-drawn g c h =
     let rest = ap (λ (l : List (Worker g.row.K.Denot)). total_drawn h l) none ∙ none_drawn g.row.K.Denot h in
     let all = i.drawn h in
     omega (arith, rest, all)
+
+pub returns-clause-joined : goal.returns-clause-joined
+returns-clause-joined g c =
+    let i = c.loop-worker.invariant in
+    let none : c.loop-worker.workers.items ≡ [] = search rules in
+    let all : i.joined.0 ≡ c.args.workers.items = ap (λ (l : List (Worker g.row.K.Denot)). l ++ i.joined.0) (sym none) ∙ i.joined.1 in
+    subst (λ (l : List (Worker g.row.K.Denot)). HaveJoined g.K.JobTask.joins l c.args.task.now c.loop-worker.task) all i.joined.2

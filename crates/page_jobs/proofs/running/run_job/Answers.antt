@@ -1,21 +1,26 @@
-use Rattle.std.proofs.Common.{◌≡◌, ℕ, ◌<◌, List, [], ◌∷◌, length, ap, ◌∙◌, subst, rules}
+use Rattle.std.proofs.Common.{◌≡◌, ℕ, ◌-◌, ◌<◌, List, [], ◌∷◌, length, ap, ◌∙◌, subst, rules}
+use Rattle.std.specs.Prelude.{vec_len}
 use Rattle.backend_pass.specs.Passes.{PassState}
 use Rattle.page_jobs.specs.declared.working.Worker.{Worker}
 use Rattle.page_jobs.specs.Chunks.{chunk_count}
 use Rattle.page_jobs.specs.Jobs.{HaveNoTokens}
 use Rattle.page_jobs.specs.Parts.{blocks_in}
-use Rattle.page_jobs.specs.Working.{CanBegin}
 use Rattle.page_jobs.proofs.Deals.{all_ready, free_back, free_front}
 use Rattle.page_jobs.proofs.WorkerBlocks.{have_done}
 use Rattle.page_jobs.proofs.running.run_job.Goals as goal
+
+pub deal_out-requires-clause-deals : goal.deal_out-requires-clause-deals
+deal_out-requires-clause-deals g c =
+    let less : vec_len c.args.passes - 1 ≡ vec_len c.take_last-last.new.self = search rules in
+    subst (λ (n : ℕ). g.K.JobTask.deals n c.args.task.now) less c.requires.deals
 
 pub work_beside-beside_end-requires-clause-chunks : goal.work_beside-beside_end-requires-clause-chunks
 work_beside-beside_end-requires-clause-chunks g c κs within = c.in-Ok.ensures.dealt.0.chunks ∙ ap chunk_count c.blocks-count.ensures.count
 
 pub work_beside-beside_end-requires-clause-ready : goal.work_beside-beside_end-requires-clause-ready
 work_beside-beside_end-requires-clause-ready g c κs within =
-    let B : g.row.K.Denot → Type 0 = (λ k. g.K.BlockTask.begins c.args.task.now k × CanBegin g.K.BlockTask.fits k) in
-    all_ready {L = g.row.L.Denot} {G = g.row.G.Denot} g.L.BlockLane.contents c.args.manager.now c.args.blocks.rel.0 c.args.blocks.fork B c.in-Ok.dealt.claims g.K.BlockTask.fits (λ k b. b.1) 0 c.take_last-last.new.self.items c.in-Ok.dealt.workers.items
+    all_ready {L = g.row.L.Denot} {G = g.row.G.Denot} g.L.BlockLane.contents c.args.manager.now c.args.blocks.rel.0 c.args.blocks.fork (g.K.JobTask.begins c.args.task.now) c.in-Ok.dealt.claims g.K.BlockTask.fits
+    (g.K.BlockTask.opens c.args.manager.now c.args.blocks.rel.0 c.args.blocks.fork) c.requires.starts 0 c.take_last-last.new.self.items c.in-Ok.dealt.workers.items
     c.in-Ok.ensures.dealt.0.dealt
     (free_front {L = g.row.L.Denot} {G = g.row.G.Denot} g.L.BlockLane.contents c.args.manager.now c.args.blocks.rel.0 c.args.blocks.fork c.take_last-last.new.self.items (c.take_last-last.result ∷ [])
     (subst (HaveNoTokens {L = g.row.L.Denot} {G = g.row.G.Denot} g.L.BlockLane.contents c.args.manager.now) c.take_last-last.ensures.items c.requires.free))
@@ -27,7 +32,6 @@ work_beside-beside_end-requires-clause-free g c κs within =
 
 pub returns-in-Ok-clause-ran : goal.returns-in-Ok-clause-ran
 returns-in-Ok-clause-ran g c =
-    let B : g.row.K.Denot → Type 0 = (λ k. g.K.BlockTask.begins c.args.task.now k × CanBegin g.K.BlockTask.fits k) in
     let D = g.K.BlockTask.does c.args.manager.now c.args.blocks.rel.0 c.args.blocks.fork in
     let n = blocks_in c.args.manager.now c.args.blocks.rel.0 c.args.blocks.fork in
     let ps : List PassState = c.take_last-last.new.self.items in
@@ -39,7 +43,7 @@ returns-in-Ok-clause-ran g c =
       before = ps;
       last = c.take_last-last.result;
       split = c.take_last-last.ensures.items;
-      done = have_done D g.K.BlockTask.closes n B c.in-Ok.dealt.claims 0 ps c.in-Ok.dealt.workers.items xs out.dealt long w.worked;
+      done = have_done D g.K.BlockTask.closes n (g.K.JobTask.begins c.args.task.now) c.in-Ok.dealt.claims 0 ps c.in-Ok.dealt.workers.items xs out.dealt long w.worked;
       beside = w.beside;
       did_beside = w.works;
       none = c.in-Ok.ensures.dealt.1;

@@ -8,7 +8,8 @@ use Rattle.page_jobs.specs.Chunks.{Ascend, chunk_count, chunk_size}
 use Rattle.page_jobs.specs.Parts.{blocks_in}
 use Rattle.page_jobs.specs.Working.{DoesChunk, DoesChunks}
 use Rattle.page_jobs.proofs.Ascending.{ascend_drawn, ascend_none, ascend_past}
-use Rattle.page_jobs.proofs.ChunkSums.{can_take, draws_chunk, size_few, size_last, sizes_all, still_takes, total_nothing}
+use Rattle.chunk_claims.proofs.Weights.{total_nothing}
+use Rattle.page_jobs.proofs.ChunkSums.{can_take, draws_chunk, size_few, size_last, sizes_all, still_takes}
 use Rattle.page_jobs.proofs.ClaimedChunks.{chunks_below}
 use Rattle.page_jobs.proofs.WorkerBlocks.{chunks_more, works_failed, works_none}
 use Rattle.page_jobs.proofs.working.work_chunks.Goals as goal
@@ -29,6 +30,7 @@ loop-init g c =
       ascend = ascend_none c.args.worker.now.seat.me.0.drawn r.claims.drawn;
       few = let none = total_nothing (chunk_size n) c.args.worker.now.seat.me.0.drawn r.claims.drawn in omega (arith, none);
       free = r.free;
+      opens = r.opens;
       fits = λ k few. r.fits k (omega (arith, few));
     }
 
@@ -75,6 +77,7 @@ loop-preserved g c =
       ascend = subst Ascend (sym d.drawn) (ascend_drawn chunk old.drawn i.ascend (λ h. subst (λ (l : List ℕ). total h l ≤ sum_below (chunk + 1) h) (ap (λ (x : Claimant). x.drawn) s.1) (c.in-Some-claim.ensures.within h)));
       few = few;
       free = w.free;
+      opens = w.opens;
       fits = w.fits (4294967296 - total (chunk_size n) new.me.0.drawn) (λ k few. i.fits k (still_takes k (chunk_size c.blocks-count.result chunk) (chunk_size n chunk) (total (chunk_size n) old.drawn) (total (chunk_size n) new.me.0.drawn) few (ap (λ (m : ℕ). chunk_size m chunk) c.blocks-count.ensures.count) d.sizes fewest));
     }
 

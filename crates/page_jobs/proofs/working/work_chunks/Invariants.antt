@@ -19,5 +19,6 @@ invariant-loop g l = record {
   ascend : Ascend l.worker.seat.me.0.drawn;
   few : total (chunk_size (blocks_in l.manager l.blocks.rel.0 l.blocks.fork)) l.worker.seat.me.0.drawn ≤ blocks_in l.manager l.blocks.rel.0 l.blocks.fork;
   free : HasNoTokens {L = g.row.L.Denot} {G = g.row.G.Denot} g.L.BlockLane.contents l.manager l.worker.pass;
+  opens : g.K.BlockTask.opens l.manager l.blocks.rel.0 l.blocks.fork l.worker.task;
   fits : CanCount g.K.BlockTask.fits l.worker.task (2 ^ 32 - total (chunk_size (blocks_in l.manager l.blocks.rel.0 l.blocks.fork)) l.worker.seat.me.0.drawn);
 }

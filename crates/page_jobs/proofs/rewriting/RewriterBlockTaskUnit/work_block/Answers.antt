@@ -1,7 +1,7 @@
 use Rattle.std.proofs.Common.{ℕ, sym, subst}
 use Rattle.page_layout.specs.Outcomes.{IsRewriteWithin}
 use Rattle.page_jobs.proofs.RewrittenBlocks.{block_counts}
-use Rattle.page_jobs.proofs.rewriting.RewriterBlockTask.work_block.Goals as goal
+use Rattle.page_jobs.proofs.rewriting.RewriterBlockTaskUnit.work_block.Goals as goal
 
 pub returns-clause-does : goal.returns-clause-does
 returns-clause-does g c =
