@@ -16,7 +16,7 @@ use Rattle.pin_core.specs.State.{Config, Frame, Page, link, lane_hold}
 use Rattle.page_core.specs.State.{Block, block_of}
 use Rattle.page_core.specs.Tallies.{Tally, sharers, applied_locks, unapplied_locks, weigh, page_shape}
 use Rattle.page_core.specs.Invariant.{PageFrame}
-use Rattle.history_core.specs.Log.{Entry, Change, image, ranges, resize, IsChange, IsEntryOf, end_of, tag_in, changed_page, page_after, cell}
+use Rattle.history_core.specs.Log.{Entry, Change, image, ranges, resize, IsChange, AreValid, IsEntryOf, end_of, tag_in, changed_page, page_after, cell}
 use Rattle.history_core.specs.State.{Lane, State, Store, opening, stored_upto, failed, unsynced}
 use Rattle.history_core.specs.Lanes as lane_kinds
 use Rattle.history_core.specs.Lanes.{LaneKind, lane_after}
@@ -28,7 +28,7 @@ use Rattle.history_core.specs.Unentered.{IsEntered, IsFlushedEntered, IsUnentere
 use Rattle.history_core.specs.Crashes.{Survives, first, one_more, Crashed, RangesHaveWhole, IsExcepted, CrashesRedo, StartsSynced}
 use Rattle.history_core.proofs.Calls.{at_both}
 use Rattle.history_core.proofs.Histories.{loaded, is_out}
-use Rattle.history_core.proofs.Logs.{AreValid, is_of, changed_image, cell_absent, after_none, each_entry}
+use Rattle.history_core.proofs.Logs.{is_of, changed_image, cell_absent, after_none, each_entry}
 use Rattle.history_core.proofs.Owing.{output_position}
 use Rattle.history_core.proofs.Always.{KeptByLaws, always}
 use Rattle.history_core.proofs.Unentered.{noted_kept, IsUnenteredLaw, unentered_kept, unentered_open}
@@ -174,7 +174,7 @@ written_have s h = record {
 }
 
 -- where an image of the block is among the entries its page after them is the same, whatever it was before
-same_after : (tag k : ℕ) (es : List Entry) (e : Entry) (p : Page) (x y : Option Page) → get_elem? es k ≡ some e → e.change ≡ image tag p → page_after tag es x ≡ page_after tag es y
+pub same_after : (tag k : ℕ) (es : List Entry) (e : Entry) (p : Page) (x y : Option Page) → get_elem? es k ≡ some e → e.change ≡ image tag p → page_after tag es x ≡ page_after tag es y
 unfolding page_after
 same_after tag k [] e p x y at is = absurd (some-ne-none e (sym at))
 same_after tag zero (d ∷ es) e p x y at is = let change : d.change ≡ image tag p = ap (λ (z : Entry). z.change) (some-injective d e at) ∙ is in
@@ -183,7 +183,7 @@ same_after tag zero (d ∷ es) e p x y at is = let change : d.change ≡ image t
 same_after tag (suc k) (d ∷ es) e p x y at is = same_after tag k es e p (changed_page d.change (end_of d) tag x) (changed_page d.change (end_of d) tag y) at is
 
 -- a block has an entry, or none
-entry_or_none : (es : List Entry) (tag : ℕ) → IsEntered es tag ⊎ ((k : ℕ) (e : Entry) → IsEntryOf es tag k e → ⊥)
+pub entry_or_none : (es : List Entry) (tag : ℕ) → IsEntered es tag ⊎ ((k : ℕ) (e : Entry) → IsEntryOf es tag k e → ⊥)
 entry_or_none [] tag = inr (λ k e h. some-ne-none e (sym h.there))
 entry_or_none (x ∷ es) tag = ⊎_elim
     (λ (here : tag_in x.change ≡ Some tag). inl (0, x, record { there = refl; of = here }))

@@ -43,6 +43,7 @@ pub mod Laws
 pub mod Sizes
 pub mod Always
 pub mod Images
+pub mod EntryBlocks
 pub mod There
 pub mod Covered
 pub mod Unentered

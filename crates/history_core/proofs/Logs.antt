@@ -13,7 +13,7 @@ use Rattle.byteorder.specs.Endian.{little_bytes}
 use Rattle.page_layout.specs.Fields.{lsn_of, with_lsn}
 use Rattle.page_layout.specs.Soundness.{is_sound_page}
 use Rattle.pin_core.specs.State.{Page}
-use Rattle.history_core.specs.Log.{Span, Change, image, ranges, resize, spans_size, rounded, change_size, is_image, span_places, span_bytes, change_bytes, record_bytes, records, head_bytes, head_size, log_bytes, Entry, Log, record_size, end_of, end_from, log_end, AreChained, IsChange, AreImages, LogLaw, cut, with_spans, changed_page, page_after, cell, tag_in, IsEntryOf, HasImage}
+use Rattle.history_core.specs.Log.{Span, Change, image, ranges, resize, spans_size, rounded, change_size, is_image, span_places, span_bytes, change_bytes, record_bytes, records, head_bytes, head_size, log_bytes, Entry, Log, record_size, end_of, end_from, log_end, AreChained, IsChange, AreImages, AreValid, LogLaw, cut, with_spans, changed_page, page_after, cell, tag_in, IsEntryOf, HasImage}
 use Rattle.grid.proofs.Lists.{at_end}
 
 -- an entry takes bytes of the log
@@ -21,10 +21,6 @@ pub some_size : (c : Change) → 0 < change_size c
 some_size (image tag page) = lit< tt
 some_size (ranges tag spans) = omega arith
 some_size (resize fork old new) = lit< tt
-
--- the entries are what entries may be
-abbrev pub AreValid : List Entry → Type 0
-AreValid es = (k : ℕ) (e : Entry) → get_elem? es k ≡ some e → IsChange (end_of e) e.change
 
 -- a change is of the block, or not
 pub is_of : (c : Change) (tag : ℕ) → (tag_in c ≡ Some tag) ⊎ (tag_in c ≢ Some tag)
@@ -57,12 +53,12 @@ before_image (image t r) end tag p q valid whole is unsound = dite (ℕ_discrete
 before_image (ranges t spans) end tag p q valid whole is unsound = absurd (cc)
 before_image (resize fork old new) end tag p q valid whole is unsound = absurd valid
 
-after_longer : (tag : ℕ) (es : List Entry) (e : Entry) (p : Option Page) → page_after tag (es ++ e ∷ []) p ≡ changed_page e.change (end_of e) tag (page_after tag es p)
+-- the page of a block after one entry more, whatever it was before
+pub after_longer : (tag : ℕ) (es : List Entry) (e : Entry) (p : Option Page) → page_after tag (es ++ e ∷ []) p ≡ changed_page e.change (end_of e) tag (page_after tag es p)
 unfolding page_after
 after_longer tag [] e p = refl
 after_longer tag (x ∷ es) e p = after_longer tag es e (changed_page x.change (end_of x) tag p)
 
--- the page of a block after one entry more
 pub cell_longer : (origin : ℕ → Option Page) (es : List Entry) (e : Entry) (tag : ℕ) → cell origin (es ++ e ∷ []) tag ≡ changed_page e.change (end_of e) tag (cell origin es tag)
 cell_longer origin es e tag = after_longer tag es e (origin tag)
 
@@ -118,12 +114,12 @@ entry_longer es x tag k e h = ⊎_elim
     (λ (t : (x ≡ e) × (k ≡ length es)). inr (t.0, ap (λ (y : Entry). tag_in y.change) t.0 ∙ h.of))
     (at_end es x e k h.there)
 
-after_absent : (tag : ℕ) (es : List Entry) (x : Option Page) → AreValid es → ((k : ℕ) (e : Entry) → IsEntryOf es tag k e → ⊥) → page_after tag es x ≡ x
+-- the page of a block that has no entry
+pub after_absent : (tag : ℕ) (es : List Entry) (x : Option Page) → AreValid es → ((k : ℕ) (e : Entry) → IsEntryOf es tag k e → ⊥) → page_after tag es x ≡ x
 unfolding page_after
 after_absent tag [] x valid none = refl
 after_absent tag (e ∷ es) x valid none = after_absent tag es (changed_page e.change (end_of e) tag x) (λ k d at. valid (suc k) d at) (λ k d h. none (suc k) d (deeper e es tag k d h)) ∙ changed_else e.change (end_of e) tag x (valid 0 e refl) (λ of. none 0 e (record { there = refl; of = of }))
 
--- the page of a block that has no entry
 pub cell_absent : (origin : ℕ → Option Page) (es : List Entry) (tag : ℕ) → AreValid es → ((k : ℕ) (e : Entry) → IsEntryOf es tag k e → ⊥) → cell origin es tag ≡ origin tag
 cell_absent origin es tag valid none = after_absent tag es (origin tag) valid none
 
@@ -264,7 +260,8 @@ unfolding AreChained end_from
 images_end from [] h all = omega arith
 images_end from (e ∷ es) h all = let rest = images_end (end_of e) es h.1 (λ k x at. all (suc k) x at) in let size = image_size e.change (all 0 e refl) in let starts : e.start ≡ from = h.0 in omega arith
 
-chain_longer : (from : ℕ) (es : List Entry) (e : Entry) → AreChained from es → e.start ≡ end_from from es → AreChained from (es ++ e ∷ [])
+-- an entry more at their end
+pub chain_longer : (from : ℕ) (es : List Entry) (e : Entry) → AreChained from es → e.start ≡ end_from from es → AreChained from (es ++ e ∷ [])
 unfolding AreChained end_from
 chain_longer from [] e h s = (s, tt)
 chain_longer from (x ∷ es) e h s = (h.0, chain_longer (end_of x) es e h.1 s)

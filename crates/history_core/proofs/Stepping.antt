@@ -624,13 +624,13 @@ module _ (s : State) (h : HistoryInvariant s) (i f : ℕ) (p : Page) (ch : Chang
   valid : IsChange end' ch
   valid = makes_valid ch end' tag_of p (link v f) is_image x.makes
 
-  of_block : tag_in ch ≡ Some tag_of
+  pub of_block : tag_in ch ≡ Some tag_of
   of_block = makes_of ch end' tag_of p (link v f) x.makes
 
   other_block : (t : ℕ) → t ≢ tag_of → tag_in ch ≢ Some t
   other_block t other e = other (same_Some t tag_of (sym e ∙ of_block))
 
-  named : tag_of ≢ no_tag
+  pub named : tag_of ≢ no_tag
   named = (((h.pool.pages.cells i v f there inside).content (λ e. exclusive_not_unlocked x.right.right e)).2).named
     where
       exclusive_not_unlocked : {c : _} → c ≡ Exclusive → c ≡ Unlocked → ⊥

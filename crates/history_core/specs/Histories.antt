@@ -15,7 +15,7 @@ use Rattle.pin_core.specs.Invariant.{HasTag}
 use Rattle.pin_core.specs.Steps as pin_steps
 use Rattle.page_core.specs.Steps as page_steps
 use Rattle.page_core.specs.Histories.{NoneUnapplied}
-use Rattle.history_core.specs.Log.{Entry, log_end, end_of, cell, cut, head_size, log_bytes, AreImages, Change, image, is_image, change_size, tag_in, IsLegal, IsFront, place_of, backend_of, writes_in, writes_at, AreInOrder}
+use Rattle.history_core.specs.Log.{Entry, log_end, end_of, cell, cut, head_size, log_bytes, AreImages, Change, image, is_image, change_size, tag_in, IsEntryOf, IsLegal, IsFront, place_of, backend_of, writes_in, writes_at, AreInOrder}
 use Rattle.history_core.specs.State.{State, Store, CanStore, stored, stored_upto, synced_upto, failed, unsynced, last_position, opening}
 use Rattle.history_core.specs.Homes.{home_of, IsFlushedCell}
 use Rattle.history_core.specs.Lanes.{LaneKind, lane_out, sync_lane}
@@ -42,6 +42,11 @@ CallsAreLegal s = (i k : ℕ) (v : View) (c : Call) → get_elem? s.pool.core.vi
 -- where no entry may be made of ranges each entry of the log is a whole page
 abbrev pub ImagesAlone : State → Type 0
 ImagesAlone s = s.ranges ≡ false → AreImages s.log.entries
+
+-- each entry of a block is of one of the relations' blocks
+abbrev pub EntriesAreOfBlocks : State → Type 0
+EntriesAreOfBlocks s = (tag k : ℕ) (e : Entry) → IsEntryOf s.log.entries tag k e
+    → s.pool.core.is_block tag ≡ true
 
 -- The block has a page: at the start, after all entries and after those up to any place, and in its lane where its last write didn't fail
 pub record HasPages (s : State) (tag : ℕ) : Type 0 where

@@ -115,6 +115,10 @@ MayMake may (resize fork old new) = ⊥
 abbrev pub AreImages : List Entry → Type 0
 AreImages es = (k : ℕ) (e : Entry) → get_elem? es k ≡ some e → is_image e.change ≡ true
 
+-- each is what an entry may be
+abbrev pub AreValid : List Entry → Type 0
+AreValid es = (k : ℕ) (e : Entry) → get_elem? es k ≡ some e → IsChange (end_of e) e.change
+
 -- The entries follow one another, from the base on
 pub record LogLaw (log : Log) : Type 0 where
   pub chained : AreChained log.base log.entries

@@ -6,13 +6,13 @@ use lib.ListN.{get_elem?}
 use Rattle.pin_core.specs.declared.view.Call.{Call}
 use Rattle.pin_core.specs.declared.view.Call.TheVariants.{Read, Write}
 use Rattle.pin_core.specs.State.{Page}
-use Rattle.history_core.specs.Log.{Entry, Change, image, ranges, resize, is_image, tag_in, IsEntryOf, AreChained, Log, end_of, cell, cut, IsLegal, IsLegalRead, IsLegalWrite, writes_in, writes_at}
+use Rattle.history_core.specs.Log.{Entry, Change, image, ranges, resize, is_image, tag_in, IsEntryOf, AreChained, AreValid, Log, end_of, cell, cut, IsLegal, IsLegalRead, IsLegalWrite, writes_in, writes_at}
 use Rattle.grid.proofs.Sums.{total-same, some_term}
 use Rattle.history_core.specs.History.{IsHistory}
 use Rattle.page_jobs.specs.Rewrites.{Rule, Outcome, unsound, kept, refused, changed, outcome_block, outcome_calls}
 use Rattle.page_jobs.specs.RewriteEnds.{BackendCalls, all_done, block_weight, Rewrites, RewritesAll, HasRewrites, HasEntry, IsPageEntry, IsRewritten, change_weight, page_at_start}
 use Rattle.page_jobs.proofs.RewriteCounts.{Each, each_done, test_is, outcome_at, outcome_weight, writes_at_are, writes_are, same_place, total_blocks}
-use Rattle.history_core.proofs.Logs.{AreValid, after_none, chain_above, images_end, some_size}
+use Rattle.history_core.proofs.Logs.{after_none, chain_above, images_end, some_size}
 
 -- what is there is the page at the start
 start_is : (o : Option Page) (q : Page) → o ≡ Some q → q ≡ unwrap_or o []

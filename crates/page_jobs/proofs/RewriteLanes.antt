@@ -6,7 +6,7 @@ use lib.ListN.{get_elem?}
 use Rattle.pin_core.specs.declared.view.Call.{Call}
 use Rattle.pin_core.specs.declared.view.Call.TheVariants.{Read, Write}
 use Rattle.pin_core.specs.State.{Page}
-use Rattle.history_core.specs.Log.{Entry, Change, image, tag_in, changed_page, page_after, IsEntryOf, Log, LogLaw, end_of, cell, cut, place_of, weight_at}
+use Rattle.history_core.specs.Log.{Entry, Change, image, tag_in, changed_page, page_after, IsEntryOf, Log, LogLaw, AreValid, end_of, cell, cut, place_of, weight_at}
 use Rattle.history_core.specs.State.{State, stored_upto}
 use Rattle.history_core.specs.Laws.{Laws}
 use Rattle.history_core.specs.Promises.{IsInLane, IsUnwritten, AreStored}
@@ -17,7 +17,7 @@ use Rattle.page_jobs.specs.RewriteEnds.{HasRewrites, HasEntry, IsPageEntry, page
 use Rattle.grid.proofs.Sums.{some_term}
 use Rattle.page_jobs.proofs.RewriteCounts.{test_is}
 use Rattle.page_jobs.proofs.RewriteClosed.{cell_untouched, is_rewritten}
-use Rattle.history_core.proofs.Logs.{AreValid, IsLastUpto, after_none, changed_image, cut_in, cut_out, deeper, in_or_out, last_upto}
+use Rattle.history_core.proofs.Logs.{IsLastUpto, after_none, changed_image, cut_in, cut_out, deeper, in_or_out, last_upto}
 
 -- an entry of which no later one has the block
 after_last : (tag : ℕ) (es : List Entry) (p k : ℕ) (e : Entry) (page : Page) (before : Option Page) → AreValid es → get_elem? es k ≡ some e → IsPageEntry e tag page → end_of e ≤ p → ((j : ℕ) (d : Entry) → IsEntryOf es tag j d → j ≡ k) → page_after tag (cut p es) before ≡ Some page

@@ -6,6 +6,7 @@ use Rattle.history_core.proofs.KeptFlushed.{holds_keep}
 use Rattle.history_core.proofs.Lasting.{opening_stays, log_grows}
 use Rattle.history_core.proofs.Sound.{shows, stay_untouched, unsound_first}
 use Rattle.history_core.proofs.Images.{images_alone}
+use Rattle.history_core.proofs.EntryBlocks.{entries_of_blocks}
 use Rattle.history_core.proofs.There.{blocks_are_there}
 use Rattle.history_core.proofs.Covered.{syncs_cover}
 use Rattle.history_core.proofs.Crashes.{dirty_have, written_have, crashes_redo}
@@ -121,6 +122,9 @@ returns-clause-unsound_first c = λ s r. unsound_first s r.invariant (images_alo
 
 pub returns-clause-images_alone : goal.returns-clause-images_alone
 returns-clause-images_alone c = images_alone
+
+pub returns-clause-of_blocks : goal.returns-clause-of_blocks
+returns-clause-of_blocks c = entries_of_blocks
 
 pub returns-clause-there : goal.returns-clause-there
 returns-clause-there c = blocks_are_there
