@@ -4,3 +4,5 @@ pub mod Bytes
 pub mod Plan
 pub mod Memory
 pub mod MemoryLog
+pub mod Sources
+pub mod MemorySource

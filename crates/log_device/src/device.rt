@@ -1,7 +1,8 @@
-//! Logs, and sinks of bytes.
-ghost use Rattle.std.specs.Prelude.{◌≡◌, ◌+◌, ◌<◌, ◌≤◌, ◌^◌, ℕ, List, Option, None, IfSome, length};
+//! Logs, sinks of bytes, and sources of bytes.
+ghost use Rattle.std.specs.Prelude.{[], ◌≡◌, ◌+◌, ◌<◌, ◌≤◌, ◌^◌, ℕ, List, OnErr, Option, None, IfOk, IfSome, length};
 ghost use Rattle.log_device.specs.Bytes.{Puts, Syncs};
 ghost use Rattle.log_device.specs.Faults.{HasCause};
+ghost use Rattle.log_device.specs.Sources.{Takes};
 
 use thiserror::Error;
 
@@ -60,4 +61,26 @@ pub trait Sink {
         ensures faults { HasCause (faults self.old) (faults self.new) result };
 
     ghost faults_fit: { (sink : Self) → faults sink < 2 ^ 64 };
+}
+
+/// Bytes that are read one piece after another.
+///
+/// The count never falls, and rises only in a call that fails.
+pub trait Source {
+    /// The bytes left, where they are known.
+    ghost left: { Self → Option (List ℕ) };
+
+    /// How many calls failed.
+    ghost faults: { Self → ℕ };
+
+    /// Takes the next bytes into the beginning of the piece, and says how many. 0 for a piece that isn't empty is the end.
+    fn next(&mut self, piece: &mut [u8]) -> Result<usize, Failed>
+        ensures size { length piece.new ≡ length piece.old }
+        ensures within { IfOk result (λ n. n ≤ length piece.old) }
+        ensures taken { IfOk result (λ n. Takes n piece.new (left self.old) (left self.new)) }
+        ensures end { IfOk result (λ n. n ≡ 0 → 0 < length piece.old → IfSome (left self.old) (λ bytes. bytes ≡ [])) }
+        ensures kept { OnErr result (left self.new ≡ left self.old) }
+        ensures faults { HasCause (faults self.old) (faults self.new) result };
+
+    ghost faults_fit: { (source : Self) → faults source < 2 ^ 64 };
 }

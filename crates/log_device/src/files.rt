@@ -1,14 +1,14 @@
-//! A log over a file, and a sink over a writer, whose contents aren't known.
-ghost use Rattle.std.specs.Prelude.{◌≡◌, ◌+◌, None, OnOk};
-ghost use Rattle.std.specs.Io.KnownBytes.{Appends};
+//! A log over a file, a sink over a writer, and a source over a reader, whose contents aren't known.
+ghost use Rattle.std.specs.Prelude.{◌≡◌, ◌+◌, ◌≤◌, ◌<◌, ⊤, None, IfOk, OnErr, OnOk, length, take};
+ghost use Rattle.std.specs.Io.KnownBytes.{Appends, Consumes};
 ghost use Rattle.log_device.specs.Bytes.{Puts};
 ghost use Rattle.log_device.specs.Calls.{calls_counted};
 ghost use Rattle.log_device.specs.Faults.{HasCause};
 
 use crate::count::{CallCount, FaultCount};
-use crate::device::{Failed, LogDevice, Sink};
+use crate::device::{Failed, LogDevice, Sink, Source};
 use std::fs::OpenFile;
-use std::io::Write;
+use std::io::{Read, Write};
 
 /// A log over a file.
 #[derive(Drop)]
@@ -112,6 +112,53 @@ impl<W: Write + Drop> Sink for StdSink<W> {
     {
         if self.writer.write_all(piece).is_ok() {
             return Ok(());
+        }
+        self.faults.raise();
+        Err(Failed)
+    }
+
+    ghost faults_fit = { λ s. s.faults.fits };
+}
+
+/// A source over a reader.
+#[derive(Drop)]
+pub struct FileSource<F: Read + Drop> {
+    file: F,
+    faults: FaultCount,
+}
+
+impl<F: Read + Drop> FileSource<F> {
+    pub fn new(file: F) -> FileSource<F>
+        ensures { ⟦<FileSource<F> as Source>⟧.faults result ≡ 0 }
+    {
+        FileSource {
+            file,
+            faults: FaultCount::new(),
+        }
+    }
+
+    /// How many calls failed.
+    pub fn faults(&self) -> u64
+        ensures { result ≡ ⟦<FileSource<F> as Source>⟧.faults self.now }
+    {
+        self.faults.get()
+    }
+}
+
+impl<F: Read + Drop> Source for FileSource<F> {
+    ghost left = { λ s. None };
+
+    ghost faults = { λ s. s.faults.count };
+
+    /// A read that was interrupted is a fault, too.
+    fn next(&mut self, piece: &mut [u8]) -> Result<usize, Failed>
+        ensures size { length piece.new ≡ length piece.old }
+        ensures within { IfOk result (λ n. n ≤ length piece.old) }
+        ensures faults { HasCause self.old.faults.count self.new.faults.count result }
+        ensures read { IfOk result (λ n. Consumes (F.remaining self.old.file) (F.remaining self.new.file) (take n piece.new)) }
+    {
+        if let Ok(count) = self.file.read(piece) {
+            return Ok(count);
         }
         self.faults.raise();
         Err(Failed)

@@ -16,7 +16,7 @@ use crate::run::{MEMORY_LINE, run};
 use backend_pass::Pinned;
 use log_device::{Sink, StdSink};
 use page_jobs::Gate;
-use segment_store::FileHost;
+use segment_files::FileHost;
 use std::alloc::AllocError;
 use std::env;
 use std::io::ErrorKind;

@@ -3,7 +3,7 @@ use crate::OpenGate;
 use crate::run::run;
 use log_device::{Failed, FaultPlan, LogPlan, MemSink, Sink};
 use page_jobs::Gate;
-use segment_store::{LanePlan, MemFile, MemHost, MemLogs};
+use segment_store::{LanePlan, MemFile, MemHost, MemLogs, SourcePlan};
 use std::alloc::Global;
 use std::process::Abort;
 use std::sync::Wait;
@@ -75,7 +75,8 @@ fn logs_of(alloc: Global, failing: Failing) -> Result<MemLogs, Fail> {
         syncs: plan(alloc, failing.log_syncs)?,
     };
     let openings = plan(alloc, failing.log_openings)?;
-    Ok(MemLogs::new(alloc, LOG_ROOM, openings, calls))
+    let sources = SourcePlan::new(plan(alloc, &[])?, plan(alloc, &[])?, 8192);
+    Ok(MemLogs::new(alloc, LOG_ROOM, openings, calls, sources))
 }
 
 /// A host with these relations, each of one segment, and no logs.

@@ -1,8 +1,8 @@
 -- What the steps of a sample need of the lanes that they are given, and what they leave.
 use Rattle.std.proofs.Common.{◌≡◌, ℕ, ◌+◌, ◌*◌, ◌≤◌, true, List, [], ◌∷◌, ◌++◌, drop, length, map, take, Option, Some, Result, Ok, Err, refl, sym, ap, ◌∙◌, subst, arith}
-use Rattle.std.specs.Prelude.{All, IfOk, is_some, sum_by}
+use Rattle.std.specs.Prelude.{All, IfOk, is_some, sum, sum_by}
 use Rattle.std.proofs.lemmas.List.{length-map}
-use Rattle.std.proofs.lemmas.List.Sums.{count_by-le-length, sum_by-cons}
+use Rattle.std.proofs.lemmas.List.Sums.{count_by-le-length, sum-map, sum_by-cons, sum_by-le}
 use Rattle.page_layout.specs.declared.outcomes.RewriteTotals.{RewriteTotals}
 use Rattle.page_layout.specs.Outcomes.{is_changed_outcome, page_rewrite_of, rewrite_totals_of}
 use Rattle.page_layout.specs.Positions.{DifferInPositions}
@@ -18,11 +18,11 @@ use Rattle.relation_commands.specs.declared.sampling.Rewritten.{Rewritten}
 use Rattle.relation_commands.specs.declared.sampling.SampleTotals.{SampleTotals}
 use Rattle.relation_commands.specs.declared.starting.RelationFork.{RelationFork}
 use Rattle.relation_commands.specs.Limits.{largest_lsn, log_base, rounded_up}
-use Rattle.relation_commands.specs.Rewriting.{ArePages, HavePages, LeavesRewritten, pages_after}
+use Rattle.relation_commands.specs.Rewriting.{ArePages, HasRewriteCause, HavePages, LeavesRewritten, pages_after}
 use Rattle.relation_commands.specs.RewriteResults.{after_rewrite}
-use Rattle.relation_commands.specs.SampleSteps.{AreFaultless, HaveAll, IsSampleRewritten, log_span_of, sample_totals_of}
+use Rattle.relation_commands.specs.SampleSteps.{AreTold, HaveAll, IsSampleRewritten, log_span_of, sample_totals_of}
 
-module _ {L : Type 0} (contents : L → Option Pages) (failed : L → Marks) (reads writes : L → ℕ) (so : AreFaultless contents failed reads writes) where
+module _ {L : Type 0} (contents : L → Option Pages) (failed : L → Marks) (reads : L → ℕ) (so : AreTold contents failed reads) where
   sum_none : (faults : L → ℕ) → ((lane : L) → faults lane ≡ 0) → (lanes : List L) → sum_by faults lanes ≡ 0
   sum_none faults none [] = refl
   sum_none faults none (lane ∷ lanes) =
@@ -33,9 +33,6 @@ module _ {L : Type 0} (contents : L → Option Pages) (failed : L → Marks) (re
 
   pub no_reads : (lanes : List L) → sum_by reads lanes ≡ 0
   no_reads lanes = sum_none reads so.reads lanes
-
-  pub no_writes : (lanes : List L) → sum_by writes lanes ≡ 0
-  no_writes lanes = sum_none writes so.writes lanes
 
   pub all_unmarked : (lanes : List L) → All (λ lane. failed lane ≡ no_marks) lanes
   all_unmarked lanes k d below = so.unmarked _
@@ -67,8 +64,18 @@ module _ {L : Type 0} (contents : L → Option Pages) (r : RelationFork) where
   pub have_all : (lanes : List L) (pages : List Page) → HavePages contents r lanes pages → HaveAll contents r lanes
   have_all lanes pages have = record { pages = pages; have = have }
 
+-- counts that are all 0 have the sum 0
+pub none_summed : {L : Type 0} (f : L → ℕ) (lanes : List L) → All (λ lane. f lane ≡ 0) lanes → sum_by f lanes ≡ 0
+none_summed f lanes none =
+    let most = sum_by-le f 0 lanes (λ k d below. let is = none k d below in omega (arith, is)) in
+    omega (arith, most)
+
+-- counts that are the same one by one have the same sum
+same_sums : {L : Type 0} (f : L → ℕ) (xs ys : List L) → map f xs ≡ map f ys → sum_by f xs ≡ sum_by f ys
+same_sums f xs ys same = sym (sum-map f xs) ∙ ap sum same ∙ sum-map f ys
+
 -- Lanes that were surveyed in place: they are what the slice of them reads now
-module _ {L : Type 0} (contents : L → Option Pages) (failed unsynced : L → Marks) (reads writes : L → ℕ) (so : AreFaultless contents failed reads writes) (r : RelationFork) (base n : ℕ) (lanes was read : List L)
+module _ {L : Type 0} (contents : L → Option Pages) (failed unsynced : L → Marks) (reads writes : L → ℕ) (so : AreTold contents failed reads) (r : RelationFork) (base n : ℕ) (lanes was read : List L)
     (is : was ≡ lanes) (same : AreOnlyRead contents failed unsynced writes was read) (counted : length read ≡ n) (base_is : (pages : List Page) → HavePages contents r was pages → base ≡ log_base pages) where
   pub based : (pages : List Page) → HavePages contents r lanes pages → base ≡ log_base pages
   based pages have = base_is pages (subst (λ (ls : List L). HavePages contents r ls pages) (sym is) have)
@@ -77,9 +84,15 @@ module _ {L : Type 0} (contents : L → Option Pages) (failed unsynced : L → M
   have_surveyed pages have =
       subst (λ (ls : List L). HavePages contents r ls pages) (sym (take_prefix read (drop (length read) lanes) n counted)) (have_still contents r lanes read pages (same.contents_same ∙ ap (map contents) is) have)
 
+  -- no write had failed, and none has
+  pub unwritten : sum_by writes lanes ≡ 0 → sum_by writes (take n (read ++ drop (length read) lanes)) ≡ 0
+  unwritten none =
+      ap (λ (ls : List L). sum_by writes ls) (take_prefix read (drop (length read) lanes) n counted)
+      ∙ same_sums writes read lanes (same.writes_same ∙ ap (map writes) is) ∙ none
+
   pub are_surveyed : (pages : List Page) → HavePages contents r lanes pages → ArePages contents r base (take n (read ++ drop (length read) lanes)) pages
   are_surveyed pages have =
-      are_pages contents r (take n (read ++ drop (length read) lanes)) base pages (all_known contents failed reads writes so (take n (read ++ drop (length read) lanes))) (based pages have) (have_surveyed pages have)
+      are_pages contents r (take n (read ++ drop (length read) lanes)) base pages (all_known contents failed reads so (take n (read ++ drop (length read) lanes))) (based pages have) (have_surveyed pages have)
 
 module _ {L G : Type 0} (contents : L → Option Pages) (failed : L → Marks) (bytes : G → Option (List ℕ)) (synced : G → ℕ) (r : RelationFork) (base : ℕ) (lanes : List L)
     (same_totals : (pages others : List Page) → DifferInPositions pages others → totals_of others ≡ totals_of pages) where
@@ -100,6 +113,11 @@ module _ {L G : Type 0} (contents : L → Option Pages) (failed : L → Marks) (
         totals = totals;
         log = span ∙ λ i. record { base = based i; end = based i + 8224 * (totals i).changed };
       }
+
+-- a rewrite that is done has met no write fault
+pub no_write_failed : (reads writes logs logs_now : ℕ) (end : Result RewriteTotals RewriteError) (totals : RewriteTotals) → end ≡ Ok totals → HasRewriteCause reads writes logs logs_now end → writes ≡ 0
+no_write_failed reads writes logs logs_now (Ok done) totals is has = has.cause.1
+no_write_failed reads writes logs logs_now (Err why) totals is has = absurd (cc is)
 
 -- no more pages are changed than the relation has blocks
 pub changed_within : {L : Type 0} (contents : L → Option Pages) (r : RelationFork) (base : ℕ) (lanes : List L) (end : Result RewriteTotals RewriteError) (totals : RewriteTotals) → end ≡ Ok totals

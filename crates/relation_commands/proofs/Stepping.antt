@@ -111,10 +111,10 @@ module _ {L : Type 0} (contents : L → Option Pages) (failed unsynced : L → M
       }
 
       -- lanes that were opened and surveyed
-      pub surveyed : (known : Option Paths) → IsOpened contents failed unsynced read_faults write_faults known r.path (fork_of r.path) r.options.seg_blocks r.options.lanes opened
+      pub surveyed : (known : Option Paths) (lane_room : L → Marks) (room : ℕ) → IsOpened contents failed unsynced lane_room read_faults write_faults known room r.path (fork_of r.path) r.options.seg_blocks r.options.lanes opened
           → sum_by read_faults lanes ≡ 0 → sum_by write_faults lanes ≡ 0 → (base % 8 ≡ 0) × (base + 8224 * opened.blocks ≤ 2 ^ 62)
           → AreSurveyed contents failed read_faults write_faults known r relation base lanes
-      surveyed known is reads writes within = record {
+      surveyed known lane_room room is reads writes within = record {
         count = long r opened lanes same ∙ is.count;
         reads = reads;
         writes = writes;

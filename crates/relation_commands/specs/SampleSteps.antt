@@ -14,13 +14,12 @@ use Rattle.relation_commands.specs.Rewriting.{HavePages}
 use Rattle.relation_commands.specs.RewriteTexts.{log_end_of, rewrite_lines}
 use Rattle.relation_commands.specs.RewriteResults.{after_rewrite}
 
-module _ {L : Type 0} (contents : L → Option Pages) (failed : L → Marks) (read_faults write_faults : L → ℕ) where
-  -- Lanes of which no call fails, and whose contents are known
-  pub record AreFaultless : Type 0 where
+module _ {L : Type 0} (contents : L → Option Pages) (failed : L → Marks) (read_faults : L → ℕ) where
+  -- Lanes whose contents are known, of which no read fails, and no failed write leaves a block marked
+  pub record AreTold : Type 0 where
     pub known : (lane : L) → is_some (contents lane) ≡ true
     pub unmarked : (lane : L) → failed lane ≡ no_marks
     pub reads : (lane : L) → read_faults lane ≡ 0
-    pub writes : (lane : L) → write_faults lane ≡ 0
 
 -- the positions of the log of a rewrite of these pages
 abbrev pub log_span_of : List Page → LogSpan

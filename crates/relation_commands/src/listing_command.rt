@@ -34,7 +34,7 @@ fn list_opened<H: Host, R: Threads + Wait + Sync, O: Sink + Send, G: Gate + Sync
 ) -> Result<(), ListingError>
     requires open_at { IfSome (H.contents host.old) (λ _. H.open_at host.old ≡ record { path = request.now.path.now; seg_blocks = request.now.options.seg_blocks }) }
     requires range { HasOptionsInRange request.now.options }
-    requires opened { IsOpened H.Lane.contents H.Lane.failed_writes H.Lane.unsynced H.Lane.read_faults H.Lane.write_faults (H.contents host.old) request.now.path.now (fork_of request.now.path.now) request.now.options.seg_blocks request.now.options.lanes opened }
+    requires opened { IsOpened H.Lane.contents H.Lane.failed_writes H.Lane.unsynced H.Lane.room H.Lane.read_faults H.Lane.write_faults (H.contents host.old) (H.room host.old request.now.path.now request.now.options.seg_blocks) request.now.path.now (fork_of request.now.path.now) request.now.options.seg_blocks request.now.options.lanes opened }
     ensures contents { H.contents host.new ≡ H.contents host.old }
     ensures failed { IfSome (H.contents host.old) (λ paths. NoneFails request.now.options.seg_blocks paths request.now.path.now (H.failed_writes host.old) (H.failed_writes host.new)) }
     ensures writes { H.write_faults host.new ≡ H.write_faults host.old }
@@ -61,7 +61,7 @@ fn list_opened<H: Host, R: Threads + Wait + Sync, O: Sink + Send, G: Gate + Sync
         rounds: options.rounds,
     };
     let ListingEnd { lanes, end } = list(rt, alloc, options, listed, opened.lanes, out, gate);
-    host.give_back(lanes, None);
+    host.give_back(lanes, None, None);
     end.map(|_totals| ())
 }
 

@@ -171,11 +171,11 @@ fn rewrite_and_give_back<H: Host, R: Threads + Wait + Sync, T: Gate + Sync>(
             let RewriteEnd { lanes, log, end } = rewrite_lanes(
                 rt, alloc, options, relation, lanes, log, base, gate,
             );
-            host.give_back(lanes, Some(log));
+            host.give_back(lanes, Some(log), None);
             end
         }
         Err(LogRefused { error, log }) => {
-            host.give_back(lanes, log);
+            host.give_back(lanes, log, None);
             Err(error)
         }
     }
@@ -241,7 +241,7 @@ fn rewrite_opened<H: Host, R: Threads + Wait + Sync, O: Sink, G: Gate + Sync>(
     requires range { HasOptionsInRange request.now.options }
     requires main { fork_of request.now.path.now ≡ Main }
     requires open_at { IfSome (H.contents host.old) (λ _. H.open_at host.old ≡ record { path = request.now.path.now; seg_blocks = request.now.options.seg_blocks }) }
-    requires opened { IsOpened H.Lane.contents H.Lane.failed_writes H.Lane.unsynced H.Lane.read_faults H.Lane.write_faults (H.contents host.old) request.now.path.now (fork_of request.now.path.now) request.now.options.seg_blocks request.now.options.lanes opened }
+    requires opened { IsOpened H.Lane.contents H.Lane.failed_writes H.Lane.unsynced H.Lane.room H.Lane.read_faults H.Lane.write_faults (H.contents host.old) (H.room host.old request.now.path.now request.now.options.seg_blocks) request.now.path.now (fork_of request.now.path.now) request.now.options.seg_blocks request.now.options.lanes opened }
     ensures cause { HasFaultOf (counts (H.read_faults host.old) (H.write_faults host.old) (H.log_faults host.old) (O.faults out.old))
         (counts (H.read_faults host.new) (H.write_faults host.new) (H.log_faults host.new) (O.faults out.new)) result }
     ensures limit { StaysBelowLimit (option_map (pages_at (rewrite_asked request.now)) (H.contents host.old)) result }
@@ -259,7 +259,7 @@ fn rewrite_opened<H: Host, R: Threads + Wait + Sync, O: Sink, G: Gate + Sync>(
     match survey_base(alloc, relation, &mut lanes) {
         Ok(base) => rewrite_surveyed(rt, alloc, request, relation, lanes, base, host, out, gate),
         Err(error) => {
-            host.give_back(lanes, None);
+            host.give_back(lanes, None, None);
             Err(error)
         }
     }

@@ -1,5 +1,5 @@
 //! A relation that is made from a number is scanned, rewritten and scanned again, in memory.
-ghost use Rattle.std.specs.Prelude.{◌≡◌, ◌≤◌, ◌%◌, ◌^◌, List, IfErr, IfOk, OnOk, length};
+ghost use Rattle.std.specs.Prelude.{◌≡◌, ◌≤◌, ◌%◌, ◌^◌, List, IfErr, IfOk, OnOk, length, sum_by};
 ghost use Rattle.command_line.specs.Numbers.{HasOptionsInRange};
 ghost use Rattle.log_device.specs.Bytes.{Puts};
 ghost use Rattle.page_layout.specs.Scan.{totals_of};
@@ -8,7 +8,7 @@ ghost use Rattle.relation_commands.specs.Request.{IsCrowded};
 ghost use Rattle.relation_commands.specs.RewriteCommand.{IsPutRefusal};
 ghost use Rattle.relation_commands.specs.Rewriting.{HavePages};
 ghost use Rattle.relation_commands.specs.Samples.{IsSampleRefusal, sample_text};
-ghost use Rattle.relation_commands.specs.SampleSteps.{AreFaultless, HaveAll, IsSampleRewritten, sample_lines, sample_totals_of};
+ghost use Rattle.relation_commands.specs.SampleSteps.{AreTold, HaveAll, IsSampleRewritten, sample_lines, sample_totals_of};
 ghost use Rattle.relation_commands.specs.Status.{status_of_error};
 ghost use Rattle.sample_relation.specs.Relations.{sample_relation};
 
@@ -78,13 +78,15 @@ fn scan_lanes<L: BlockLane + Send + Drop, R: Threads + Wait + Sync, G: Gate + Sy
 ) -> Result<Scanned<L>, Memory>
     requires range { HasOptionsInRange options.now }
     requires count { length lanes.items ≡ options.now.lanes }
-    requires faultless { AreFaultless L.contents L.failed_writes L.read_faults L.write_faults }
+    requires told { AreTold L.contents L.failed_writes L.read_faults }
+    requires writes { sum_by L.write_faults lanes.items ≡ 0 }
     requires all { HaveAll L.contents relation lanes.items }
     requires base { (base % 8 ≡ 0) × (base ≤ 2 ^ 62) }
     ensures count { IfOk result (λ scanned. length scanned.lanes.items ≡ length lanes.items) }
     ensures pages { IfOk result (λ scanned. (pages : List Page)
         → HavePages L.contents relation lanes.items pages
         → HavePages L.contents relation scanned.lanes.items pages) }
+    ensures writes { IfOk result (λ scanned. sum_by L.write_faults scanned.lanes.items ≡ 0) }
     ensures totals { IfOk result (λ scanned. (pages : List Page)
         → HavePages L.contents relation lanes.items pages
         → scanned.totals ≡ totals_of pages) }
@@ -113,12 +115,14 @@ fn rewrite_sample<L: BlockLane + Send + Drop, R: Threads + Wait + Sync, G: Gate 
 ) -> Result<Rewritten<L>, Memory>
     requires range { HasOptionsInRange options.now }
     requires count { length lanes.items ≡ options.now.lanes }
-    requires faultless { AreFaultless L.contents L.failed_writes L.read_faults L.write_faults }
+    requires told { AreTold L.contents L.failed_writes L.read_faults }
+    requires writes { sum_by L.write_faults lanes.items ≡ 0 }
     requires all { HaveAll L.contents relation lanes.items }
     ensures count { IfOk result (λ rewritten. length rewritten.lanes.items ≡ length lanes.items) }
     ensures rewrites { IfOk result (λ rewritten. (pages : List Page)
         → HavePages L.contents relation lanes.items pages
         → IsSampleRewritten L.contents relation pages rewritten) }
+    ensures writes { IfOk result (λ rewritten. sum_by L.write_faults rewritten.lanes.items ≡ 0) }
     ensures end { IfOk result (λ rewritten. (rewritten.log.end % 8 ≡ 0)
         × (rewritten.log.end ≤ 2 ^ 62)) }
 {
@@ -151,7 +155,8 @@ fn sample_over<L: BlockLane + Send + Drop, R: Threads + Wait + Sync, G: Gate + S
 ) -> Result<SampleTotals, Memory>
     requires range { HasOptionsInRange options.now }
     requires count { length lanes.items ≡ options.now.lanes }
-    requires faultless { AreFaultless L.contents L.failed_writes L.read_faults L.write_faults }
+    requires told { AreTold L.contents L.failed_writes L.read_faults }
+    requires writes { sum_by L.write_faults lanes.items ≡ 0 }
     requires all { HaveAll L.contents relation lanes.items }
     ensures totals { IfOk result (λ totals. (pages : List Page)
         → HavePages L.contents relation lanes.items pages

@@ -1,4 +1,4 @@
 pub mod HeldBlocks
 pub mod Joined
 pub mod Lengths
-pub mod SampleLanes
+pub mod Refusing

@@ -8,7 +8,7 @@ use page_layout::{Memory, Page};
 use segment_store::{BlockLane, LanePlan, MemLane};
 use std::alloc::Global;
 
-/// A lane in memory of which no call fails.
+/// A lane in memory of which no call fails but the write of a block that it lacks.
 #[derive(Drop)]
 pub struct SampleLane {
     lane: MemLane,
@@ -27,6 +27,7 @@ impl SampleLane {
         ensures pages { pages_of result.lane ≡ no_pages }
         ensures unsynced { unsynced_of result.lane ≡ no_marks }
         ensures calls { calls_of result.lane ≡ 0 }
+        ensures faults { result.lane.write_faults.count ≡ 0 }
     {
         let plan = LanePlan {
             reads: FaultPlan::new(Vec::new(alloc)),
@@ -50,6 +51,7 @@ impl SampleLane {
         ensures pages { OnOk result (pages_of self.new.lane ≡ with_page tag page.now (pages_of self.old.lane)) }
         ensures unsynced { unsynced_of self.new.lane ≡ unsynced_of self.old.lane }
         ensures calls { calls_of self.new.lane ≡ calls_of self.old.lane }
+        ensures faults { self.new.lane.write_faults ≡ self.old.lane.write_faults }
     {
         self.lane.hold(alloc, tag, page)
     }
@@ -59,7 +61,7 @@ impl BlockLane for SampleLane {
     ghost use Rattle.std.specs.Prelude.{Some};
     ghost use Rattle.std.proofs.Common.{rules};
     ghost use Rattle.segment_store.specs.Contents.{no_marks};
-    ghost use Rattle.segment_store.specs.MemoryLane.{calls_of, pages_of, unsynced_of, whole_page};
+    ghost use Rattle.segment_store.specs.MemoryLane.{calls_of, pages_of, room_of, there_has_room, unsynced_of, whole_page};
     ghost use Rattle.std.specs.BTreeMap as tree;
     ghost use Rattle.block_tag.specs.contracts.tag.TagOrd.TheImpl as tags;
     ghost use Prim.{search};
@@ -70,9 +72,11 @@ impl BlockLane for SampleLane {
 
     ghost unsynced = { λ s. unsynced_of s.lane };
 
+    ghost room = { λ s. room_of s.lane };
+
     ghost read_faults = { λ _. 0 };
 
-    ghost write_faults = { λ _. 0 };
+    ghost write_faults = { λ s. s.lane.write_faults.count };
 
     ghost calls = { λ s. calls_of s.lane };
 
@@ -90,7 +94,9 @@ impl BlockLane for SampleLane {
 
     ghost read_faults_fit = { λ _. search rules };
 
-    ghost write_faults_fit = { λ _. search rules };
+    ghost write_faults_fit = { λ s. s.lane.write_faults.fits };
 
     ghost whole = { λ s tag. whole_page (tree.get tags.ghosts.cmp s.lane.blocks tag) };
+
+    ghost has_room = { λ s tag. there_has_room (tree.get tags.ghosts.cmp s.lane.blocks tag) };
 }

@@ -17,6 +17,7 @@ fn empty_lanes(alloc: Global, count: u32) -> Result<Vec<SampleLane>, Memory>
     ensures count { IfOk result (λ made. length made.items ≡ count) }
     ensures synced { IfOk result (λ made. All (λ lane. ⟦<SampleLane as BlockLane>⟧.unsynced lane ≡ no_marks) made.items) }
     ensures calls { IfOk result (λ made. All (λ lane. ⟦<SampleLane as BlockLane>⟧.calls lane ≡ 0) made.items) }
+    ensures faults { IfOk result (λ made. All (λ lane. ⟦<SampleLane as BlockLane>⟧.write_faults lane ≡ 0) made.items) }
 {
     let mut made = Vec::new(alloc);
     for _ in 0..count {
@@ -38,9 +39,11 @@ fn add_block(
     requires held { HoldPages Main (sample_relation seed block) (map ⟦<SampleLane as BlockLane>⟧.contents lanes.old) }
     requires synced { All (λ lane. ⟦<SampleLane as BlockLane>⟧.unsynced lane ≡ no_marks) lanes.old }
     requires calls { All (λ lane. ⟦<SampleLane as BlockLane>⟧.calls lane ≡ 0) lanes.old }
+    requires faults { All (λ lane. ⟦<SampleLane as BlockLane>⟧.write_faults lane ≡ 0) lanes.old }
     ensures held { OnOk result (HoldPages Main (sample_relation seed (block + 1)) (map ⟦<SampleLane as BlockLane>⟧.contents lanes.new)) }
     ensures synced { All (λ lane. ⟦<SampleLane as BlockLane>⟧.unsynced lane ≡ no_marks) lanes.new }
     ensures calls { All (λ lane. ⟦<SampleLane as BlockLane>⟧.calls lane ≡ 0) lanes.new }
+    ensures faults { All (λ lane. ⟦<SampleLane as BlockLane>⟧.write_faults lane ≡ 0) lanes.new }
 {
     sample_page(alloc, seed, block, page)?;
     let tag = Tag {
@@ -64,6 +67,7 @@ pub fn sample_lanes(
     ensures held { IfOk result (λ made. HoldPages Main (sample_relation seed blocks) (map ⟦<SampleLane as BlockLane>⟧.contents made.items)) }
     ensures synced { IfOk result (λ made. All (λ lane. ⟦<SampleLane as BlockLane>⟧.unsynced lane ≡ no_marks) made.items) }
     ensures calls { IfOk result (λ made. All (λ lane. ⟦<SampleLane as BlockLane>⟧.calls lane ≡ 0) made.items) }
+    ensures faults { IfOk result (λ made. All (λ lane. ⟦<SampleLane as BlockLane>⟧.write_faults lane ≡ 0) made.items) }
 {
     let mut made = empty_lanes(alloc, lanes)?;
     let mut page = Page::zeroed(alloc)?;

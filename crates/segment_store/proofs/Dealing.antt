@@ -50,7 +50,7 @@ pick_here true false f g t page same is is' = absurd (cc same)
 pick_here false true f g t page same is is' = absurd (cc same)
 
 -- two tags that are one have one lane
-same_lane : (a b : Tag) (lanes : ℕ) → tag_eq a b ≡ true → lane_number a lanes ≡ lane_number b lanes
+pub same_lane : (a b : Tag) (lanes : ℕ) → tag_eq a b ≡ true → lane_number a lanes ≡ lane_number b lanes
 same_lane a b lanes same = let hashes : hash_of a ≡ hash_of b = grind (arith, nat_tests) in ap (λ (n : ℕ). n % lanes) hashes
 
 module _ (fork : Fork) (pages : List (List ℕ)) (lanes number block : ℕ) (page : List ℕ) (within : block < length pages) (page_is : page ≡ get_or pages block []) where

@@ -5,7 +5,13 @@ pub mod PutBlocks
 pub mod PutSegments
 pub mod Dealing
 pub mod FilesByPath
-pub mod UnknownLanes
 pub mod ReadBack
 pub mod Placed
 pub mod GivenPages
+pub mod Growing
+pub mod Space
+pub mod FileRoom
+pub mod DealtRooms
+pub mod FilesHeld
+pub mod GrownBack
+pub mod Extended

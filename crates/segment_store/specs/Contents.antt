@@ -1,5 +1,5 @@
 -- What lanes hold, where it is known: None where it isn't.
-use Rattle.std.specs.Prelude.{◌≡◌, ℕ, List, length, Option, Some, None, Bool, false, Result, IfSome, IsSomeAnd, MatchResult, if◌then◌else◌}
+use Rattle.std.specs.Prelude.{◌≡◌, ◌⊎◌, ℕ, List, length, Option, Some, None, Bool, true, false, Result, IfSome, IsSomeAnd, MatchResult, if◌then◌else◌, is_some}
 use Rattle.block_tag.specs.Names.{tag_eq}
 use Rattle.block_tag.specs.declared.tag.Tag.{Tag}
 
@@ -37,7 +37,24 @@ pub record IsTorn (tag : Tag) (pages after : Pages) : Type 0 where
   pub size : length left ≡ 8192
   pub is : after ≡ with_page tag left pages
 
--- after a write: this page stands at the tag, or after a failed one some page; all others are as they were
-abbrev pub AfterWrite : {E : Type 0} → Tag → List ℕ → Option Pages → Option Pages → Result Unit E → Type 0
-AfterWrite tag page None new result = new ≡ None
-AfterWrite tag page (Some pages) new result = MatchResult result (λ _. new ≡ Some (with_page tag page pages)) (λ _. IsSomeAnd new (IsTorn tag pages))
+-- the tag had no page, and all is as it was
+pub record IsRefused (tag : Tag) (pages : Pages) (marks : Marks) (after : Pages) (marks_now : Marks) : Type 0 where
+  pub lacked : pages tag ≡ None
+  pub pages_stay : after ≡ pages
+  pub marks_stay : marks_now ≡ marks
+
+-- after a failed write some page stands at the tag, which is marked; or a block that the lane lacked is refused
+abbrev pub AfterFailure : Tag → Pages → Marks → Pages → Marks → Type 0
+AfterFailure tag pages marks after marks_now = (IsTorn tag pages after × (marks_now ≡ with_mark tag true marks)) ⊎ IsRefused tag pages marks after marks_now
+
+-- after a write this page stands at the tag, which isn't marked, or all is as a failed one leaves it; contents that aren't known stay so
+abbrev pub AfterWrite : {E : Type 0} → Tag → List ℕ → Option Pages → Marks → Option Pages → Marks → Result Unit E → Type 0
+AfterWrite tag page None marks new marks_now result = new ≡ None
+AfterWrite tag page (Some pages) marks new marks_now result =
+    MatchResult result
+    (λ _. (new ≡ Some (with_page tag page pages)) × (marks_now ≡ with_mark tag false marks))
+    (λ _. IsSomeAnd new (λ after. AfterFailure tag pages marks after marks_now))
+
+-- there is room for each tag that has a page
+abbrev pub HasRoom : Marks → Pages → Type 0
+HasRoom room pages = (tag : Tag) → is_some (pages tag) ≡ true → room tag ≡ true

@@ -1,5 +1,5 @@
 -- Lanes side by side, each with the blocks whose tags are its own.
-use Rattle.std.specs.Prelude.{◌≡◌, ℕ, ◌<◌, ◌==◌, ◌&&◌, Bool, List, length, map, get_or, slice_get, [], Option, Some, None, IsSome, IsSomeAnd, if◌then◌else◌}
+use Rattle.std.specs.Prelude.{◌≡◌, ℕ, ◌<◌, ◌==◌, ◌&&◌, Bool, List, length, map, get_or, slice_get, [], Option, Some, None, IsSome, IfSome, IsSomeAnd, is_some, nat_lt, true, if◌then◌else◌}
 use Rattle.std.specs.Option.{ForSome, option_and_then}
 use Rattle.std.specs.List.{range_with_len}
 use Rattle.block_tag.specs.Names.{lane_number, tag_eq}
@@ -19,6 +19,16 @@ own_pages fork pages lanes number = λ tag. if tag_eq tag (tag_at fork tag.block
 abbrev pub dealt : Fork → List (List ℕ) → ℕ → List (Option Pages)
 dealt fork pages lanes = map (λ number. Some (own_pages fork pages lanes number)) (range_with_len 0 lanes)
 
+-- the tags of one lane of so many: of the first blocks, so many, those that have the lane's number
+abbrev pub own_room : Fork → ℕ → ℕ → ℕ → Marks
+own_room fork count lanes number =
+    λ tag. tag_eq tag (tag_at fork tag.block) && lane_number tag lanes == number
+    && nat_lt tag.block count
+
+-- the tags of so many lanes, all together those of the first blocks, so many
+abbrev pub rooms_dealt : Fork → ℕ → ℕ → List Marks
+rooms_dealt fork count lanes = map (own_room fork count lanes) (range_with_len 0 lanes)
+
 -- what the lane of a tag holds, where that is known
 abbrev pub lane_at : List (Option Pages) → Tag → Option Pages
 lane_at lanes tag = get_or lanes (lane_number tag (length lanes)) None
@@ -34,6 +44,10 @@ mark_in lanes tag = get_or lanes (lane_number tag (length lanes)) no_marks tag
 -- where a lane's contents are known, it has each block that is its own
 abbrev pub HasBlocks : Fork → ℕ → List (Option Pages) → Type 0
 HasBlocks fork blocks lanes = (block : ℕ) → block < blocks → ForSome (lane_at lanes (tag_at fork block)) (λ pages. IsSome (pages (tag_at fork block)))
+
+-- where a lane's contents are known, all that it has is its own
+abbrev pub HoldTheirs : List (Option Pages) → Type 0
+HoldTheirs lanes = (q : ℕ) (tag : Tag) → q < length lanes → IfSome (get_or lanes q None) (λ pages. is_some (pages tag) ≡ true → lane_number tag (length lanes) ≡ q)
 
 -- the contents of the lane of a tag are known, and have this page there
 abbrev pub HasPage : Tag → List ℕ → List (Option Pages) → Type 0

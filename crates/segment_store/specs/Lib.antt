@@ -5,9 +5,11 @@ pub mod Relation
 pub mod Lanes
 pub mod Paths
 pub mod Restored
+pub mod Growth
 pub mod Opening
 pub mod Logs
 pub mod MemoryLane
 pub mod MemoryLog
 pub mod MemoryHost
+pub mod MemoryFile
 pub mod ReadBack

@@ -1,5 +1,5 @@
 -- Logs: their bytes, how many of them are durable, and what a host keeps of them.
-use Rattle.std.specs.Prelude.{◌≡◌, ℕ, ◌+◌, ◌-◌, ◌^◌, ◌≤◌, min, List, [], Option, Some, None, Result, MatchResult, IfSome, option_map, if◌then◌else◌}
+use Rattle.std.specs.Prelude.{◌≡◌, ℕ, ◌+◌, ◌-◌, ◌^◌, ◌≤◌, min, List, [], Option, Some, None, Result, MatchResult, IfSome, IsSomeAnd, option_map, if◌then◌else◌}
 use Rattle.std.specs.Option.{option_and_then}
 use Rattle.std.specs.Str.{bytes_eq}
 use Rattle.log_device.specs.Faults.{Rose}
@@ -57,3 +57,8 @@ module _ {L : Type 0} (bytes : L → Option (List ℕ)) (synced : L → ℕ) whe
     pub synced_are : synced log ≡ 0
     pub empty : IfSome (bytes log) (λ b. b ≡ [])
     pub told : IfSome known (λ _. bytes log ≡ Some [])
+
+-- a source that was just opened has no faults; where the logs are known there is one at the path, and all its bytes are left
+pub record IsOpenedSource {S : Type 0} (left : S → Option (List ℕ)) (faults : S → ℕ) (known : Option Logs) (path : List ℕ) (source : S) : Type 0 where
+  pub faultless : faults source ≡ 0
+  pub there : IfSome known (λ logs. IsSomeAnd (logs path) (λ log. left source ≡ Some log.bytes))

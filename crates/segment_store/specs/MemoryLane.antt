@@ -1,6 +1,7 @@
 -- Lanes in memory.
-use Rattle.std.specs.Prelude.{◌≡◌, ℕ, ◌+◌, ◌%◌, List, length, false, get_or, Option, Some, None, IfSome, option_map, slice_set}
-use Rattle.std.specs.Option.{option_map_or}
+use Rattle.std.specs.Prelude.{◌≡◌, ℕ, ◌+◌, ◌%◌, List, length, Bool, true, false, if◌then◌else◌, get_or, Option, Some, None, is_some, IfSome, slice_set}
+use Rattle.std.specs.Option.{option_and_then, option_map_or}
+use Rattle.std.proofs.Common.{refl}
 use Rattle.std.specs.BTreeMap as tree
 use Rattle.block_tag.specs.contracts.tag.TagOrd.TheImpl as tags
 use Rattle.segment_store.specs.Contents.{Marks, Pages}
@@ -10,18 +11,34 @@ use Rattle.segment_store.specs.declared.memory_lane.LanePlan.{LanePlan}
 use Rattle.segment_store.specs.declared.memory_block.MemBlock.{MemBlock}
 use Rattle.segment_store.specs.declared.memory_lane.MemLane.{MemLane}
 
+-- the page of a place, unless it is vacant
+abbrev pub page_there : MemBlock → Option (List ℕ)
+page_there block = if block.there then Some block.page else None
+
 -- the pages of a lane by their tags
 abbrev pub pages_of : MemLane → Pages
-pages_of lane = λ tag. option_map (λ block. block.page) (tree.get tags.ghosts.cmp lane.blocks tag)
+pages_of lane = λ tag. option_and_then page_there (tree.get tags.ghosts.cmp lane.blocks tag)
 
 -- the tags of a lane whose last write failed
 abbrev pub marks_of : MemLane → Marks
 marks_of lane = λ tag. option_map_or (λ block. block.failed) (tree.get tags.ghosts.cmp lane.blocks tag) false
 
--- the page of a block has 8192 bytes
-pub whole_page : (block : Option MemBlock) → IfSome (option_map (λ b. b.page) block) (λ page. length page ≡ 8192)
+-- the tags for which a lane has a place
+abbrev pub room_of : MemLane → Marks
+room_of lane = λ tag. is_some (tree.get tags.ghosts.cmp lane.blocks tag)
+
+-- the page of a place has 8192 bytes
+pub whole_page : (block : Option MemBlock) → IfSome (option_and_then page_there block) (λ page. length page ≡ 8192)
 whole_page None = tt
-whole_page (Some block) = block.whole
+whole_page (Some block) = whole_there block.there block.page block.whole where
+  whole_there : (there : Bool) (page : List ℕ) → length page ≡ 8192 → IfSome (if there then Some page else None) (λ page. length page ≡ 8192)
+  whole_there true page whole = whole
+  whole_there false page whole = tt
+
+-- where a page is, there is a place
+pub there_has_room : (block : Option MemBlock) → is_some (option_and_then page_there block) ≡ true → is_some block ≡ true
+there_has_room None there = there
+there_has_room (Some block) there = refl
 
 -- the tags that were written since the last sync that succeeded
 abbrev pub unsynced_of : MemLane → Marks

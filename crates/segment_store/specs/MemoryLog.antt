@@ -1,5 +1,5 @@
 -- The logs of a host in memory.
-use Rattle.std.specs.Prelude.{ℕ, List, Option, Some, None, string_bytes}
+use Rattle.std.specs.Prelude.{ℕ, List, length, Option, Some, None, string_bytes}
 use Rattle.log_device.specs.MemoryLog.{StoredLog, as_stored}
 use Rattle.segment_store.specs.Logs.{Logs}
 use Rattle.segment_store.specs.Paths.{of_first}
@@ -19,3 +19,7 @@ logs_at files = of_first log_path log_in_file None files
 -- the path of the log that was opened last
 abbrev pub opened_path : MemLogs → List ℕ
 opened_path logs = string_bytes logs.open_path
+
+-- a log of these bytes, all of them durable
+abbrev pub all_durable : List ℕ → StoredLog
+all_durable bytes = record { bytes = bytes; synced = length bytes }

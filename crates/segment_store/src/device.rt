@@ -1,8 +1,8 @@
 //! Lanes of blocks.
-ghost use Rattle.std.specs.Prelude.{◌≡◌, ◌+◌, ◌<◌, ◌^◌, ℕ, Option, Some, OnOk, IfSome, IsSome, MatchResult, true, false};
+ghost use Rattle.std.specs.Prelude.{◌≡◌, ◌+◌, ◌<◌, ◌^◌, ℕ, Option, Some, OnOk, IfSome, IsSome, MatchResult, true};
 ghost use Rattle.std.specs.Option.{ForSome};
 ghost use Rattle.log_device.specs.Faults.{HasCause};
-ghost use Rattle.segment_store.specs.Contents.{AfterWrite, AreFullPages, Marks, Pages, no_marks, with_mark};
+ghost use Rattle.segment_store.specs.Contents.{AfterWrite, AreFullPages, HasRoom, Marks, Pages, no_marks, with_mark};
 
 use block_tag::Tag;
 use log_device::Failed;
@@ -21,6 +21,9 @@ pub trait BlockLane {
     /// The tags that were written since the last sync that succeeded.
     ghost unsynced: { Self → Marks };
 
+    /// The blocks that the lane has room for, those that it holds among them; it says something only where the contents are known.
+    ghost room: { Self → Marks };
+
     /// How many reads failed.
     ghost read_faults: { Self → ℕ };
 
@@ -37,16 +40,17 @@ pub trait BlockLane {
         ensures contents { contents self.new ≡ contents self.old }
         ensures failed { failed_writes self.new ≡ failed_writes self.old }
         ensures unsynced { unsynced self.new ≡ unsynced self.old }
+        ensures room { room self.new ≡ room self.old }
         ensures reads { HasCause (read_faults self.old) (read_faults self.new) result }
         ensures writes { write_faults self.new ≡ write_faults self.old }
         ensures calls { calls self.new ≡ calls self.old + 1 };
 
-    /// Writes the page to a block of the lane. A failed write leaves that one block any.
+    /// Writes the page to a block, whether or not the lane has it.
+    /// After a failed write the block's contents are unspecified; a block that the lane lacks may be refused, and all is as it was.
     fn write(&mut self, tag: Tag, page: &Page) -> Result<(), Failed>
-        requires { ForSome (contents self.old) (λ pages. IsSome (pages tag)) }
-        ensures contents { AfterWrite tag page.now (contents self.old) (contents self.new) result }
-        ensures failed { IfSome (contents self.old) (λ _. MatchResult result (λ _. failed_writes self.new ≡ with_mark tag false (failed_writes self.old)) (λ _. failed_writes self.new ≡ with_mark tag true (failed_writes self.old))) }
+        ensures written { AfterWrite tag page.now (contents self.old) (failed_writes self.old) (contents self.new) (failed_writes self.new) result }
         ensures unsynced { unsynced self.new ≡ with_mark tag true (unsynced self.old) }
+        ensures room { room self.new ≡ room self.old }
         ensures writes { HasCause (write_faults self.old) (write_faults self.new) result }
         ensures reads { read_faults self.new ≡ read_faults self.old }
         ensures calls { calls self.new ≡ calls self.old + 1 };
@@ -56,6 +60,7 @@ pub trait BlockLane {
         ensures contents { contents self.new ≡ contents self.old }
         ensures failed { failed_writes self.new ≡ failed_writes self.old }
         ensures unsynced { MatchResult result (λ _. unsynced self.new ≡ no_marks) (λ _. unsynced self.new ≡ unsynced self.old) }
+        ensures room { room self.new ≡ room self.old }
         ensures writes { HasCause (write_faults self.old) (write_faults self.new) result }
         ensures reads { read_faults self.new ≡ read_faults self.old }
         ensures calls { calls self.new ≡ calls self.old + 1 };
@@ -65,4 +70,6 @@ pub trait BlockLane {
     ghost write_faults_fit: { (lane : Self) → write_faults lane < 2 ^ 64 };
 
     ghost whole: { (lane : Self) → IfSome (contents lane) AreFullPages };
+
+    ghost has_room: { (lane : Self) → IfSome (contents lane) (HasRoom (room lane)) };
 }

@@ -1,15 +1,16 @@
 //! The host: relations and logs by their paths.
-ghost use Rattle.std.specs.Prelude.{◌≡◌, ◌≢◌, ℕ, ◌<◌, ◌≤◌, ◌^◌, List, [], Option, IfOk, IfSome, IsErrOf, IsSome, MatchResult, map, option_map, sum_by};
+ghost use Rattle.std.specs.Prelude.{◌≡◌, ◌≢◌, ℕ, ◌+◌, ◌<◌, ◌≤◌, ◌^◌, List, [], Option, IfOk, IfSome, IsErrOf, IsSome, MatchResult, map, option_map, sum_by};
 ghost use Rattle.std.specs.Option.{option_map_or};
 ghost use Rattle.log_device.specs.Faults.{Added};
 ghost use Rattle.segment_store.specs.Faults.{HasOpeningCause};
-ghost use Rattle.segment_store.specs.Logs.{HasLogCause, IsOpenedLog, Logs, empty_log, given_log, logs_after, with_log};
+ghost use Rattle.segment_store.specs.Growth.{paths_given};
+ghost use Rattle.segment_store.specs.Logs.{HasLogCause, IsOpenedLog, IsOpenedSource, Logs, empty_log, given_log, logs_after, with_log};
 ghost use Rattle.segment_store.specs.Opening.{IsOpened};
 ghost use Rattle.segment_store.specs.Paths.{OpenAt, PathMarks, Paths, fork_of};
-ghost use Rattle.segment_store.specs.Restored.{cleared, marks_after, paths_after};
+ghost use Rattle.segment_store.specs.Restored.{cleared, marks_after};
 
 use crate::device::BlockLane;
-use log_device::LogDevice;
+use log_device::{LogDevice, Source};
 use std::alloc::Global;
 use thiserror::Error;
 
@@ -42,11 +43,13 @@ pub enum LogOpen {
 
 /// Relations by their paths, each a list of segments, as PostgreSQL's `md.c` keeps them, and logs by theirs.
 ///
-/// A count of faults never falls, and rises only in an opening that fails, or in `give_back` by those of the lanes and of the log.
+/// A count of faults never falls, and rises only in an opening that fails, or in `give_back` by those of the lanes, of the log and of the source.
 pub trait Host {
     type Lane: BlockLane + Send;
 
     type Log: LogDevice + Send;
+
+    type Source: Source;
 
     /// The bytes of the segments at each path, where the contents are known; none where the relation isn't there.
     ghost contents: { Self → Option Paths };
@@ -57,13 +60,17 @@ pub trait Host {
     /// The relation that was opened last; it says something only where the contents are known.
     ghost open_at: { Self → OpenAt };
 
+    /// How many blocks the relation at a path may have, with up to so many in each segment;
+    /// it says something only where the contents are known.
+    ghost room: { Self → List ℕ → ℕ → ℕ };
+
     /// The logs at their paths, where they are known.
     ghost logs: { Self → Option Logs };
 
     /// The path of the log that was opened last; it says something only where the logs are known.
     ghost log_at: { Self → List ℕ };
 
-    /// How many openings of relations failed, and reads of lanes that were given back.
+    /// How many openings of relations and of sources failed, and reads of lanes and of sources that were given back.
     ghost read_faults: { Self → ℕ };
 
     /// How many writes and syncs failed of lanes that were given back.
@@ -73,6 +80,7 @@ pub trait Host {
     ghost log_faults: { Self → ℕ };
 
     /// Opens the relation at a path, whose segments have up to `seg_blocks` blocks, as so many lanes.
+    /// They may have room for blocks past its end, as far as the relation may grow.
     /// `Missing` comes only where the first segment isn't there, and `Ok` never does then.
     fn relation(
         &mut self,
@@ -83,11 +91,16 @@ pub trait Host {
     ) -> Result<Opened<Self::Lane>, HostError>
         requires seg_blocks { 1 ≤ seg_blocks }
         requires lanes { 1 ≤ lanes }
-        ensures opened { IfOk result (IsOpened Self.Lane.contents Self.Lane.failed_writes Self.Lane.unsynced Self.Lane.read_faults Self.Lane.write_faults (contents self.old) path.now (fork_of path.now) seg_blocks lanes) }
+        ensures opened { IfOk result (IsOpened
+            Self.Lane.contents Self.Lane.failed_writes Self.Lane.unsynced Self.Lane.room
+            Self.Lane.read_faults Self.Lane.write_faults
+            (contents self.old) (room self.old path.now seg_blocks)
+            path.now (fork_of path.now) seg_blocks lanes) }
         ensures missing { IsErrOf result HostError.Missing → IfSome (contents self.old) (λ paths. paths path.now ≡ []) }
         ensures contents { contents self.new ≡ contents self.old }
         ensures failed { IfSome (contents self.old) (λ _. MatchResult result (λ _. failed_writes self.new ≡ cleared path.now (failed_writes self.old)) (λ _. failed_writes self.new ≡ failed_writes self.old)) }
         ensures open_at { IfSome (contents self.old) (λ _. MatchResult result (λ _. open_at self.new ≡ record { path = path.now; seg_blocks = seg_blocks }) (λ _. open_at self.new ≡ open_at self.old)) }
+        ensures room { room self.new ≡ room self.old }
         ensures logs { logs self.new ≡ logs self.old }
         ensures log_at { IfSome (logs self.old) (λ _. log_at self.new ≡ log_at self.old) }
         ensures reads { HasOpeningCause (read_faults self.old) (read_faults self.new) result }
@@ -103,19 +116,45 @@ pub trait Host {
         ensures contents { contents self.new ≡ contents self.old }
         ensures failed { IfSome (contents self.old) (λ _. failed_writes self.new ≡ failed_writes self.old) }
         ensures open_at { IfSome (contents self.old) (λ _. open_at self.new ≡ open_at self.old) }
+        ensures room { room self.new ≡ room self.old }
         ensures reads { read_faults self.new ≡ read_faults self.old }
         ensures writes { write_faults self.new ≡ write_faults self.old };
 
+    /// Opens what is at a log's path for reading, from its first byte on; it stays as it is.
+    /// `Missing` comes only where nothing is there, and `Ok` never does then.
+    fn bytes(&mut self, alloc: Global, path: &str) -> Result<Self::Source, HostError>
+        ensures opened { IfOk result (IsOpenedSource Self.Source.left Self.Source.faults (logs self.old) path.now) }
+        ensures missing { IsErrOf result HostError.Missing → IfSome (logs self.old) (λ logs. logs path.now ≡ None) }
+        ensures reads { HasOpeningCause (read_faults self.old) (read_faults self.new) result }
+        ensures contents { contents self.new ≡ contents self.old }
+        ensures failed { IfSome (contents self.old) (λ _. failed_writes self.new ≡ failed_writes self.old) }
+        ensures open_at { IfSome (contents self.old) (λ _. open_at self.new ≡ open_at self.old) }
+        ensures room { room self.new ≡ room self.old }
+        ensures logs { logs self.new ≡ logs self.old }
+        ensures log_at { IfSome (logs self.old) (λ _. log_at self.new ≡ log_at self.old) }
+        ensures writes { write_faults self.new ≡ write_faults self.old }
+        ensures log_faults { log_faults self.new ≡ log_faults self.old };
+
     /// Takes the lanes of the relation that was opened last back: their blocks go to their places in its segments.
     /// Takes the log that was opened last back too, if one is given: it stands at its path as it is now.
-    fn give_back(&mut self, lanes: Vec<Self::Lane>, log: Option<Self::Log>)
-        ensures contents { contents self.new ≡ option_map (paths_after (open_at self.old) (map Self.Lane.contents lanes.items)) (contents self.old) }
+    /// If a source is given, counts its faults: its records were redone over the lanes, so the relation
+    /// grows first, by new pages up to the last block that its lane has.
+    fn give_back(
+        &mut self,
+        lanes: Vec<Self::Lane>,
+        log: Option<Self::Log>,
+        source: Option<Self::Source>,
+    )
+        ensures contents { contents self.new ≡ option_map
+            (paths_given (room self.old) (open_at self.old) source (map Self.Lane.contents lanes.items))
+            (contents self.old) }
         ensures failed { IfSome (contents self.old) (λ paths. paths (open_at self.old).path ≢ [] → failed_writes self.new ≡ marks_after (open_at self.old) (map Self.Lane.failed_writes lanes.items) (failed_writes self.old)) }
         ensures open_at { IfSome (contents self.old) (λ _. open_at self.new ≡ open_at self.old) }
+        ensures room { room self.new ≡ room self.old }
         ensures logs { logs self.new ≡ option_map (logs_after (log_at self.old) (given_log Self.Log.bytes Self.Log.synced log)) (logs self.old) }
         ensures log_at { IfSome (logs self.old) (λ _. log_at self.new ≡ log_at self.old) }
         ensures log_faults { Added (log_faults self.old) (option_map_or Self.Log.faults log 0) (log_faults self.new) }
-        ensures reads { Added (read_faults self.old) (sum_by Self.Lane.read_faults lanes.items) (read_faults self.new) }
+        ensures reads { Added (read_faults self.old) (sum_by Self.Lane.read_faults lanes.items + option_map_or Self.Source.faults source 0) (read_faults self.new) }
         ensures writes { Added (write_faults self.old) (sum_by Self.Lane.write_faults lanes.items) (write_faults self.new) };
 
     ghost read_faults_fit: { (host : Self) → read_faults host < 2 ^ 64 };
@@ -126,4 +165,7 @@ pub trait Host {
 
     /// Where the logs are known, so are the bytes of each log that the host opens, also after calls to it.
     ghost logs_told: { (host : Self) (log : Self.Log) → IfSome (logs host) (λ _. IsSome (Self.Log.bytes log)) };
+
+    /// Where the logs are known, so are the bytes left of each source that the host opens, also after calls to it.
+    ghost sources_told: { (host : Self) (source : Self.Source) → IfSome (logs host) (λ _. IsSome (Self.Source.left source)) };
 }

@@ -1,5 +1,5 @@
 //! Laws of a relation and its segments.
-ghost use Rattle.segment_store.specs.ReadBack.{HasGivenPages, ReadsBack, StandsInPlace};
+ghost use Rattle.segment_store.specs.ReadBack.{HasGivenPages, HasNewPages, ReadsBack, StandsInPlace};
 
 /// What lanes that are given back have is what a relation has when it is opened again.
 pub fn given_pages_are_read_back()
@@ -10,4 +10,9 @@ pub fn given_pages_are_read_back()
 /// Each block of a relation is read from its place in its segment, as `block_tag::segment_place` says.
 pub fn blocks_stand_in_place()
     ensures { StandsInPlace }
+{}
+
+/// A relation that grew has new pages behind the blocks that it had, which are as they were.
+pub fn grown_segments_are_read_back()
+    ensures { HasNewPages }
 {}

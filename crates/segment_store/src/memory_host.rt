@@ -1,16 +1,19 @@
 //! A host in memory.
 ghost use Rattle.std.specs.Option.{option_map_or};
 ghost use Rattle.std.proofs.Common.{refl};
-ghost use Rattle.std.specs.Prelude.{option_map, true, ◌↔◌, MatchResult, string_bytes, ◌≡◌, ◌≢◌, ◌+◌, ◌++◌, ◌==◌, ◌<◌, ◌≤◌, ◌*◌, ◌/◌, ◌^◌, ◌-◌, [], All, Some, IfOk, IfSome, IsErrOf, OnOk, if◌then◌else◌, length, map, sum_by, vec_len};
+ghost use Rattle.std.specs.Prelude.{option_map, true, ◌↔◌, MatchResult, string_bytes, ◌≡◌, ◌≢◌, ◌+◌, ◌++◌, ◌==◌, ◌<◌, ◌≤◌, ◌*◌, ◌/◌, ◌^◌, ◌-◌, [], All, Some, None, IfOk, IfSome, IsErrOf, OnOk, if◌then◌else◌, length, map, max, sum_by, vec_len};
 ghost use Rattle.log_device.specs.Faults.{Added};
 ghost use Rattle.segment_store.specs.Faults.{CountsOneOpening, HasOpeningCause};
-ghost use Rattle.segment_store.specs.Contents.{no_marks, with_page};
-ghost use Rattle.segment_store.specs.Lanes.{dealt, own_pages};
-ghost use Rattle.segment_store.specs.Logs.{CountsOneLogOpening, HasLogCause, IsOpenedLog, empty_log, logs_after, with_log};
+ghost use Rattle.segment_store.specs.Contents.{no_marks, with_mark, with_page};
+ghost use Rattle.segment_store.specs.Growth.{paths_given, paths_grown, room_given};
+ghost use Rattle.segment_store.specs.Lanes.{dealt, own_pages, own_room, rooms_dealt};
+ghost use Rattle.segment_store.specs.Logs.{CountsOneLogOpening, HasLogCause, IsOpenedLog, IsOpenedSource, empty_log, logs_after, with_log};
+ghost use Rattle.segment_store.specs.MemoryFile.{room_at};
 ghost use Rattle.segment_store.specs.MemoryHost.{bytes_of, lanes_of, marks_at, open_now, openings_of, segments_at};
-ghost use Rattle.segment_store.specs.MemoryLane.{fresh_lane_plan, marks_of, pages_of, plan_of, unsynced_of};
+ghost use Rattle.segment_store.specs.MemoryLane.{fresh_lane_plan, marks_of, pages_of, plan_of, room_of as lane_room, unsynced_of};
 ghost use Rattle.segment_store.specs.MemoryLog.{logs_at, opened_path};
 ghost use Rattle.log_device.specs.MemoryLog.{appends_of, as_stored, room_of, syncs_of};
+ghost use Rattle.log_device.specs.MemorySource.{left_of};
 ghost use Rattle.log_device.specs.Plan.{after_call, fails_next, fresh_plan};
 ghost use Rattle.segment_store.specs.Relation.{block_at, segment_pages, first_blocks, relation_of};
 ghost use Rattle.segment_store.specs.Opening.{IsOpened};
@@ -22,37 +25,14 @@ ghost use Rattle.std.specs.Str.{bytes_eq};
 
 use crate::device::BlockLane;
 use crate::host::{Host, HostError, LogOpen, Opened};
+use crate::memory_file::MemFile;
 use crate::memory_lane::{LanePlan, MemLane};
 use crate::memory_logs::MemLogs;
 use crate::paths::fork_of_path;
-use crate::restore::give_blocks_back;
 use block_tag::{Fork, RelNo, Tag, lane_of};
-use log_device::{FaultCount, FaultPlan, LogDevice, MemLog};
+use log_device::{FaultCount, FaultPlan, LogDevice, MemLog, MemSource};
 use page_layout::{PAGE_SIZE, Page};
 use std::alloc::{AllocError, Global};
-
-/// A relation's path and the bytes of its segments.
-#[derive(Drop)]
-pub struct MemFile {
-    path: String,
-    segments: Vec<Vec<u8>>,
-    /// The lanes that were given back last, which know the blocks whose last write failed.
-    returned: Vec<MemLane>,
-}
-
-impl MemFile {
-    pub fn new(alloc: Global, path: String, segments: Vec<Vec<u8>>) -> MemFile
-        ensures path { string_bytes result.path ≡ string_bytes path }
-        ensures segments { result.segments.items ≡ segments.items }
-        ensures returned { result.returned.items ≡ [] }
-    {
-        MemFile {
-            path,
-            segments,
-            returned: Vec::new(alloc),
-        }
-    }
-}
 
 /// The place of the first file with a path.
 fn file_at(files: &[MemFile], path: &str) -> Option<usize>
@@ -136,6 +116,9 @@ fn hold_own(
     requires unmarked { marks_of lane.old ≡ no_marks }
     ensures pages { OnOk result (pages_of lane.new ≡ (if lane_number tag lanes == number then with_page tag page.now (pages_of lane.old) else pages_of lane.old)) }
     ensures failed { OnOk result (marks_of lane.new ≡ no_marks) }
+    ensures room { OnOk result (lane_room lane.new
+        ≡ (if lane_number tag lanes == number then with_mark tag true (lane_room lane.old)
+        else lane_room lane.old)) }
     ensures reads { lane.new.read_faults ≡ lane.old.read_faults }
     ensures writes { lane.new.write_faults ≡ lane.old.write_faults }
     ensures plan { plan_of lane.new ≡ plan_of lane.old }
@@ -148,18 +131,78 @@ fn hold_own(
     Ok(())
 }
 
-/// The lane of this number, of so many, with its own blocks of a relation.
+/// Makes room for a block in the lane of this number, of so many, if it is that lane's own.
+fn reserve_own(
+    alloc: Global,
+    lane: &mut MemLane,
+    tag: Tag,
+    lanes: u32,
+    number: u32,
+) -> Result<(), AllocError>
+    requires { 1 ≤ lanes }
+    ensures room { OnOk result (lane_room lane.new
+        ≡ (if lane_number tag lanes == number then with_mark tag true (lane_room lane.old)
+        else lane_room lane.old)) }
+    ensures pages { pages_of lane.new ≡ pages_of lane.old }
+    ensures failed { marks_of lane.new ≡ marks_of lane.old }
+    ensures reads { lane.new.read_faults ≡ lane.old.read_faults }
+    ensures writes { lane.new.write_faults ≡ lane.old.write_faults }
+    ensures plan { plan_of lane.new ≡ plan_of lane.old }
+    ensures history { lane.new.history ≡ lane.old.history }
+{
+    if lane_of(&tag, lanes) != number {
+        return Ok(());
+    }
+    lane.reserve(alloc, tag)
+}
+
+/// Makes room in the lane of this number, of so many, for its own blocks from one on up to another.
+fn reserve_past(
+    alloc: Global,
+    lane: &mut MemLane,
+    fork: Fork,
+    from: u32,
+    upto: u32,
+    lanes: u32,
+    number: u32,
+) -> Result<(), AllocError>
+    requires lanes { 1 ≤ lanes }
+    requires from { from ≤ upto }
+    requires room { lane_room lane.old ≡ own_room fork from lanes number }
+    ensures room { OnOk result (lane_room lane.new ≡ own_room fork upto lanes number) }
+    ensures pages { pages_of lane.new ≡ pages_of lane.old }
+    ensures failed { marks_of lane.new ≡ marks_of lane.old }
+    ensures reads { lane.new.read_faults ≡ lane.old.read_faults }
+    ensures writes { lane.new.write_faults ≡ lane.old.write_faults }
+    ensures plan { plan_of lane.new ≡ plan_of lane.old }
+    ensures history { lane.new.history ≡ lane.old.history }
+{
+    for block in from..upto {
+        let tag = Tag {
+            rel: RelNo(0),
+            fork,
+            block,
+        };
+        reserve_own(alloc, lane, tag, lanes, number)?;
+    }
+    Ok(())
+}
+
+/// The lane of this number, of so many, with its own blocks of a relation,
+/// and room for its own of so many first ones.
 fn own_lane(
     alloc: Global,
     pages: &[Page],
+    room: u32,
     fork: Fork,
     lanes: u32,
     number: u32,
     plan: LanePlan,
 ) -> Result<MemLane, AllocError>
     requires lanes { 1 ≤ lanes }
-    requires blocks { length pages.now < 2 ^ 32 }
+    requires blocks { length pages.now ≤ room }
     ensures pages { IfOk result (λ lane. pages_of lane ≡ own_pages fork pages.now lanes number) }
+    ensures room { IfOk result (λ lane. lane_room lane ≡ own_room fork room lanes number) }
     ensures failed { IfOk result (λ lane. marks_of lane ≡ no_marks) }
     ensures reads { IfOk result (λ lane. lane.read_faults.count ≡ 0) }
     ensures writes { IfOk result (λ lane. lane.write_faults.count ≡ 0) }
@@ -175,19 +218,24 @@ fn own_lane(
         };
         hold_own(alloc, &mut lane, tag, &pages[block], lanes, number)?;
     }
+    let held = pages.len() as u32;
+    reserve_past(alloc, &mut lane, fork, held, room, lanes, number)?;
     Ok(lane)
 }
 
-/// So many lanes, each with its own blocks of a relation.
+/// So many lanes, each with its own blocks of a relation,
+/// and room for its own of so many first ones.
 fn deal_lanes(
     alloc: Global,
     pages: &[Page],
+    room: u32,
     fork: Fork,
     count: u32,
     plan: &LanePlan,
 ) -> Result<Vec<MemLane>, AllocError>
     requires lanes { 1 ≤ count }
-    requires blocks { length pages.now < 2 ^ 32 }
+    requires blocks { length pages.now ≤ room }
+    ensures rooms { IfOk result (λ lanes. map lane_room lanes.items ≡ rooms_dealt fork room count) }
     ensures contents { IfOk result (λ lanes. map (λ lane. Some (pages_of lane)) lanes.items ≡ dealt fork pages.now count) }
     ensures failed { IfOk result (λ lanes. All (λ lane. marks_of lane ≡ no_marks) lanes.items) }
     ensures reads { IfOk result (λ lanes. sum_by (λ lane. lane.read_faults.count) lanes.items ≡ 0) }
@@ -198,22 +246,25 @@ fn deal_lanes(
     let mut lanes = Vec::new(alloc);
     for number in 0..count {
         let own = plan.fresh(alloc)?;
-        let lane = own_lane(alloc, pages, fork, count, number, own)?;
+        let lane = own_lane(alloc, pages, room, fork, count, number, own)?;
         lanes.push(lane)?;
     }
     Ok(lanes)
 }
 
-/// Opens segments as lanes.
+/// Opens segments as lanes, with room for the blocks past the end that the relation may have.
 fn open_segments(
     alloc: Global,
     segments: &[Vec<u8>],
+    room: u32,
     fork: Fork,
     seg_blocks: u32,
     count: u32,
     plan: &LanePlan,
 ) -> Result<Opened<MemLane>, AllocError>
     requires { 1 ≤ count }
+    ensures rooms { IfOk result (λ opened.
+        map lane_room opened.lanes.items ≡ rooms_dealt fork (max room opened.blocks) count) }
     ensures blocks { IfOk result (λ opened. opened.blocks ≡ length (relation_of seg_blocks (bytes_of segments.now))) }
     ensures contents { IfOk result (λ opened. map (λ lane. Some (pages_of lane)) opened.lanes.items ≡ dealt fork (relation_of seg_blocks (bytes_of segments.now)) count) }
     ensures failed { IfOk result (λ opened. All (λ lane. marks_of lane ≡ no_marks) opened.lanes.items) }
@@ -223,11 +274,9 @@ fn open_segments(
     ensures synced { IfOk result (λ opened. All (λ lane. unsynced_of lane ≡ no_marks) opened.lanes.items) }
 {
     let pages = relation_pages(alloc, segments, seg_blocks)?;
-    let lanes = deal_lanes(alloc, &pages, fork, count, plan)?;
-    Ok(Opened {
-        blocks: pages.len() as u32,
-        lanes,
-    })
+    let blocks = pages.len() as u32;
+    let lanes = deal_lanes(alloc, &pages, room.max(blocks), fork, count, plan)?;
+    Ok(Opened { blocks, lanes })
 }
 
 /// Counts the failed reads of lanes too.
@@ -236,6 +285,15 @@ fn count_reads(faults: &mut FaultCount, lanes: &[MemLane])
 {
     for lane in lanes {
         faults.add(lane.read_faults());
+    }
+}
+
+/// Counts the failed reads of a source too, if there is one.
+fn count_source(faults: &mut FaultCount, source: &Option<MemSource>)
+    ensures { Added faults.old.count (option_map_or (λ s. s.faults.count) source.now 0) faults.new.count }
+{
+    if let Some(source) = source {
+        faults.add(source.faults());
     }
 }
 
@@ -272,6 +330,7 @@ impl MemHost {
     ) -> MemHost
         ensures contents { ⟦<MemHost as Host>⟧.contents result ≡ Some (segments_at files.items) }
         ensures failed { ⟦<MemHost as Host>⟧.failed_writes result ≡ marks_at files.items }
+        ensures room { ⟦<MemHost as Host>⟧.room result ≡ room_at files.items }
         ensures openings { openings_of result ≡ openings }
         ensures lanes { lanes_of result ≡ lanes }
         ensures logs { result.logs ≡ logs }
@@ -297,6 +356,16 @@ impl MemHost {
         match file_at(&self.files, path) {
             Some(index) => self.files[index].segments.as_slice(),
             None => &[],
+        }
+    }
+
+    /// How many blocks the relation at a path may have, with up to so many in each segment.
+    fn room(&self, path: &str, seg_blocks: u32) -> u32
+        ensures { result ≡ room_at self.now.files.items path.now seg_blocks }
+    {
+        match file_at(&self.files, path) {
+            Some(index) => self.files[index].room(seg_blocks),
+            None => 0,
         }
     }
 
@@ -330,17 +399,24 @@ impl MemHost {
         lanes: u32,
     ) -> Result<Opened<MemLane>, HostError>
         requires { 1 ≤ lanes }
-        ensures opened { IfOk result (IsOpened (λ lane. Some (pages_of lane)) marks_of unsynced_of (λ lane. lane.read_faults.count) (λ lane. lane.write_faults.count) (Some (segments_at self.now.files.items)) path.now (fork_of path.now) seg_blocks lanes) }
+        ensures opened { IfOk result (IsOpened
+            (λ lane. Some (pages_of lane)) marks_of unsynced_of lane_room
+            (λ lane. lane.read_faults.count) (λ lane. lane.write_faults.count)
+            (Some (segments_at self.now.files.items)) (room_at self.now.files.items path.now seg_blocks)
+            path.now (fork_of path.now) seg_blocks lanes) }
         ensures missing { IsErrOf result HostError.Missing → segments_at self.now.files.items path.now ≡ [] }
         ensures alive { IsErrOf result HostError.Failed → ⊥ }
         ensures plan { IfOk result (λ opened. All (λ lane. plan_of lane ≡ fresh_lane_plan self.now.lanes) opened.lanes.items) }
+        ensures rooms { IfOk result (λ opened. map lane_room opened.lanes.items ≡ rooms_dealt (fork_of path.now)
+            (max (room_at self.now.files.items path.now seg_blocks) opened.blocks) lanes) }
     {
         let segments = self.segments(path);
         if segments.is_empty() {
             return Err(HostError::Missing);
         }
         let fork = fork_of_path(path);
-        match open_segments(alloc, segments, fork, seg_blocks, lanes, &self.lanes) {
+        let room = self.room(path, seg_blocks);
+        match open_segments(alloc, segments, room, fork, seg_blocks, lanes, &self.lanes) {
             Ok(opened) => Ok(opened),
             Err(_) => Err(HostError::Memory),
         }
@@ -350,10 +426,29 @@ impl MemHost {
     fn forget(&mut self, path: &str)
         ensures contents { segments_at self.new.files.items ≡ segments_at self.old.files.items }
         ensures failed { marks_at self.new.files.items ≡ cleared path.now (marks_at self.old.files.items) }
+        ensures room { room_at self.new.files.items ≡ room_at self.old.files.items }
         ensures same { self.new ≡ record self.old { files = self.new.files } }
     {
         if let Some(index) = file_at(&self.files, path) {
-            self.files[index].returned.clear();
+            self.files[index].forget();
+        }
+    }
+
+    /// Makes the relation that was opened last as long as lanes' blocks go, if a source is given.
+    fn grow(&mut self, source: &Option<MemSource>, lanes: &[MemLane])
+        ensures contents { segments_at self.new.files.items ≡ paths_grown (open_now self.old)
+            (room_given (room_at self.old.files.items) (open_now self.old) source.now)
+            (map (λ lane. Some (pages_of lane)) lanes.now) (segments_at self.old.files.items) }
+        ensures failed { marks_at self.new.files.items ≡ marks_at self.old.files.items }
+        ensures room { room_at self.new.files.items ≡ room_at self.old.files.items }
+        ensures same { self.new ≡ record self.old { files = self.new.files } }
+    {
+        if source.is_none() {
+            return;
+        }
+        let fork = fork_of_path(&self.open_path);
+        if let Some(index) = file_at(&self.files, &self.open_path) {
+            self.files[index].grow(self.open_seg_blocks, fork, lanes);
         }
     }
 
@@ -361,18 +456,12 @@ impl MemHost {
     fn take_lanes(&mut self, lanes: Vec<MemLane>)
         ensures contents { segments_at self.new.files.items ≡ paths_after (open_now self.old) (map (λ lane. Some (pages_of lane)) lanes.items) (segments_at self.old.files.items) }
         ensures failed { segments_at self.old.files.items (string_bytes self.old.open_path) ≢ [] → marks_at self.new.files.items ≡ marks_after (open_now self.old) (map marks_of lanes.items) (marks_at self.old.files.items) }
+        ensures room { room_at self.new.files.items ≡ room_at self.old.files.items }
         ensures same { self.new ≡ record self.old { files = self.new.files } }
     {
         let fork = fork_of_path(&self.open_path);
         if let Some(index) = file_at(&self.files, &self.open_path) {
-            let file = &mut self.files[index];
-            give_blocks_back(
-                file.segments.as_mut_slice(),
-                self.open_seg_blocks,
-                fork,
-                &lanes,
-            );
-            file.returned = lanes;
+            self.files[index].take_back(self.open_seg_blocks, fork, lanes);
         }
     }
 }
@@ -382,11 +471,15 @@ impl Host for MemHost {
 
     type Log = MemLog;
 
+    type Source = MemSource;
+
     ghost contents = { λ h. Some (segments_at h.files.items) };
 
     ghost failed_writes = { λ h. marks_at h.files.items };
 
     ghost open_at = { open_now };
+
+    ghost room = { λ h. room_at h.files.items };
 
     ghost logs = { λ h. Some (logs_at h.logs.files.items) };
 
@@ -407,11 +500,16 @@ impl Host for MemHost {
     ) -> Result<Opened<MemLane>, HostError>
         requires seg_blocks { 1 ≤ seg_blocks }
         requires lanes { 1 ≤ lanes }
-        ensures opened { IfOk result (IsOpened (λ lane. Some (pages_of lane)) marks_of unsynced_of (λ lane. lane.read_faults.count) (λ lane. lane.write_faults.count) (Some (segments_at self.old.files.items)) path.now (fork_of path.now) seg_blocks lanes) }
+        ensures opened { IfOk result (IsOpened
+            (λ lane. Some (pages_of lane)) marks_of unsynced_of lane_room
+            (λ lane. lane.read_faults.count) (λ lane. lane.write_faults.count)
+            (Some (segments_at self.old.files.items)) (room_at self.old.files.items path.now seg_blocks)
+            path.now (fork_of path.now) seg_blocks lanes) }
         ensures missing { IsErrOf result HostError.Missing → segments_at self.old.files.items path.now ≡ [] }
         ensures contents { Some (segments_at self.new.files.items) ≡ Some (segments_at self.old.files.items) }
         ensures failed { MatchResult result (λ _. marks_at self.new.files.items ≡ cleared path.now (marks_at self.old.files.items)) (λ _. marks_at self.new.files.items ≡ marks_at self.old.files.items) }
         ensures open_at { MatchResult result (λ _. open_now self.new ≡ record { path = path.now; seg_blocks = seg_blocks }) (λ _. open_now self.new ≡ open_now self.old) }
+        ensures room { room_at self.new.files.items ≡ room_at self.old.files.items }
         ensures reads { HasOpeningCause self.old.read_faults.count self.new.read_faults.count result }
         ensures counted { CountsOneOpening self.old.read_faults.count self.new.read_faults.count result }
         ensures writes { self.new.write_faults ≡ self.old.write_faults }
@@ -420,6 +518,8 @@ impl Host for MemHost {
         ensures openings { openings_of self.new ≡ after_call (openings_of self.old) }
         ensures lanes { lanes_of self.new ≡ lanes_of self.old }
         ensures plan { IfOk result (λ opened. All (λ lane. plan_of lane ≡ fresh_lane_plan (lanes_of self.old)) opened.lanes.items) }
+        ensures rooms { IfOk result (λ opened. map lane_room opened.lanes.items ≡ rooms_dealt (fork_of path.now)
+            (max (room_at self.old.files.items path.now seg_blocks) opened.blocks) lanes) }
     {
         if self.openings.fails() {
             self.read_faults.raise();
@@ -454,10 +554,35 @@ impl Host for MemHost {
         self.logs.open(alloc, path)
     }
 
-    fn give_back(&mut self, lanes: Vec<MemLane>, log: Option<MemLog>)
-        ensures contents { Some (segments_at self.new.files.items) ≡ Some (paths_after (open_now self.old) (map (λ lane. Some (pages_of lane)) lanes.items) (segments_at self.old.files.items)) }
+    /// Fails where the plan says so.
+    fn bytes(&mut self, alloc: Global, path: &str) -> Result<MemSource, HostError>
+        ensures opened { IfOk result (IsOpenedSource (λ s. Some (left_of s)) (λ s. s.faults.count) (Some (logs_at self.old.logs.files.items)) path.now) }
+        ensures calls { IfOk result (λ source. source.calls ≡ fresh_plan self.old.logs.sources.calls) }
+        ensures most { IfOk result (λ source. source.most ≡ self.old.logs.sources.most) }
+        ensures missing { IsErrOf result HostError.Missing → logs_at self.old.logs.files.items path.now ≡ None }
+        ensures fault { IsErrOf result HostError.Failed ↔ (fails_next self.old.logs.sources.openings ≡ true) }
+        ensures openings { self.new.logs.sources.openings ≡ after_call self.old.logs.sources.openings }
+        ensures plan { self.new.logs.sources.calls ≡ self.old.logs.sources.calls }
+        ensures most_stays { self.new.logs.sources.most ≡ self.old.logs.sources.most }
+        ensures log_files { self.new.logs ≡ record self.old.logs { sources = self.new.logs.sources } }
+        ensures reads { HasOpeningCause self.old.read_faults.count self.new.read_faults.count result }
+        ensures counted { CountsOneOpening self.old.read_faults.count self.new.read_faults.count result }
+        ensures same { self.new ≡ record self.old { logs = self.new.logs; read_faults = self.new.read_faults } }
+    {
+        let opened = self.logs.source(alloc, path);
+        if let Err(HostError::Failed) = opened {
+            self.read_faults.raise();
+        }
+        opened
+    }
+
+    fn give_back(&mut self, lanes: Vec<MemLane>, log: Option<MemLog>, source: Option<MemSource>)
+        ensures contents { Some (segments_at self.new.files.items) ≡ Some (
+            paths_given (room_at self.old.files.items) (open_now self.old) source
+            (map (λ lane. Some (pages_of lane)) lanes.items) (segments_at self.old.files.items)) }
         ensures failed { segments_at self.old.files.items (string_bytes self.old.open_path) ≢ [] → marks_at self.new.files.items ≡ marks_after (open_now self.old) (map marks_of lanes.items) (marks_at self.old.files.items) }
         ensures open_at { open_now self.new ≡ open_now self.old }
+        ensures room { room_at self.new.files.items ≡ room_at self.old.files.items }
         ensures openings { openings_of self.new ≡ openings_of self.old }
         ensures lanes { lanes_of self.new ≡ lanes_of self.old }
         ensures logs { logs_at self.new.logs.files.items ≡ logs_after (opened_path self.old.logs) (option_map as_stored log) (logs_at self.old.logs.files.items) }
@@ -466,11 +591,14 @@ impl Host for MemHost {
         ensures log_openings { self.new.logs.openings ≡ self.old.logs.openings }
         ensures log_calls { self.new.logs.calls ≡ self.old.logs.calls }
         ensures log_room { self.new.logs.room ≡ self.old.logs.room }
-        ensures reads { Added self.old.read_faults.count (sum_by (λ lane. lane.read_faults.count) lanes.items) self.new.read_faults.count }
+        ensures sources { self.new.logs.sources ≡ self.old.logs.sources }
+        ensures reads { Added self.old.read_faults.count (sum_by (λ lane. lane.read_faults.count) lanes.items + option_map_or (λ s. s.faults.count) source 0) self.new.read_faults.count }
         ensures writes { Added self.old.write_faults.count (sum_by (λ lane. lane.write_faults.count) lanes.items) self.new.write_faults.count }
     {
         count_reads(&mut self.read_faults, &lanes);
+        count_source(&mut self.read_faults, &source);
         count_writes(&mut self.write_faults, &lanes);
+        self.grow(&source, &lanes);
         self.take_lanes(lanes);
         if let Some(log) = log {
             self.logs.take_back(log);
@@ -484,4 +612,6 @@ impl Host for MemHost {
     ghost log_faults_fit = { λ h. h.logs.faults.fits };
 
     ghost logs_told = { λ h log. refl };
+
+    ghost sources_told = { λ h source. refl };
 }

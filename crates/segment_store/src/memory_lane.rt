@@ -1,9 +1,9 @@
 //! A lane in memory.
-ghost use Rattle.std.specs.Prelude.{IsSome, MatchResult, option_map, length, ◌≡◌, ◌+◌, Some, IfOk, OnOk, OnErr, is_ok, not, true, false};
+ghost use Rattle.std.specs.Prelude.{IsSome, MatchResult, option_map, length, ◌≡◌, ◌+◌, Some, IfOk, OnOk, OnErr, is_ok, not, ◌&&◌, true, false};
 ghost use Rattle.std.specs.Option.{ForSome};
 ghost use Rattle.log_device.specs.Faults.{CountsOne, HasCause};
 ghost use Rattle.segment_store.specs.Contents.{AfterWrite, no_marks, no_pages, with_mark, with_page};
-ghost use Rattle.segment_store.specs.MemoryLane.{calls_of, fresh_lane_plan, marks_of, pages_of, plan_of, torn_page, unsynced_of, whole_page};
+ghost use Rattle.segment_store.specs.MemoryLane.{calls_of, fresh_lane_plan, marks_of, pages_of, plan_of, room_of, there_has_room, torn_page, unsynced_of, whole_page};
 ghost use Rattle.log_device.specs.Plan.{after_call, fails_next};
 ghost use Rattle.std.specs.BTreeMap as tree;
 ghost use Rattle.block_tag.specs.contracts.tag.TagOrd.TheImpl as tags;
@@ -38,7 +38,7 @@ impl LanePlan {
     }
 }
 
-/// A lane in memory.
+/// A lane in memory, with places for blocks, of which some may be vacant.
 #[derive(Drop)]
 pub struct MemLane {
     blocks: BTreeMap<Tag, MemBlock>,
@@ -53,6 +53,7 @@ impl MemLane {
     pub fn new(alloc: Global, plan: LanePlan) -> MemLane
         ensures pages { pages_of result ≡ no_pages }
         ensures failed { marks_of result ≡ no_marks }
+        ensures room { room_of result ≡ no_marks }
         ensures plan { plan_of result ≡ plan }
         ensures reads { result.read_faults.count ≡ 0 }
         ensures writes { result.write_faults.count ≡ 0 }
@@ -72,7 +73,8 @@ impl MemLane {
     pub fn page(&self, tag: &Tag) -> Option<&Page>
         ensures { option_map (λ page. page.now) result ≡ pages_of self.now tag.now }
     {
-        self.blocks.get(tag).map(|block| &block.page)
+        let block = self.blocks.get(tag)?;
+        if block.there { Some(&block.page) } else { None }
     }
 
     /// How many reads failed.
@@ -93,6 +95,7 @@ impl MemLane {
     pub fn hold(&mut self, alloc: Global, tag: Tag, page: &Page) -> Result<(), AllocError>
         ensures pages { OnOk result (pages_of self.new ≡ with_page tag page.now (pages_of self.old)) }
         ensures failed { OnOk result (marks_of self.new ≡ with_mark tag false (marks_of self.old)) }
+        ensures room { MatchResult result (λ _. room_of self.new ≡ with_mark tag true (room_of self.old)) (λ _. room_of self.new ≡ room_of self.old) }
         ensures refused { OnErr result ((pages_of self.new ≡ pages_of self.old) × (marks_of self.new ≡ marks_of self.old)) }
         ensures plan { plan_of self.new ≡ plan_of self.old }
         ensures reads { self.new.read_faults ≡ self.old.read_faults }
@@ -104,6 +107,29 @@ impl MemLane {
         let block = MemBlock {
             page: copy,
             failed: false,
+            there: true,
+        };
+        self.blocks.insert(tag, block)?;
+        Ok(())
+    }
+
+    /// Makes room for a block, so that a write may add it.
+    pub fn reserve(&mut self, alloc: Global, tag: Tag) -> Result<(), AllocError>
+        ensures room { MatchResult result (λ _. room_of self.new ≡ with_mark tag true (room_of self.old)) (λ _. room_of self.new ≡ room_of self.old) }
+        ensures pages { pages_of self.new ≡ pages_of self.old }
+        ensures failed { marks_of self.new ≡ marks_of self.old }
+        ensures plan { plan_of self.new ≡ plan_of self.old }
+        ensures reads { self.new.read_faults ≡ self.old.read_faults }
+        ensures writes { self.new.write_faults ≡ self.old.write_faults }
+        ensures history { self.new.history ≡ self.old.history }
+    {
+        if self.blocks.get(&tag).is_some() {
+            return Ok(());
+        }
+        let block = MemBlock {
+            page: Page::zeroed(alloc)?,
+            failed: false,
+            there: false,
         };
         self.blocks.insert(tag, block)?;
         Ok(())
@@ -116,6 +142,8 @@ impl BlockLane for MemLane {
     ghost failed_writes = { λ l. marks_of l };
 
     ghost unsynced = { λ l. unsynced_of l };
+
+    ghost room = { λ l. room_of l };
 
     ghost read_faults = { λ l. l.read_faults.count };
 
@@ -130,6 +158,7 @@ impl BlockLane for MemLane {
         ensures contents { pages_of self.new ≡ pages_of self.old }
         ensures failed { marks_of self.new ≡ marks_of self.old }
         ensures unsynced { unsynced_of self.new ≡ unsynced_of self.old }
+        ensures room { room_of self.new ≡ room_of self.old }
         ensures reads { HasCause self.old.read_faults.count self.new.read_faults.count result }
         ensures counted { CountsOne self.old.read_faults.count self.new.read_faults.count result }
         ensures writes { self.new.write_faults ≡ self.old.write_faults }
@@ -139,35 +168,36 @@ impl BlockLane for MemLane {
     {
         self.history.count_call();
         let fails = self.plan.reads.fails();
-        let Some(block) = self.blocks.get(&tag) else {
-            self.read_faults.raise();
-            return Err(Failed);
-        };
-        if fails {
-            self.read_faults.raise();
-            return Err(Failed);
+        if !fails {
+            if let Some(held) = self.page(&tag) {
+                page.copy_from(held);
+                return Ok(());
+            }
         }
-        page.copy_from(&block.page);
-        Ok(())
+        self.read_faults.raise();
+        Err(Failed)
     }
 
-    /// Fails where the plan says so; a failed write leaves a torn page.
+    /// Fails where the plan says so, and where there is no room for the block; a failed write leaves a torn page of a block that is there.
     fn write(&mut self, tag: Tag, page: &Page) -> Result<(), Failed>
-        requires { ForSome (Some (pages_of self.old)) (λ pages. IsSome (pages tag)) }
-        ensures contents { AfterWrite tag page.now (Some (pages_of self.old)) (Some (pages_of self.new)) result }
+        ensures written { AfterWrite tag page.now (Some (pages_of self.old)) (marks_of self.old) (Some (pages_of self.new)) (marks_of self.new) result }
         ensures torn { OnErr result (pages_of self.new tag ≡ option_map (λ old. torn_page old page.now) (pages_of self.old tag)) }
-        ensures failed { marks_of self.new ≡ with_mark tag (not (is_ok result)) (marks_of self.old) }
         ensures unsynced { unsynced_of self.new ≡ with_mark tag true (unsynced_of self.old) }
+        ensures room { room_of self.new ≡ room_of self.old }
         ensures writes { HasCause self.old.write_faults.count self.new.write_faults.count result }
         ensures counted { CountsOne self.old.write_faults.count self.new.write_faults.count result }
         ensures reads { self.new.read_faults ≡ self.old.read_faults }
         ensures calls { calls_of self.new ≡ calls_of self.old + 1 }
-        ensures answer { is_ok result ≡ not (fails_next (plan_of self.old).writes) }
+        ensures answer { is_ok result ≡ (not (fails_next (plan_of self.old).writes) && room_of self.old tag) }
         ensures plan { plan_of self.new ≡ record (plan_of self.old) { writes = after_call (plan_of self.old).writes } }
     {
         self.history.count_call();
         self.history.mark_written(tag);
         let fails = self.plan.writes.fails();
+        if fails && self.page(&tag).is_none() {
+            self.write_faults.raise();
+            return Err(Failed);
+        }
         let Some(block) = self.blocks.get_mut(&tag) else {
             self.write_faults.raise();
             return Err(Failed);
@@ -186,6 +216,7 @@ impl BlockLane for MemLane {
         ensures contents { pages_of self.new ≡ pages_of self.old }
         ensures failed { marks_of self.new ≡ marks_of self.old }
         ensures unsynced { MatchResult result (λ _. unsynced_of self.new ≡ no_marks) (λ _. unsynced_of self.new ≡ unsynced_of self.old) }
+        ensures room { room_of self.new ≡ room_of self.old }
         ensures writes { HasCause self.old.write_faults.count self.new.write_faults.count result }
         ensures counted { CountsOne self.old.write_faults.count self.new.write_faults.count result }
         ensures reads { self.new.read_faults ≡ self.old.read_faults }
@@ -207,4 +238,6 @@ impl BlockLane for MemLane {
     ghost write_faults_fit = { λ l. l.write_faults.fits };
 
     ghost whole = { λ l tag. whole_page (tree.get tags.ghosts.cmp l.blocks tag) };
+
+    ghost has_room = { λ l tag. there_has_room (tree.get tags.ghosts.cmp l.blocks tag) };
 }

@@ -1,15 +1,17 @@
 //! The logs of a host in memory.
-ghost use Rattle.std.specs.Prelude.{◌≡◌, [], Some, IfOk, IsErrOf, MatchResult, option_map, string_bytes, true, ◌↔◌};
+ghost use Rattle.std.specs.Prelude.{◌≡◌, ◌≤◌, [], Some, None, IfOk, IsErrOf, IsSomeAnd, MatchResult, option_map, string_bytes, true, ◌↔◌};
 ghost use Rattle.std.specs.List.{position};
 ghost use Rattle.std.specs.Str.{bytes_eq};
 ghost use Rattle.log_device.specs.Faults.{Added};
 ghost use Rattle.segment_store.specs.Logs.{CountsOneLogOpening, HasLogCause, empty_log, logs_after, with_log};
-ghost use Rattle.segment_store.specs.MemoryLog.{logs_at, opened_path};
+ghost use Rattle.segment_store.specs.MemoryLog.{all_durable, logs_at, opened_path};
+ghost use Rattle.log_device.specs.MemorySource.{left_of};
 ghost use Rattle.log_device.specs.MemoryLog.{appends_of, as_stored, room_of, syncs_of};
 ghost use Rattle.log_device.specs.Plan.{after_call, fails_next, fresh_plan};
 
-use crate::host::LogOpen;
-use log_device::{FaultCount, FaultPlan, LogPlan, MemLog};
+use crate::host::{HostError, LogOpen};
+use crate::source_plan::SourcePlan;
+use log_device::{FaultCount, FaultPlan, LogDevice, LogPlan, MemLog, MemSource};
 use std::alloc::{AllocError, Global};
 
 /// A log's path, and the log as it was given back last: empty where none was since it was opened.
@@ -26,6 +28,16 @@ fn log_index(logs: &[LogFile], path: &str) -> Option<usize>
     logs.iter().position(|file| file.path.as_str() == path)
 }
 
+/// A log of these bytes, all of them durable.
+fn durable_log(alloc: Global, bytes: &[u8]) -> Result<MemLog, AllocError>
+    ensures { IfOk result (λ log. as_stored log ≡ all_durable bytes.now) }
+{
+    let mut log = MemLog::new(alloc, bytes.len(), LogPlan::none(alloc))?;
+    let _appended = log.append(bytes);
+    let _synced = log.sync();
+    Ok(log)
+}
+
 /// Logs by their paths, each with room for so many bytes.
 #[derive(Drop)]
 pub struct MemLogs {
@@ -33,17 +45,25 @@ pub struct MemLogs {
     room: usize,
     openings: FaultPlan,
     calls: LogPlan,
+    sources: SourcePlan,
     open_path: String,
     faults: FaultCount,
 }
 
 impl MemLogs {
     /// No logs. Each that is opened has this room; these openings and these calls of each log are to fail.
-    pub fn new(alloc: Global, room: usize, openings: FaultPlan, calls: LogPlan) -> MemLogs
+    pub fn new(
+        alloc: Global,
+        room: usize,
+        openings: FaultPlan,
+        calls: LogPlan,
+        sources: SourcePlan,
+    ) -> MemLogs
         ensures files { result.files.items ≡ [] }
         ensures room { result.room ≡ room }
         ensures openings { result.openings ≡ openings }
         ensures calls { result.calls ≡ calls }
+        ensures sources { result.sources ≡ sources }
         ensures open_path { opened_path result ≡ [] }
         ensures faults { result.faults.count ≡ 0 }
     {
@@ -52,6 +72,7 @@ impl MemLogs {
             room,
             openings,
             calls,
+            sources,
             open_path: String::new(alloc),
             faults: FaultCount::new(),
         }
@@ -67,19 +88,27 @@ impl MemLogs {
         }
     }
 
-    /// Has an empty log stand at a path.
-    fn clear(&mut self, alloc: Global, path: &str) -> Result<(), AllocError>
-        ensures files { MatchResult result (λ _. logs_at self.new.files.items ≡ with_log path.now empty_log (logs_at self.old.files.items)) (λ _. self.new.files.items ≡ self.old.files.items) }
+    /// Puts a log at a path in the place of what stands there.
+    fn place(&mut self, alloc: Global, path: &str, log: MemLog) -> Result<(), AllocError>
+        ensures files { MatchResult result (λ _. logs_at self.new.files.items ≡ with_log path.now (as_stored log) (logs_at self.old.files.items)) (λ _. self.new.files.items ≡ self.old.files.items) }
         ensures same { self.new ≡ record self.old { files = self.new.files } }
     {
-        let empty = MemLog::new(alloc, 0, LogPlan::none(alloc))?;
         if let Some(index) = log_index(&self.files, path) {
-            self.files[index].log = empty;
+            self.files[index].log = log;
             return Ok(());
         }
         let path = String::from_str(alloc, path)?;
-        self.files.push(LogFile { path, log: empty })?;
+        self.files.push(LogFile { path, log })?;
         Ok(())
+    }
+
+    /// Puts a log with these bytes, all of them durable, at a path.
+    pub fn put(&mut self, alloc: Global, path: &str, bytes: &[u8]) -> Result<(), AllocError>
+        ensures files { MatchResult result (λ _. logs_at self.new.files.items ≡ with_log path.now (all_durable bytes.now) (logs_at self.old.files.items)) (λ _. self.new.files.items ≡ self.old.files.items) }
+        ensures same { self.new ≡ record self.old { files = self.new.files } }
+    {
+        let log = durable_log(alloc, bytes)?;
+        self.place(alloc, path, log)
     }
 
     /// Makes an empty log, and has one stand at the path.
@@ -97,7 +126,7 @@ impl MemLogs {
         let calls = self.calls.fresh(alloc)?;
         let log = MemLog::new(alloc, self.room, calls)?;
         let open_path = String::from_str(alloc, path)?;
-        self.clear(alloc, path)?;
+        self.put(alloc, path, &[])?;
         self.open_path = open_path;
         Ok(log)
     }
@@ -118,6 +147,7 @@ impl MemLogs {
         ensures counted { CountsOneLogOpening self.old.faults.count self.new.faults.count result }
         ensures room_stays { self.new.room ≡ self.old.room }
         ensures calls { self.new.calls ≡ self.old.calls }
+        ensures sources { self.new.sources ≡ self.old.sources }
     {
         if self.openings.fails() {
             self.faults.raise();
@@ -127,6 +157,34 @@ impl MemLogs {
             Ok(log) => Ok(log),
             Err(_) => Err(LogOpen::Memory),
         }
+    }
+
+    /// Opens the bytes of the log at a path. Fails where the plan says so.
+    pub fn source(&mut self, alloc: Global, path: &str) -> Result<MemSource, HostError>
+        ensures opened { IfOk result (λ source. IsSomeAnd (logs_at self.old.files.items path.now) (λ log. left_of source ≡ log.bytes)) }
+        ensures faultless { IfOk result (λ source. source.faults.count ≡ 0) }
+        ensures calls { IfOk result (λ source. source.calls ≡ fresh_plan self.old.sources.calls) }
+        ensures most { IfOk result (λ source. source.most ≡ self.old.sources.most) }
+        ensures missing { IsErrOf result HostError.Missing → logs_at self.old.files.items path.now ≡ None }
+        ensures fault { IsErrOf result HostError.Failed ↔ (fails_next self.old.sources.openings ≡ true) }
+        ensures openings { self.new.sources.openings ≡ after_call self.old.sources.openings }
+        ensures plan { self.new.sources.calls ≡ self.old.sources.calls }
+        ensures most_stays { self.new.sources.most ≡ self.old.sources.most }
+        ensures same { self.new ≡ record self.old { sources = self.new.sources } }
+    {
+        if self.sources.openings.fails() {
+            return Err(HostError::Failed);
+        }
+        let Some(log) = self.get(path) else {
+            return Err(HostError::Missing);
+        };
+        let Ok(bytes) = Vec::from_slice(alloc, log.bytes()) else {
+            return Err(HostError::Memory);
+        };
+        let Ok(calls) = self.sources.calls.fresh(alloc) else {
+            return Err(HostError::Memory);
+        };
+        Ok(MemSource::new(bytes, self.sources.most, calls))
     }
 
     /// Takes the log that was opened last back, and counts its faults too.

@@ -1,5 +1,5 @@
 //! The blocks of lanes in memory, put back into the segments that they came from.
-ghost use Rattle.std.specs.Prelude.{◌≡◌, ◌+◌, ◌*◌, ◌<◌, ◌≤◌, ◌^◌, Some, length, map, option_map};
+ghost use Rattle.std.specs.Prelude.{◌≡◌, ◌+◌, ◌*◌, ◌<◌, ◌≤◌, ◌^◌, Some, length, map, option_map, vec_capacity};
 ghost use Rattle.segment_store.specs.Lanes.{page_in};
 ghost use Rattle.segment_store.specs.MemoryHost.{bytes_of};
 ghost use Rattle.segment_store.specs.MemoryLane.{pages_of};
@@ -11,7 +11,7 @@ use block_tag::{Fork, RelNo, Tag};
 use page_layout::{PAGE_SIZE, Page};
 
 /// The page of a tag in its lane, if it is there.
-fn page_in<'a>(lanes: &'a [MemLane], tag: &Tag) -> Option<&'a Page>
+pub fn page_in<'a>(lanes: &'a [MemLane], tag: &Tag) -> Option<&'a Page>
     ensures { option_map (λ page. page.now) result ≡ page_in (map (λ lane. Some (pages_of lane)) lanes.now) tag.now }
 {
     if lanes.is_empty() {
@@ -43,7 +43,8 @@ fn put_blocks(bytes: &mut [u8], first: u32, count: u32, fork: Fork, lanes: &[Mem
 /// Puts the blocks of a relation that its lanes have back at their places in its segments.
 #[tactic(auto, unfolding(crate::specs::Relation::relation_of, crate::specs::Restored::given_back))]
 pub fn give_blocks_back(segments: &mut [Vec<u8>], seg_blocks: u32, fork: Fork, lanes: &[MemLane])
-    ensures { bytes_of segments.new ≡ given_back fork seg_blocks (map (λ lane. Some (pages_of lane)) lanes.now) (bytes_of segments.old) }
+    ensures bytes { bytes_of segments.new ≡ given_back fork seg_blocks (map (λ lane. Some (pages_of lane)) lanes.now) (bytes_of segments.old) }
+    ensures capacities { map (λ segment. vec_capacity segment) segments.new ≡ map (λ segment. vec_capacity segment) segments.old }
 {
     let mut first = 0u32;
     for index in 0..segments.len() {

@@ -2,7 +2,8 @@
 use block_tag::{Fork, RelNo, Tag};
 use log_device::Failed;
 use page_layout::Page;
-use segment_store::{BlockLane, FileHost, FileLane, Host};
+use segment_files::{FileHost, FileLane};
+use segment_store::{BlockLane, Host};
 use std::alloc::{Allocator, Global};
 use std::fs::{File, Metadata, OpenFile, OpenOptions};
 use std::io::{ErrorKind, Read, Seek, SeekFrom, Write};
@@ -144,10 +145,10 @@ fn remove_segments(rt: &HostRuntime, [first, second]: [&str; 2]) -> io::Result<(
 }
 
 /// A sync's answer, and how many syncs of files there were up to then.
-fn sync_lane<F: FileExt + OpenFile + Drop>(
-    lane: &mut FileLane<F>,
-    syncs: &AtomicU32,
-) -> (Result<(), Failed>, u32) {
+fn sync_lane<R: Files>(lane: &mut FileLane<'_, R>, syncs: &AtomicU32) -> (Result<(), Failed>, u32)
+where
+    R::File: FileExt,
+{
     let synced = lane.sync();
     (synced, syncs.load(Ordering::SeqCst))
 }
@@ -169,17 +170,17 @@ fn a_sync_reaches_each_segment(rt: HostRuntime) -> Result<(), Fail> {
         assert_eq!(rt; sync_lane(lane, &syncs), (Err(Failed), 3));
         assert_eq!(rt; sync_lane(lane, &syncs), (Ok(()), 5));
     }
-    host.give_back(lanes, None);
+    host.give_back(lanes, None, None);
     assert_eq!(rt; host.write_faults(), 1);
     remove_segments(&rt, segments)?;
     Ok(())
 }
 
 /// A read's answer and a write's.
-fn use_lane<F: FileExt + OpenFile + Drop>(
-    lane: &mut FileLane<F>,
-    page: &mut Page,
-) -> [Result<(), Failed>; 2] {
+fn use_lane<R: Files>(lane: &mut FileLane<'_, R>, page: &mut Page) -> [Result<(), Failed>; 2]
+where
+    R::File: FileExt,
+{
     let tag = Tag {
         rel: RelNo(0),
         fork: Fork::Main,
@@ -188,11 +189,10 @@ fn use_lane<F: FileExt + OpenFile + Drop>(
     [lane.read(tag, page), lane.write(tag, page)]
 }
 
-fn use_lanes<F: FileExt + OpenFile + Drop>(
-    rt: &impl Abort,
-    lanes: &mut [FileLane<F>],
-    page: &mut Page,
-) {
+fn use_lanes<R: Files>(rt: &impl Abort, lanes: &mut [FileLane<'_, R>], page: &mut Page)
+where
+    R::File: FileExt,
+{
     for lane in lanes {
         assert_eq!(rt; use_lane(lane, page), [Err(Failed), Err(Failed)]);
     }
@@ -208,7 +208,7 @@ fn use_files(
     let mut page = Page::zeroed(alloc)?;
     let mut lanes = host.relation(alloc, path, 2, 1)?.lanes;
     use_lanes(rt, &mut lanes, &mut page);
-    host.give_back(lanes, None);
+    host.give_back(lanes, None, None);
     Ok(())
 }
 

@@ -3,7 +3,7 @@ use block_tag::{Fork, RelNo, Tag};
 use log_device::{Failed, FaultPlan, LogDevice, LogPlan};
 use page_layout::Page;
 use segment_store::{
-    BlockLane, Host, HostError, LanePlan, LogOpen, MemFile, MemHost, MemLane, MemLogs,
+    BlockLane, Host, HostError, LanePlan, LogOpen, MemFile, MemHost, MemLane, MemLogs, SourcePlan,
 };
 use std::alloc::{AllocError, Global};
 use std::process::Abort;
@@ -71,6 +71,11 @@ fn lane_plan(alloc: Global) -> Result<LanePlan, AllocError> {
     })
 }
 
+/// The second opening of a source fails, the second call of each does, and a call gives three bytes at most.
+fn source_plan(alloc: Global) -> Result<SourcePlan, AllocError> {
+    Ok(SourcePlan::new(failing(alloc, 2)?, failing(alloc, 2)?, 3))
+}
+
 /// A host with a relation of two segments.
 fn host_in_memory(alloc: Global) -> Result<MemHost, AllocError> {
     let files = two_segment_files(alloc)?;
@@ -80,6 +85,7 @@ fn host_in_memory(alloc: Global) -> Result<MemHost, AllocError> {
         8,
         FaultPlan::new(Vec::new(alloc)),
         LogPlan::none(alloc),
+        source_plan(alloc)?,
     );
     Ok(MemHost::new(alloc, files, FaultPlan::new(Vec::new(alloc)), lanes, logs))
 }
@@ -120,7 +126,7 @@ fn use_relation(rt: &impl Abort, alloc: Global, host: &mut MemHost) -> Result<()
     if let Some(lane) = lanes.first_mut() {
         use_lane(rt, lane, &mut page);
     }
-    host.give_back(lanes, None);
+    host.give_back(lanes, None, None);
     Ok(())
 }
 
@@ -178,7 +184,7 @@ fn use_log(rt: &impl Abort, alloc: Global, host: &mut MemHost) -> Result<(), Log
     let mut log = host.log(alloc, "log")?;
     assert_eq!(rt; append_twice(&mut log), [Ok(()), Ok(()), Err(Failed)]);
     assert_eq!(rt; log_of(host), Some((b"".as_slice(), 0)));
-    host.give_back(Vec::new(alloc), Some(log));
+    host.give_back(Vec::new(alloc), Some(log), None);
     Ok(())
 }
 

@@ -5,6 +5,8 @@
 #[cfg(test)]
 mod file_tests;
 #[cfg(test)]
+mod growth_tests;
+#[cfg(test)]
 mod host_tests;
 #[cfg(test)]
 mod log_tests;

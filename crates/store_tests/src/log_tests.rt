@@ -1,9 +1,13 @@
-//! Failures that leave a part, a writer that takes little, and a file that counts its syncs.
-use log_device::{Failed, FaultPlan, FileLog, LogDevice, LogPlan, MemLog, MemSink, Sink, StdSink};
+//! Failures that leave a part, a writer that takes little, a file that counts its syncs, and sources
+//! of which a call fails.
+use log_device::{
+    Failed, FaultPlan, FileLog, FileSource, LogDevice, LogPlan, MemLog, MemSink, MemSource, Sink,
+    Source, StdSink,
+};
 use std::cell::Cell;
 use std::fs::{Metadata, OpenFile};
 use std::io;
-use std::io::{ErrorKind, Write};
+use std::io::{ErrorKind, Read, Write};
 use std::test::Fail;
 
 /// Of the pieces put the second fails by plan, and the third doesn't fit.
@@ -146,4 +150,53 @@ fn log_over_a_file_is_synced_after_a_fault(rt: HostRuntime) {
     assert_eq!(rt; (log.sync(), syncs.get()), (Err(Failed), 2));
     assert_eq!(rt; (log.sync(), syncs.get()), (Ok(()), 3));
     assert_eq!(rt; log.faults(), 2);
+}
+
+/// What a call answers that has room for three bytes, and what these then are.
+fn take_three(source: &mut impl Source) -> (Result<usize, Failed>, [u8; 3]) {
+    let mut piece = [0; 3];
+    let answer = source.next(&mut piece);
+    (answer, piece)
+}
+
+#[test]
+fn source_in_memory(rt: HostRuntime) -> Result<(), Fail> {
+    let alloc = rt.alloc();
+    let calls = FaultPlan::new(vec![in alloc; 2u64; 1]?);
+    let bytes = b"abcde".as_slice().to_vec(alloc)?;
+    let mut source = MemSource::new(bytes, 2, calls);
+    assert_eq!(rt; take_three(&mut source), (Ok(2), *b"ab\0"));
+    assert_eq!(rt; take_three(&mut source), (Err(Failed), [0; 3]));
+    assert_eq!(rt; take_three(&mut source), (Ok(2), *b"cd\0"));
+    assert_eq!(rt; take_three(&mut source), (Ok(1), *b"e\0\0"));
+    assert_eq!(rt; take_three(&mut source), (Ok(0), [0; 3]));
+    assert_eq!(rt; source.faults(), 1);
+    Ok(())
+}
+
+/// A reader that gives two bytes a call, and whose second call fails.
+#[derive(Drop)]
+struct Faulty {
+    calls: u32,
+}
+
+impl Read for Faulty {
+    fn read(&mut self, buf: &mut [u8]) -> io::Result<usize> {
+        self.calls = self.calls.saturating_add(1);
+        if self.calls == 2 {
+            return Err(ErrorKind::Other.into());
+        }
+        let count = buf.len().min(2);
+        buf[..count].fill(b'x');
+        Ok(count)
+    }
+}
+
+#[test]
+fn source_over_a_reader(rt: HostRuntime) {
+    let mut source = FileSource::new(Faulty { calls: 0 });
+    assert_eq!(rt; take_three(&mut source), (Ok(2), *b"xx\0"));
+    assert_eq!(rt; take_three(&mut source), (Err(Failed), [0; 3]));
+    assert_eq!(rt; take_three(&mut source), (Ok(2), *b"xx\0"));
+    assert_eq!(rt; source.faults(), 1);
 }

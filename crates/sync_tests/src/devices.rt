@@ -115,6 +115,8 @@ impl BlockLane for PageLane {
 
     ghost unsynced = { λ l. unsynced_in l.history };
 
+    ghost room = { λ _ _. false };
+
     ghost read_faults = { λ l. l.read_faults.count };
 
     ghost write_faults = { λ l. l.write_faults.count };
@@ -167,6 +169,8 @@ impl BlockLane for PageLane {
     ghost write_faults_fit = { λ l. l.write_faults.fits };
 
     ghost whole = { λ _. tt };
+
+    ghost has_room = { λ _. tt };
 }
 
 /// A log that has what was appended, whose contents contracts don't know.

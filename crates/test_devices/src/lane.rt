@@ -66,6 +66,8 @@ impl BlockLane for TestLane {
 
     ghost unsynced = { λ l. unsynced_in l.history };
 
+    ghost room = { λ _ _. false };
+
     ghost read_faults = { λ _. 0 };
 
     ghost write_faults = { λ l. l.faults.count };
@@ -113,4 +115,6 @@ impl BlockLane for TestLane {
     ghost write_faults_fit = { λ l. l.faults.fits };
 
     ghost whole = { λ _. tt };
+
+    ghost has_room = { λ _. tt };
 }

@@ -6,12 +6,12 @@ use denote.Struct.Tuple.{TupleAt}
 use denote.Param.Send.{IsSend, IsSync, sendable}
 use Rattle.std.proofs.Crossing.{crosses, frees}
 use Rattle.std.proofs.CrossingOver as over
-use Rattle.segment_store.specs.declared.device.BlockLane as block_lane
 use Rattle.log_device.specs.declared.device.LogDevice as log_device
 use Rattle.backend_pass.specs.contracts.manager.Manager as manager
 use Rattle.backend_pass.proofs.Crossing.{shared_sync, lease_sync}
 use Rattle.table_rule.specs.contracts.value.Value as value
 use Rattle.sync_tests.specs.contracts.devices.PageLane as lane
+use Rattle.sync_tests.specs.contracts.devices.PageLaneBlockLane.TheImpl as page_lane
 use Rattle.sync_tests.specs.contracts.devices.ByteLog as log
 use Rattle.sync_tests.specs.contracts.sharing.Use as uses
 use Rattle.sync_tests.specs.contracts.sharing.TestJob as jobs
@@ -25,8 +25,8 @@ logs_cross = search (sendable, crosses, over.crosses) depth 30
 values_cross : IsSend (value.the_row lane.the_row log.the_row)
 values_cross = search (sendable, crosses, over.crosses, lanes_cross, logs_cross) depth 30 fits 20000
 
-pub managers_shared : (a : block_lane.Ghosts lane.the_row.Denot) (b : log_device.Ghosts log.the_row.Denot) → IsSync (manager.the_row lane.the_row log.the_row a b)
-managers_shared a b = search (sendable, crosses, over.crosses, values_cross, shared_sync, lease_sync, frees) depth 50 fits 40000
+pub managers_shared : (b : log_device.Ghosts log.the_row.Denot) → IsSync (manager.the_row lane.the_row log.the_row page_lane.ghosts b)
+managers_shared b = search (sendable, crosses, over.crosses, values_cross, shared_sync, lease_sync, frees) depth 50 fits 40000
 
 pub uses_shared : IsSync uses.the_row
 uses_shared = search (sendable, crosses, over.crosses) depth 20

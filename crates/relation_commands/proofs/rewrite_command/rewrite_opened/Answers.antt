@@ -28,7 +28,7 @@ rewrite_surveyed-requires-clause-surveyed g c κs within =
     let number_is = c.unwrap_or.ensures ∙ ap (λ (o : Option ℕ). unwrap_or o 0) c.relation_number.ensures in
     let begins = subst (λ (ls : List g.row.H-Lane.Denot). (pages : List Page) → HavePages g.H.Lane.BlockLane.contents (record { number = c.unwrap_or.result; fork = Main; blocks = c.args.opened.blocks }) ls pages → c.in-Ok.base ≡ log_base pages) was c.in-Ok.ensures.base in
     let so = surveyed g.H.Lane.BlockLane.contents g.H.Lane.BlockLane.failed_writes g.H.Lane.BlockLane.unsynced g.H.Lane.BlockLane.read_faults g.H.Lane.BlockLane.write_faults
-    r c.requires.main c.args.opened c.survey_base.new.lanes c.unwrap_or.result c.in-Ok.base number_is same begins known opened c.in-Ok.ensures.quiet
+    r c.requires.main c.args.opened c.survey_base.new.lanes c.unwrap_or.result c.in-Ok.base number_is same begins known _ _ opened c.in-Ok.ensures.quiet
     (sum_same g.H.Lane.BlockLane.write_faults c.args.opened.lanes.items c.survey_base.new.lanes same.writes_same ∙ opened.writes) c.in-Ok.ensures.within in
     subst (λ (ls : List g.row.H-Lane.Denot). AreSurveyed g.H.Lane.BlockLane.contents g.H.Lane.BlockLane.failed_writes g.H.Lane.BlockLane.read_faults g.H.Lane.BlockLane.write_faults known r
     (record { number = c.unwrap_or.result; fork = Main; blocks = c.args.opened.blocks }) c.in-Ok.base ls)

@@ -9,4 +9,5 @@ invariant-loop l = record {
   count : length l.made.items ≡ l.counter;
   synced : All (λ lane. unsynced_of lane.lane ≡ no_marks) l.made.items;
   calls : All (λ lane. calls_of lane.lane ≡ 0) l.made.items;
+  faults : All (λ lane. lane.lane.write_faults.count ≡ 0) l.made.items;
 }

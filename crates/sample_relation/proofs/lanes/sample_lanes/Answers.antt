@@ -20,4 +20,5 @@ loop-block-preserved c =
       held = subst (λ (lanes : List SampleLane). HoldPages Main (sample_relation c.args.seed (c.loop-block.block + 1)) (map (λ lane. Some (pages_of lane.lane)) lanes)) whole c.in_ok-add_block.ensures.held;
       synced = subst (λ (lanes : List SampleLane). All (λ lane. unsynced_of lane.lane ≡ no_marks) lanes) whole c.add_block.ensures.synced;
       calls = subst (λ (lanes : List SampleLane). All (λ lane. calls_of lane.lane ≡ 0) lanes) whole c.add_block.ensures.calls;
+      faults = subst (λ (lanes : List SampleLane). All (λ lane. lane.lane.write_faults.count ≡ 0) lanes) whole c.add_block.ensures.faults;
     }

@@ -13,4 +13,5 @@ invariant-loop-block l = record {
   held : HoldPages Main (sample_relation l.seed l.block) (map (λ lane. Some (pages_of lane.lane)) l.made.items);
   synced : All (λ lane. unsynced_of lane.lane ≡ no_marks) l.made.items;
   calls : All (λ lane. calls_of lane.lane ≡ 0) l.made.items;
+  faults : All (λ lane. lane.lane.write_faults.count ≡ 0) l.made.items;
 }

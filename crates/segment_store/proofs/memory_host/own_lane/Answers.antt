@@ -1,15 +1,17 @@
-use Rattle.std.proofs.Common.{◌≡◌, ◌==◌, cond, get_or, [], sym, ap, ◌∙◌}
+use Rattle.std.proofs.Common.{◌≡◌, ◌==◌, true, cond, get_or, [], sym, ap, ◌∙◌}
 use Rattle.std.proofs.lemmas.List.{get_or_default}
 use Rattle.block_tag.specs.Names.{lane_number}
-use Rattle.segment_store.specs.Contents.{Pages, with_page}
+use Rattle.segment_store.specs.Contents.{Marks, Pages, with_mark, with_page}
 use Rattle.segment_store.specs.History.{unsynced_in}
 use Rattle.segment_store.specs.Lanes.{tag_at}
 use Rattle.segment_store.proofs.Dealing.{own-nil, own_more}
+use Rattle.segment_store.proofs.DealtRooms.{room_more, room_none}
 use Rattle.segment_store.proofs.memory_host.own_lane.Goals as goal
 
 pub loop-block-init : goal.loop-block-init
 loop-block-init c = record {
   pages = c.new-lane.ensures.pages ∙ sym (own-nil c.args.fork c.args.lanes c.args.number);
+  room = c.new-lane.ensures.room ∙ sym (room_none c.args.fork c.args.lanes c.args.number);
   failed = c.new-lane.ensures.failed;
   reads = c.new-lane.ensures.reads;
   writes = c.new-lane.ensures.writes;
@@ -26,6 +28,9 @@ loop-block-preserved c =
       pages = c.in_ok-hold_own.ensures.pages
           ∙ ap (λ (contents : Pages). cond (lane_number (tag_at c.args.fork block) c.args.lanes == c.args.number) (with_page (tag_at c.args.fork block) page contents) contents) c.loop-block.invariant.pages
           ∙ sym (own_more c.args.fork c.args.pages.now c.args.lanes c.args.number block page c.loop-block-test.true page_is);
+      room = c.in_ok-hold_own.ensures.room
+          ∙ ap (λ (room : Marks). cond (lane_number (tag_at c.args.fork block) c.args.lanes == c.args.number) (with_mark (tag_at c.args.fork block) true room) room) c.loop-block.invariant.room
+          ∙ sym (room_more c.args.fork c.args.lanes c.args.number block);
       failed = c.in_ok-hold_own.ensures.failed;
       reads = ap (λ count. count.count) c.in_ok-hold_own.ensures.reads ∙ c.loop-block.invariant.reads;
       writes = ap (λ count. count.count) c.in_ok-hold_own.ensures.writes ∙ c.loop-block.invariant.writes;

@@ -1,14 +1,15 @@
-use Rattle.std.proofs.Common.{drop, ◌≡◌, ◌+◌, ◌-◌, ◌/◌, min, ℕ, List, [], Some, length, map, get_or, set, sym, ◌∙◌, ap, arith, subst}
+use Rattle.std.proofs.Common.{refl, drop, ◌≡◌, ◌+◌, ◌-◌, ◌/◌, min, ℕ, List, [], Some, length, map, get_or, set, sym, ◌∙◌, ap, arith, subst}
 use Rattle.std.proofs.lemmas.List.{map-set, length-map, get_or-map}
 use Rattle.std.specs.Vec.{with_items}
 use Rattle.segment_store.specs.MemoryHost.{bytes_of}
 use Rattle.segment_store.specs.MemoryLane.{pages_of}
 use Rattle.segment_store.proofs.PutBlocks.{take_prefix}
+use Rattle.segment_store.proofs.Space.{capacities_stay}
 use Rattle.segment_store.proofs.PutSegments.{IsUnderway, WritesNext, last_put, next_put}
 use Rattle.segment_store.proofs.restore.give_blocks_back.Goals as goal
 
-pub returns-then-count-seg_blocks : goal.returns-then-count-seg_blocks
-returns-then-count-seg_blocks c =
+pub returns-then-count-seg_blocks-clause-bytes : goal.returns-then-count-seg_blocks-clause-bytes
+returns-then-count-seg_blocks-clause-bytes c =
     let segments = c.loop-index.segments in
     let index = c.loop-index.index in
     let lanes = map (λ lane. Some (pages_of lane)) c.args.lanes.now in
@@ -24,7 +25,15 @@ returns-then-count-seg_blocks c =
     let items_are : (with_items segment c.put_blocks.new.bytes).items ≡ c.put_blocks.new.bytes =
     take_prefix c.put_blocks.new.bytes (drop (length c.put_blocks.new.bytes) segment.items) segment.len (c.put_blocks.auto.bytes ∙ c.as_mut_slice.ensures.len) in
     let put = map-set _ segments index (with_items segment c.put_blocks.new.bytes) ∙ ap (λ (l : List ℕ). set (bytes_of segments) index l) items_are in
-    put ∙ last_put c.args.fork lanes c.args.seg_blocks (bytes_of c.args.segments.now) (bytes_of segments) index c.loop-index.first c.min-count.result c.as_mut_slice.result.now c.put_blocks.new.bytes writes c.loop-index.invariant (omega arith)
+    put ∙ last_put c.args.fork lanes c.args.seg_blocks (bytes_of c.args.segments.now) (bytes_of segments) index c.loop-index.first c.min-count.result c.as_mut_slice.result.now c.put_blocks.new.bytes writes c.loop-index.invariant.bytes (omega arith)
+
+pub returns-then-count-seg_blocks-clause-capacities : goal.returns-then-count-seg_blocks-clause-capacities
+returns-then-count-seg_blocks-clause-capacities c =
+    let segments = c.loop-index.segments in
+    let index = c.loop-index.index in
+    let segment = get_or segments index c.index-segments-index.result in
+    capacities_stay segments index c.index-segments-index.result (with_items segment c.put_blocks.new.bytes) (omega arith) refl
+    ∙ c.loop-index.invariant.capacities
 
 pub loop-index-preserved : goal.loop-index-preserved
 loop-index-preserved c =
@@ -43,6 +52,11 @@ loop-index-preserved c =
     let items_are : (with_items segment c.put_blocks.new.bytes).items ≡ c.put_blocks.new.bytes =
     take_prefix c.put_blocks.new.bytes (drop (length c.put_blocks.new.bytes) segment.items) segment.len (c.put_blocks.auto.bytes ∙ c.as_mut_slice.ensures.len) in
     let put = map-set _ segments index (with_items segment c.put_blocks.new.bytes) ∙ ap (λ (l : List ℕ). set (bytes_of segments) index l) items_are in
-    subst (λ (now : List (List ℕ)). IsUnderway c.args.fork lanes c.args.seg_blocks (bytes_of c.args.segments.now) now (index + 1) (c.loop-index.first + c.min-count.result))
-    (sym put)
-    (next_put c.args.fork lanes c.args.seg_blocks (bytes_of c.args.segments.now) (bytes_of segments) index c.loop-index.first c.min-count.result c.as_mut_slice.result.now c.put_blocks.new.bytes writes c.loop-index.invariant (omega arith))
+    let capacity = capacities_stay segments index c.index-segments-index.result (with_items segment c.put_blocks.new.bytes) (omega arith) refl in
+    record {
+      bytes =
+          subst (λ (now : List (List ℕ)). IsUnderway c.args.fork lanes c.args.seg_blocks (bytes_of c.args.segments.now) now (index + 1) (c.loop-index.first + c.min-count.result))
+          (sym put)
+          (next_put c.args.fork lanes c.args.seg_blocks (bytes_of c.args.segments.now) (bytes_of segments) index c.loop-index.first c.min-count.result c.as_mut_slice.result.now c.put_blocks.new.bytes writes c.loop-index.invariant.bytes (omega arith));
+      capacities = capacity ∙ c.loop-index.invariant.capacities;
+    }

@@ -1,12 +1,15 @@
-use Rattle.std.proofs.Common.{◌≡◌, ◌==◌, ℕ, List, Option, Some, true, false, length, map, sym, ap, ap₂, subst, ◌∙◌}
+use Rattle.std.proofs.Common.{◌≡◌, ◌<◌, ◌==◌, ℕ, List, Option, Some, true, false, length, map, max, sym, ap, ap₂, subst, ◌∙◌}
+use Rattle.std.specs.Prelude.{All}
 use Rattle.std.proofs.lemmas.List.{length-map}
 use Rattle.block_tag.specs.declared.tag.Fork.{Fork}
+use Rattle.block_tag.specs.declared.tag.Tag.{Tag}
 use Rattle.segment_store.specs.Contents.{Pages}
-use Rattle.segment_store.specs.Lanes.{HasBlocks, HoldPages, dealt}
+use Rattle.segment_store.specs.Lanes.{HasBlocks, HoldPages, dealt, rooms_dealt}
 use Rattle.segment_store.specs.MemoryHost.{segments_at}
-use Rattle.segment_store.specs.MemoryLane.{pages_of}
+use Rattle.segment_store.specs.MemoryLane.{pages_of, room_of}
 use Rattle.segment_store.specs.Paths.{fork_of}
 use Rattle.segment_store.specs.Relation.{relation_of}
+use Rattle.segment_store.proofs.DealtRooms.{rooms_below}
 use Rattle.segment_store.proofs.Dealing.{dealt_hold, held_there, length-dealt}
 use Rattle.segment_store.proofs.memory_host.MemHost.open.Goals as goal
 
@@ -35,4 +38,11 @@ returns-in-Ok-clause-opened c =
       blocks = blocks;
       holds = subst (λ (l : List (Option Pages)). HoldPages fork pages l) (sym contents) hold;
       only = contents;
+      rooms = subst (λ (n : ℕ). All (λ lane. (tag : Tag) → room_of lane tag ≡ true → tag.block < max n opened.blocks) opened.lanes.items) c.room-room.ensures
+          (rooms_below c.fork_of_path-fork.result (max c.room-room.result opened.blocks) c.args.lanes opened.lanes.items c.in-Ok.ensures.rooms);
     }
+
+pub returns-in-Ok-clause-rooms : goal.returns-in-Ok-clause-rooms
+returns-in-Ok-clause-rooms c =
+    c.in-Ok.ensures.rooms
+    ∙ ap₂ (λ (f : Fork) (n : ℕ). rooms_dealt f (max n c.in-Ok.opened.blocks) c.args.lanes) c.fork_of_path-fork.ensures c.room-room.ensures

@@ -1,7 +1,7 @@
 use Rattle.std.proofs.Common.{ℕ, List, [], Vec, Global, sym, ap, ◌∙◌}
 use Rattle.std.specs.List.{position}
 use Rattle.segment_store.specs.MemoryHost.{bytes_of, file_path}
-use Rattle.segment_store.specs.declared.memory_host.MemFile.{MemFile}
+use Rattle.segment_store.specs.declared.memory_file.MemFile.{MemFile}
 use Rattle.segment_store.proofs.FilesByPath.{has_path, is_first, read_first, read_none}
 use Rattle.segment_store.proofs.memory_host.MemHost.segments.Goals as goal
 

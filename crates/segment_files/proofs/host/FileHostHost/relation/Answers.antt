@@ -1,0 +1,18 @@
+use Rattle.std.proofs.Common.{refl}
+use Rattle.segment_files.proofs.UnknownLanes.{unknown}
+use Rattle.segment_files.proofs.host.FileHostHost.relation.Goals as goal
+
+pub returns-in-Ok-clause-opened : goal.returns-in-Ok-clause-opened
+returns-in-Ok-clause-opened g c = record {
+  count = c.in-Ok.ensures.count;
+  reads = c.in-Ok.ensures.reads;
+  writes = c.in-Ok.ensures.writes;
+  unmarked = λ k d within. refl;
+  synced = c.in-Ok.ensures.synced;
+  has = unknown c.in-Ok.found.opened.lanes.items _ _;
+  there = tt;
+  blocks = tt;
+  holds = tt;
+  only = tt;
+  rooms = tt;
+}
