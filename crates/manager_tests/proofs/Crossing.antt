@@ -7,11 +7,11 @@ use denote.Struct.Tuple.{TupleAt}
 use denote.Param.Send.{IsSend, IsSync, sendable}
 use Rattle.std.proofs.Crossing.{crosses, frees}
 use Rattle.std.proofs.CrossingOver as over
-use Rattle.segment_store.specs.declared.device.BlockLane as block_lane
 use Rattle.log_device.specs.declared.device.LogDevice as log_device
 use Rattle.backend_pass.specs.contracts.manager.Manager as manager
 use Rattle.backend_pass.proofs.Crossing.{lease_sync, shared_sync}
 use Rattle.test_devices.specs.contracts.lane.TestLane as lane
+use Rattle.test_devices.specs.contracts.lane.TestLaneBlockLane.TheImpl as test_lane
 use Rattle.test_devices.specs.contracts.log.TestLog as log
 use Rattle.table_rule.specs.contracts.value.Value as value
 
@@ -24,8 +24,8 @@ lanes_cross = search (sendable, crosses, over.crosses) depth 30
 values_cross : IsSend (value.the_row lane.the_row log.the_row)
 values_cross = search (sendable, crosses, over.crosses, lanes_cross) depth 30 fits 20000
 
-pub managers_shared : (a : block_lane.Ghosts lane.the_row.Denot) (b : log_device.Ghosts log.the_row.Denot) → IsSync (manager.the_row lane.the_row log.the_row a b)
-managers_shared a b = search (sendable, crosses, over.crosses, values_cross, shared_sync, lease_sync, frees) depth 50 fits 40000
+pub managers_shared : (b : log_device.Ghosts log.the_row.Denot) → IsSync (manager.the_row lane.the_row log.the_row test_lane.ghosts b)
+managers_shared b = search (sendable, crosses, over.crosses, values_cross, shared_sync, lease_sync, frees) depth 50 fits 40000
 
 -- what captures five values may cross threads where they may
 pub five_sent : (ν : Sym) (A B C D E : RattleType) → IsSend A → IsSend B → IsSend C → IsSend D → IsSend E → IsSend (TupleAt ν (A ∷ B ∷ C ∷ D ∷ E ∷ []))

@@ -8,5 +8,5 @@ use Rattle.manager_tests.proofs.sharing.copy_all_twice.Goals as goal
 pub join_mut-requires-send-F : goal.join_mut-requires-send-F
 join_mut-requires-send-F g c = λ κs b.
     let X = arg-0-1 g.row.R g.R.laws g.R.Threads-dict g.R.Wait-dict κs in
-    let s : IsSend X = arg_send _ no _ (five_sent _ _ _ _ _ _ (shr_send _ _ _ (managers_shared _ _)) (shr_send _ _ _ c.type_bounds.sync-R) (mut_send _ _ _ passes_sent) (shr_send _ _ _ numbers_shared) (shr_send _ _ _ globals_shared)) in
+    let s : IsSend X = arg_send _ no _ (five_sent _ _ _ _ _ _ (shr_send _ _ _ (managers_shared _)) (shr_send _ _ _ c.type_bounds.sync-R) (mut_send _ _ _ passes_sent) (shr_send _ _ _ numbers_shared) (shr_send _ _ _ globals_shared)) in
     param_send 1 X s

@@ -8,5 +8,5 @@ use Rattle.manager_tests.proofs.waiting.wait_twice.Goals as goal
 pub join_mut-requires-send-F : goal.join_mut-requires-send-F
 join_mut-requires-send-F g c = λ κs b.
     let X = arg-0-1 g.row.R g.R.laws g.R.Threads-dict g.R.Wait-dict κs in
-    let s : IsSend X = arg_send _ no _ (three_sent _ _ _ _ (shr_send _ _ _ (managers_shared _ _)) (shr_send _ _ _ c.type_bounds.sync-R) (mut_send _ _ _ passes_sent)) in
+    let s : IsSend X = arg_send _ no _ (three_sent _ _ _ _ (shr_send _ _ _ (managers_shared _)) (shr_send _ _ _ c.type_bounds.sync-R) (mut_send _ _ _ passes_sent)) in
     param_send 1 X s

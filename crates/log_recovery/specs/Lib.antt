@@ -1,0 +1,6 @@
+pub mod Records
+pub mod Taken
+pub mod Redo
+pub mod Steps
+pub mod Laws
+pub mod Crash

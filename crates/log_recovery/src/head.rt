@@ -1,0 +1,62 @@
+//! The head of a log.
+ghost use Rattle.std.specs.Prelude.{◌≡◌, ◌≤◌, ◌⊎◌, ◌^◌, ℕ, IfErr, IfOk, IfSome, IsErrOf, None, OnOk, length};
+ghost use Rattle.log_device.specs.Faults.{Rose};
+ghost use Rattle.log_recovery.specs.Records.{HasBadHead, IsHead};
+ghost use Rattle.log_recovery.specs.Steps.{Begins};
+
+use crate::error::RecoverError;
+use crate::records::position_in;
+use crate::source::fill;
+use log_device::Source;
+use page_layout::Lsn;
+
+/// The mark with which a log begins.
+const MARK: &[u8] = b"PGBUFLOG";
+
+/// The greatest position that a log may reach.
+pub(crate) const LAST_POSITION: Lsn = 1 << 62;
+
+/// The position in a log's head, if 16 bytes are one.
+pub(crate) fn base_in(head: &[u8]) -> Option<Lsn>
+    requires { length head.now ≡ 16 }
+    ensures some { IfSome result (IsHead head.now) }
+    ensures none { result ≡ None → (base : ℕ) → IsHead head.now base → ⊥ }
+{
+    if !head.starts_with(MARK) {
+        return None;
+    }
+    let base = position_in(head, 8);
+    if base % 8 != 0 || base > LAST_POSITION {
+        return None;
+    }
+    Some(base)
+}
+
+/// Takes the head: none where fewer than 16 bytes are there.
+pub(crate) fn read_head<S: Source>(source: &mut S) -> Result<Option<Lsn>, RecoverError>
+    ensures begun { IfOk result (λ head. IfSome (S.left source.old)
+        (λ bytes. Begins bytes head (S.left source.new))) }
+    ensures low { IfOk result (λ head. IfSome head (λ base. base ≤ 2 ^ 62)) }
+    ensures bad { IsErrOf result RecoverError.BadLog
+        → (S.faults source.new ≡ S.faults source.old) × IfSome (S.left source.old) HasBadHead }
+    ensures bad_head { IfSome (S.left source.old) (λ bytes. HasBadHead bytes
+        → ¬ Rose (S.faults source.old) (S.faults source.new)
+        → IsErrOf result RecoverError.BadLog) }
+    ensures fault { IsErrOf result RecoverError.ReadFault
+        → Rose (S.faults source.old) (S.faults source.new) }
+    ensures others { IfErr result (λ e. (e ≡ RecoverError.BadLog) ⊎ (e ≡ RecoverError.ReadFault)) }
+    ensures quiet { OnOk result (S.faults source.new ≡ S.faults source.old) }
+    ensures later { S.faults source.old ≤ S.faults source.new }
+{
+    let mut head = [0; 16];
+    let Ok(count) = fill(source, &mut head) else {
+        return Err(RecoverError::ReadFault);
+    };
+    if count < 16 {
+        return Ok(None);
+    }
+    match base_in(&head) {
+        Some(base) => Ok(Some(base)),
+        None => Err(RecoverError::BadLog),
+    }
+}

@@ -1,0 +1,87 @@
+//! Recoveries of which one call fails, and those that are made after them.
+use crate::bench::{
+    Kept, NONE, Outcome, lanes_before, outcome_of, recover_by, recover_lanes, source, whole_page,
+};
+use crate::kept_lane::{Failing, KeptLane};
+use crate::log_bytes::three_records;
+use log_recovery::RecoverError;
+use std::alloc::Global;
+use std::process::Abort;
+use std::test::Fail;
+
+/// The lanes are recovered by all of the log, and hold what is to be.
+fn recover_again(
+    rt: &impl Abort,
+    alloc: Global,
+    lanes: &mut [KeptLane],
+    log: &[u8],
+) -> Result<(), Fail> {
+    let again = recover_by(rt, alloc, lanes, log)?;
+    assert_eq!(rt; again, outcome_of(log.len()));
+    Ok(())
+}
+
+/// The call of the source for the head, those for the three records, or the last.
+#[test]
+fn a_read_fails(rt: HostRuntime) -> Result<(), Fail> {
+    let alloc = rt.alloc();
+    let log = three_records(alloc)?;
+    for (call, length) in [(1, 0), (2, 16), (3, 8240), (4, 16464), (5, 24688)] {
+        let mut source = source(alloc, &log, usize::MAX, call)?;
+        let mut lanes = lanes_before(alloc, 3, 0, NONE)?;
+        let found = recover_lanes(&rt, alloc, &mut lanes, &mut source)?;
+        let wanted = Outcome {
+            answer: Err(RecoverError::ReadFault),
+            ..outcome_of(length)
+        };
+        assert_eq!(rt; (found, source.faults()), (wanted, 1), "call {call}");
+        recover_again(&rt, alloc, &mut lanes, &log)?;
+    }
+    Ok(())
+}
+
+/// Writes that fail, and what the blocks 0 and 1 hold then. Of a torn page the position is new, and
+/// the item that of the page before.
+fn torn() -> [(u32, [Option<Kept>; 2]); 3] {
+    [
+        (1, [whole_page(100, 12320), whole_page(101, 2048)]),
+        (2, [whole_page(1, 12320), whole_page(101, 20544)]),
+        (3, [whole_page(1, 28768), whole_page(2, 20544)]),
+    ]
+}
+
+#[test]
+fn a_write_fails(rt: HostRuntime) -> Result<(), Fail> {
+    let alloc = rt.alloc();
+    let log = three_records(alloc)?;
+    for (write, [first, second]) in torn() {
+        let mut lanes = lanes_before(alloc, 1, 0, Failing { write, sync: 0 })?;
+        let found = recover_by(&rt, alloc, &mut lanes, &log)?;
+        assert_eq!(rt;
+            found.answer,
+            Err(RecoverError::WriteFault),
+            "write {write}"
+        );
+        let wanted = [first, second, whole_page(102, 2048)];
+        assert_eq!(rt; found.held.pages, wanted, "write {write}");
+        recover_again(&rt, alloc, &mut lanes, &log)?;
+    }
+    Ok(())
+}
+
+#[test]
+fn a_sync_fails(rt: HostRuntime) -> Result<(), Fail> {
+    let alloc = rt.alloc();
+    let log = three_records(alloc)?;
+    for lane in 0..3 {
+        let mut lanes = lanes_before(alloc, 3, lane, Failing { write: 0, sync: 1 })?;
+        let found = recover_by(&rt, alloc, &mut lanes, &log)?;
+        let wanted = Outcome {
+            answer: Err(RecoverError::WriteFault),
+            ..outcome_of(24688)
+        };
+        assert_eq!(rt; found, wanted, "lane {lane}");
+        recover_again(&rt, alloc, &mut lanes, &log)?;
+    }
+    Ok(())
+}

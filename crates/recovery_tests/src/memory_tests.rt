@@ -1,0 +1,105 @@
+//! Lanes in memory, with and without room for a block.
+ghost use Rattle.std.specs.Prelude.{◌≡◌, length};
+
+use crate::bench::{Kept, catalog, source, tag, whole_page};
+use crate::log_bytes::{Record, log_bytes, page_bytes};
+use block_tag::{Fork, Tag};
+use log_device::FaultPlan;
+use log_recovery::{RecoverError, Redone, recover};
+use page_layout::Page;
+use segment_store::{LanePlan, MemLane};
+use std::alloc::Global;
+use std::test::Fail;
+
+/// A lane with block 0, and with room for these.
+fn lane_with(alloc: Global, rooms: &[Tag]) -> Result<MemLane, Fail> {
+    let plan = LanePlan {
+        reads: FaultPlan::new(Vec::new(alloc)),
+        writes: FaultPlan::new(Vec::new(alloc)),
+        syncs: FaultPlan::new(Vec::new(alloc)),
+    };
+    let mut lane = MemLane::new(alloc, plan);
+    let mut page = Page::zeroed(alloc)?;
+    page.fill(&page_bytes(100, 2048));
+    lane.hold(alloc, tag(0), &page)?;
+    for room in rooms {
+        lane.reserve(alloc, *room)?;
+    }
+    Ok(lane)
+}
+
+/// Recovers one lane by a log of one record, of this block.
+fn recover_one(
+    alloc: Global,
+    lanes: &mut [MemLane],
+    block: Tag,
+) -> Result<Result<Redone, RecoverError>, Fail>
+    requires { length lanes.old ≡ 1 }
+{
+    let record = Record {
+        fork: block.fork.number(),
+        ..Record::new(4096, block.block, 7)
+    };
+    let bytes = log_bytes(alloc, b"PGBUFLOG", 4096, &[record])?;
+    let mut source = source(alloc, &bytes, usize::MAX, 0)?;
+    let catalog = catalog(alloc)?;
+    let mut page = Page::zeroed(alloc)?;
+    let answer = recover(alloc, lanes, &catalog, &mut source, &mut page);
+    Ok(answer)
+}
+
+/// The lane's pages of block 0 and of another, and how many writes and syncs failed.
+fn look_at(lane: &MemLane, block: Tag) -> ([Option<Kept>; 2], u64) {
+    let first = lane.page(&tag(0)).map(Kept::of);
+    let second = lane.page(&block).map(Kept::of);
+    ([first, second], lane.write_faults())
+}
+
+/// The one record was redone.
+const REDONE: Redone = Redone {
+    base: 4096,
+    end: 12320,
+    entries: 1,
+    blocks: 1,
+};
+
+/// A block of the main fork, and one of the free space map.
+fn new_blocks() -> [Tag; 2] {
+    let map = Tag {
+        fork: Fork::Fsm,
+        ..tag(3)
+    };
+    [tag(5), map]
+}
+
+#[test]
+fn a_block_with_room_is_taken(rt: HostRuntime) -> Result<(), Fail> {
+    let alloc = rt.alloc();
+    for block in new_blocks() {
+        let mut lanes = [lane_with(alloc, &[block])?];
+        let wanted = ([whole_page(100, 2048), whole_page(7, 12320)], 0);
+        let answer = recover_one(alloc, &mut lanes, block)?;
+        assert_eq!(rt; (answer, look_at(&lanes[0], block)), (Ok(REDONE), wanted));
+        let again = recover_one(alloc, &mut lanes, block)?;
+        assert_eq!(rt; (again, look_at(&lanes[0], block)), (Ok(REDONE), wanted));
+    }
+    Ok(())
+}
+
+/// Once there is room, the recovery is made again.
+#[test]
+fn a_block_without_room_is_refused(rt: HostRuntime) -> Result<(), Fail> {
+    let alloc = rt.alloc();
+    for block in new_blocks() {
+        let mut lanes = [lane_with(alloc, &[tag(6)])?];
+        let answer = recover_one(alloc, &mut lanes, block)?;
+        let wanted = ([whole_page(100, 2048), None], 1);
+        let fault = Err(RecoverError::WriteFault);
+        assert_eq!(rt; (answer, look_at(&lanes[0], block)), (fault, wanted));
+        lanes[0].reserve(alloc, block)?;
+        let again = recover_one(alloc, &mut lanes, block)?;
+        let wanted = ([whole_page(100, 2048), whole_page(7, 12320)], 1);
+        assert_eq!(rt; (again, look_at(&lanes[0], block)), (Ok(REDONE), wanted));
+    }
+    Ok(())
+}
