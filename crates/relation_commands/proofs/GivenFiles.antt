@@ -37,7 +37,7 @@ pub record Told : Type 0 where
   pub logs : Option Logs
   pub log_at : List ℕ
 
-abbrev pub told : {S A B : Type 0} → host.Ghosts S A B → S → Told
+abbrev pub told : {S A B C : Type 0} → host.Ghosts S A B C → S → Told
 told g s = record { contents = g.contents s; failed = g.failed_writes s; open_at = g.open_at s; logs = g.logs s; log_at = g.log_at s }
 
 -- Neither the paths nor what is open changed
