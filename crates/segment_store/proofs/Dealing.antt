@@ -3,15 +3,15 @@ use Rattle.std.proofs.Common.{◌≡◌, ◌≢◌, ℕ, zero, suc, ◌+◌, ◌
 use Rattle.std.proofs.lemmas.List.{length-take}
 use Rattle.std.proofs.lemmas.Option.{slice_get-get_or, slice_get_past}
 use Rattle.std.proofs.lemmas.List.FromFn.{get_or-map-range_with_len, length-map-range_with_len}
-use Rattle.std.specs.Prelude.{IsSome, IsSomeAnd, is_some, slice_get}
+use Rattle.std.specs.Prelude.{IfSome, IsSome, IsSomeAnd, is_some, slice_get}
 use Rattle.std.specs.Option.{ForSome, option_and_then}
-use Rattle.std.proofs.lemmas.Bool.{eq-eqb, cases_Bool, cases_eq, cases_lt}
+use Rattle.std.proofs.lemmas.Bool.{eq-eqb, eqb-true, cases_Bool, cases_eq, cases_lt}
 use Rattle.std.proofs.lemmas.Bool.Decides.{nat_tests}
 use Rattle.block_tag.specs.Names.{hash_of, lane_number, tag_eq}
 use Rattle.block_tag.specs.declared.tag.Fork.{Fork}
 use Rattle.block_tag.specs.declared.tag.Tag.{Tag}
 use Rattle.segment_store.specs.Contents.{Pages, no_marks, no_pages, with_mark, with_page}
-use Rattle.segment_store.specs.Lanes.{HasBlocks, HoldPages, dealt, lane_at, own_pages, tag_at}
+use Rattle.segment_store.specs.Lanes.{HasBlocks, HoldPages, HoldTheirs, dealt, lane_at, own_pages, page_in, tag_at}
 
 same_either : {X : Type 0} (b : Bool) (x : X) → cond b x x ≡ x
 same_either true x = refl
@@ -99,7 +99,7 @@ module _ (fork : Fork) (pages : List (List ℕ)) (lanes number block : ℕ) (pag
   own_more = λ i t. more_at t i
 
 -- the lane of a block among those that were dealt
-dealt_at : (fork : Fork) (pages : List (List ℕ)) (lanes : ℕ) (tag : Tag) → 1 ≤ lanes → lane_at (dealt fork pages lanes) tag ≡ Some (own_pages fork pages lanes (lane_number tag lanes))
+pub dealt_at : (fork : Fork) (pages : List (List ℕ)) (lanes : ℕ) (tag : Tag) → 1 ≤ lanes → lane_at (dealt fork pages lanes) tag ≡ Some (own_pages fork pages lanes (lane_number tag lanes))
 dealt_at fork pages lanes tag some =
     let own = λ (number : ℕ). Some (own_pages fork pages lanes number) in
     ap (λ (n : ℕ). get_or (dealt fork pages lanes) (lane_number tag n) None) (length-map-range_with_len own 0 lanes)
@@ -130,3 +130,34 @@ held_there fork pages lanes hold block within = is_there (lane_at lanes (tag_at 
 
 pub length-dealt : (fork : Fork) (pages : List (List ℕ)) (lanes : ℕ) → length (dealt fork pages lanes) ≡ lanes
 length-dealt fork pages lanes = length-map-range_with_len (λ (number : ℕ). Some (own_pages fork pages lanes number)) 0 lanes
+
+picked : (a b : Bool) (page : Option (List ℕ)) → is_some (cond (a && b) page None) ≡ true → b ≡ true
+picked true true page is = refl
+picked true false page is = absurd (cc is)
+picked false b page is = absurd (cc is)
+
+own_only : (fork : Fork) (pages : List (List ℕ)) (lanes number : ℕ) (tag : Tag) → is_some (own_pages fork pages lanes number tag) ≡ true → lane_number tag lanes ≡ number
+own_only fork pages lanes number tag is =
+    let named : Bool = tag_eq tag (tag_at fork tag.block) in
+    let mine : Bool = lane_number tag lanes == number in
+    let own : mine ≡ true = picked named mine (slice_get pages tag.block) is in
+    eqb-true (lane_number tag lanes) number own
+
+-- what each lane was dealt is its own
+pub dealt_theirs : (fork : Fork) (pages : List (List ℕ)) (lanes : ℕ) → HoldTheirs (dealt fork pages lanes)
+dealt_theirs fork pages lanes q tag within =
+    let own = λ (number : ℕ). Some (own_pages fork pages lanes number) in
+    let size : length (dealt fork pages lanes) ≡ lanes = length-dealt fork pages lanes in
+    let at : get_or (dealt fork pages lanes) q None ≡ Some (own_pages fork pages lanes q) =
+    get_or-map-range_with_len own 0 lanes q q None (omega arith) (zero-add q) in
+    subst (λ (lane : Option Pages). IfSome lane (λ (held : Pages). is_some (held tag) ≡ true → lane_number tag (length (dealt fork pages lanes)) ≡ q)) (sym at)
+    (λ is. ap (λ (n : ℕ). lane_number tag n) size ∙ own_only fork pages lanes q tag is)
+
+-- the page of a block in lanes that were dealt a relation
+pub page_dealt : (fork : Fork) (pages : List (List ℕ)) (lanes block : ℕ) → 1 ≤ lanes → page_in (dealt fork pages lanes) (tag_at fork block) ≡ slice_get pages block
+page_dealt fork pages lanes block some =
+    let tag : Tag = tag_at fork block in
+    let named : tag_eq tag tag ≡ true = grind (arith, nat_tests) in
+    let mine : (lane_number tag lanes == lane_number tag lanes) ≡ true = eq-eqb (lane_number tag lanes) (lane_number tag lanes) refl in
+    ap (λ (lane : Option Pages). option_and_then (λ pages. pages tag) lane) (dealt_at fork pages lanes tag some)
+    ∙ ap₂ (λ (a b : Bool). cond (a && b) (slice_get pages block) None) named mine

@@ -46,7 +46,7 @@ pub trait BlockLane {
         ensures calls { calls self.new ≡ calls self.old + 1 };
 
     /// Writes the page to a block, whether or not the lane has it.
-    /// After a failed write the block's contents are unspecified; a block that the lane lacks may be refused, and all is as it was.
+    /// After a failed write the block's contents are unspecified; a block that the lane lacks may be refused: its pages and marks stay.
     fn write(&mut self, tag: Tag, page: &Page) -> Result<(), Failed>
         ensures written { AfterWrite tag page.now (contents self.old) (failed_writes self.old) (contents self.new) (failed_writes self.new) result }
         ensures unsynced { unsynced self.new ≡ with_mark tag true (unsynced self.old) }
@@ -55,7 +55,7 @@ pub trait BlockLane {
         ensures reads { read_faults self.new ≡ read_faults self.old }
         ensures calls { calls self.new ≡ calls self.old + 1 };
 
-    /// Makes the writes so far last.
+    /// Syncs the lane: the writes so far survive a crash.
     fn sync(&mut self) -> Result<(), Failed>
         ensures contents { contents self.new ≡ contents self.old }
         ensures failed { failed_writes self.new ≡ failed_writes self.old }

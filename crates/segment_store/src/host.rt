@@ -21,10 +21,10 @@ pub struct Opened<L> {
     pub lanes: Vec<L>,
 }
 
-/// Why a relation isn't open.
+/// Why a path isn't open.
 #[derive(Clone, Copy, PartialEq, Eq, Debug, Error)]
 pub enum HostError {
-    #[error("the first segment isn't there")]
+    #[error("nothing is there")]
     Missing,
     #[error("the host failed")]
     Failed,
@@ -135,10 +135,11 @@ pub trait Host {
         ensures writes { write_faults self.new ≡ write_faults self.old }
         ensures log_faults { log_faults self.new ≡ log_faults self.old };
 
-    /// Takes the lanes of the relation that was opened last back: their blocks go to their places in its segments.
-    /// Takes the log that was opened last back too, if one is given: it stands at its path as it is now.
-    /// If a source is given, counts its faults: its records were redone over the lanes, so the relation
-    /// grows first, by new pages up to the last block that its lane has.
+    /// Takes back the lanes of the relation that was opened last: their blocks go to their places in its segments.
+    /// Without a source a block past the end is dropped. With one, whose records were redone over the
+    /// lanes, the relation grows first, by new pages up to the last block that its lane has; the source's
+    /// faults are counted. Takes back the log that was opened last, if one is given: it stands at its
+    /// path as it is now.
     fn give_back(
         &mut self,
         lanes: Vec<Self::Lane>,

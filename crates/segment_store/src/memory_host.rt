@@ -369,14 +369,14 @@ impl MemHost {
         }
     }
 
-    /// The log at a path, as it was given back last: empty where none was since it was opened.
+    /// The log at a path, as it was put or given back last: empty where none was since it was opened.
     pub fn stored_log(&self, path: &str) -> Option<&MemLog>
         ensures { IfSome (⟦<MemHost as Host>⟧.logs self.now) (λ logs. option_map (λ log. as_stored log.now) result ≡ logs path.now) }
     {
         self.logs.get(path)
     }
 
-    /// How many openings of relations failed, and reads of lanes that were given back.
+    /// How many openings of relations and of sources failed, and reads of lanes and of sources that were given back.
     pub fn read_faults(&self) -> u64
         ensures { result ≡ ⟦<MemHost as Host>⟧.read_faults self.now }
     {

@@ -14,7 +14,7 @@ use crate::source_plan::SourcePlan;
 use log_device::{FaultCount, FaultPlan, LogDevice, LogPlan, MemLog, MemSource};
 use std::alloc::{AllocError, Global};
 
-/// A log's path, and the log as it was given back last: empty where none was since it was opened.
+/// A log's path, and the log as it was put or given back last: empty where none was since it was opened.
 #[derive(Drop)]
 pub struct LogFile {
     path: String,
@@ -78,7 +78,7 @@ impl MemLogs {
         }
     }
 
-    /// The log at a path, as it was given back last.
+    /// The log at a path, as it was put or given back last.
     pub fn get(&self, path: &str) -> Option<&MemLog>
         ensures { option_map (λ log. as_stored log.now) result ≡ logs_at self.now.files.items path.now }
     {

@@ -1,5 +1,5 @@
 use Rattle.std.proofs.Common.{refl}
-use Rattle.segment_files.proofs.UnknownLanes.{unknown}
+use Rattle.segment_files.proofs.UnknownLanes.{unknown, unknown_theirs}
 use Rattle.segment_files.proofs.host.FileHostHost.relation.Goals as goal
 
 pub returns-in-Ok-clause-opened : goal.returns-in-Ok-clause-opened
@@ -10,6 +10,7 @@ returns-in-Ok-clause-opened g c = record {
   unmarked = λ k d within. refl;
   synced = c.in-Ok.ensures.synced;
   has = unknown c.in-Ok.found.opened.lanes.items _ _;
+  theirs = unknown_theirs c.in-Ok.found.opened.lanes.items;
   there = tt;
   blocks = tt;
   holds = tt;

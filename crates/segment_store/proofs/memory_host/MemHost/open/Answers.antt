@@ -4,13 +4,13 @@ use Rattle.std.proofs.lemmas.List.{length-map}
 use Rattle.block_tag.specs.declared.tag.Fork.{Fork}
 use Rattle.block_tag.specs.declared.tag.Tag.{Tag}
 use Rattle.segment_store.specs.Contents.{Pages}
-use Rattle.segment_store.specs.Lanes.{HasBlocks, HoldPages, dealt, rooms_dealt}
+use Rattle.segment_store.specs.Lanes.{HasBlocks, HoldPages, HoldTheirs, dealt, rooms_dealt}
 use Rattle.segment_store.specs.MemoryHost.{segments_at}
 use Rattle.segment_store.specs.MemoryLane.{pages_of, room_of}
 use Rattle.segment_store.specs.Paths.{fork_of}
 use Rattle.segment_store.specs.Relation.{relation_of}
 use Rattle.segment_store.proofs.DealtRooms.{rooms_below}
-use Rattle.segment_store.proofs.Dealing.{dealt_hold, held_there, length-dealt}
+use Rattle.segment_store.proofs.Dealing.{dealt_hold, dealt_theirs, held_there, length-dealt}
 use Rattle.segment_store.proofs.memory_host.MemHost.open.Goals as goal
 
 pub returns-in-Ok-clause-opened : goal.returns-in-Ok-clause-opened
@@ -31,6 +31,7 @@ returns-in-Ok-clause-opened c =
       synced = c.in-Ok.ensures.synced;
       has = subst (λ (l : List (Option Pages)). HasBlocks fork opened.blocks l) (sym contents)
           (subst (λ (n : ℕ). HasBlocks fork n (dealt fork pages c.args.lanes)) (sym blocks) (held_there fork pages (dealt fork pages c.args.lanes) hold));
+      theirs = subst (λ (l : List (Option Pages)). HoldTheirs l) (sym contents) (dealt_theirs fork pages c.args.lanes);
       there = λ none.
           let empty : length c.segments-segments.result.now ≡ 0 = sym (length-map c.segments-segments.result.now _) ∙ ap (λ (l : List (List ℕ)). length l) (c.segments-segments.ensures ∙ none) in
           let bad : false ≡ true = c.if-is_empty.ensures ∙ ap (λ (n : ℕ). n == 0) empty in
