@@ -15,5 +15,6 @@ pub mod Taking
 pub mod Lanes
 pub mod Faults
 pub mod Redoing
+pub mod Marking
 pub mod Counting
 pub mod Running

@@ -4,19 +4,21 @@ use Rattle.std.specs.Prelude.{IfSome, is_some}
 use Rattle.std.proofs.lemmas.Bool.{both_ways, cases_eq}
 use Rattle.std.proofs.lemmas.List.{length-map}
 use Rattle.std.proofs.Math.Seq.{map-set_same}
+use mathlib.Core.Option.{some-ne-none}
 use Rattle.block_tag.specs.Catalogue.{IsCatalogue}
 use Rattle.block_tag.specs.declared.catalogue.RelEntry.{RelEntry}
 use Rattle.block_tag.specs.declared.tag.Tag.{Tag}
 use Rattle.segment_store.specs.Contents.{Marks, Pages, no_marks}
-use Rattle.history_core.specs.Log.{Entry, Log, end_from, record_size}
+use Rattle.history_core.specs.Log.{AreImages, AreValid, Entry, Log, end_from, record_size}
 use Rattle.history_core.specs.State.{last_position}
 use Rattle.segment_store.specs.Lanes.{HoldTheirs}
-use Rattle.log_recovery.specs.Records.{IsLogOf, IsRecord, Reads, from_head, image_entry, too_short}
-use Rattle.log_recovery.specs.Redo.{AreFirstOf, AreRedone, AreRedoneBut, FailsAt, IsRecovered, LeavesFirst, LeavesPart, Redoes, WritesTo}
+use Rattle.log_recovery.specs.Records.{HasBadHead, IsLogOf, IsRecord, Reads, from_head, image_entry, too_short}
+use Rattle.log_recovery.specs.Redo.{AreFirstOf, AreRedone, AreRedoneBut, FailsAt, IsEnteredBlock, IsRecovered, LeavesFirst, LeavesPart, LeavesUnsynced, MarksFirst, MarksOnly, Redoes, WritesTo}
 use Rattle.log_recovery.specs.Steps.{Begins, HasNoRecord, HasRedone, HaveRedone, IsNextImage, IsSyncing, IsUnderWay, IsUpto, LeadIn, StandIn, StepsOn}
 use Rattle.log_recovery.specs.declared.recovering.Redone.{Redone}
 use Rattle.log_recovery.specs.declared.redo.Progress.{Progress}
 use Rattle.log_recovery.proofs.Counting.{upto_more}
+use Rattle.log_recovery.proofs.Marking.{marks_cleared, marks_more, marks_of_none, marks_same}
 use Rattle.log_recovery.proofs.Prefix.{no_room}
 use Rattle.log_recovery.proofs.Redoing.{redone_more, redone_none, redone_torn, theirs_still}
 use Rattle.log_recovery.proofs.Same.{read_once}
@@ -62,21 +64,22 @@ module _ (relations : List RelEntry) (base : ℕ) where
 
 -- ---- the loop
 
-module _ {L : Type 0} (contents : L → Option Pages) (failed places : L → Marks) (reads writes : L → ℕ) (relations : List RelEntry) (base : ℕ) where
-  pub underway_none : (left : Option (List ℕ)) (faults : ℕ) (lanes : List L) (p : Progress) → IsUpto base [] p → IsUnderWay contents failed places reads writes relations base left left faults faults lanes lanes p
+module _ {L : Type 0} (contents : L → Option Pages) (failed unsynced places : L → Marks) (reads writes : L → ℕ) (relations : List RelEntry) (base : ℕ) where
+  pub underway_none : (left : Option (List ℕ)) (faults : ℕ) (lanes : List L) (p : Progress) → IsUpto base [] p → IsUnderWay contents failed unsynced places reads writes relations base left left faults faults lanes lanes p
   underway_none left faults lanes p upto = record {
     done = [];
     upto = upto;
     lanes = redone_none (map contents lanes) (map failed lanes);
     stands = stand_at_first relations base left;
     theirs = λ h. h;
+    marked = marks_same (IsEnteredBlock []) (map unsynced lanes);
     source_same = refl;
     reads_same = refl;
     writes_same = refl;
     places_same = refl;
   }
 
-  module _ (left now new : Option (List ℕ)) (faults faults_now : ℕ) (old lanes : List L) (p : Progress) (h : IsUnderWay contents failed places reads writes relations base left now faults faults_now old lanes p) where
+  module _ (left now new : Option (List ℕ)) (faults faults_now : ℕ) (old lanes : List L) (p : Progress) (h : IsUnderWay contents failed unsynced places reads writes relations base left now faults faults_now old lanes p) where
     some_lane : 0 < length old → 0 < length (map contents old)
     some_lane some = subst (λ (k : ℕ). 0 < k) (sym (length-map old contents)) some
 
@@ -89,13 +92,14 @@ module _ {L : Type 0} (contents : L → Option Pages) (failed places : L → Mar
     -- a record more
     pub underway_more : {E : Type 0} (faults_new : ℕ) (after : List L) (q : Progress) (tag : Tag) (page : List ℕ) (r : Result Unit E) (x : Unit {0}) → 0 < length old → IsNextImage relations p.position tag page now new → is_some new ≡ is_some now → faults_new ≡ faults_now
         → p.position + record_size ≤ last_position → StepsOn tag p q → r ≡ Ok x → WritesTo tag page (map contents lanes) (map contents after) (map failed lanes) (map failed after) r
-        → map reads after ≡ map reads lanes → map writes after ≡ map writes lanes → map places after ≡ map places lanes → IsUnderWay contents failed places reads writes relations base left new faults faults_new old after q
-    underway_more faults_new after q tag page r x some next told quiet room steps ok w same_reads same_writes same_places = record {
+        → map reads after ≡ map reads lanes → map writes after ≡ map writes lanes → map places after ≡ map places lanes → MarksOnly (λ t. t ≡ tag) (map unsynced lanes) (map unsynced after) → IsUnderWay contents failed unsynced places reads writes relations base left new faults faults_new old after q
+    underway_more faults_new after q tag page r x some next told quiet room steps ok w same_reads same_writes same_places marked = record {
       done = h.done ++ image_entry p.position tag page ∷ [];
       upto = upto_more base h.done tag page p q h.upto steps next.valid room;
       lanes = redone_more h.done tag page (map contents old) (map contents lanes) (map contents after) (map failed old) (map failed lanes) (map failed after) (some_lane some) as_many h.lanes next.named (image_entry p.position tag page) r x ok w refl;
       stands = stand_next relations base h.done left now new p.position tag page h.upto.position h.stands next told;
       theirs = λ held. theirs_still tag page (map contents lanes) (map contents after) (map failed lanes) (map failed after) r (some_now some) (h.theirs held) w;
+      marked = marks_more h.done (image_entry p.position tag page) tag (map unsynced old) (map unsynced lanes) (map unsynced after) next.named refl h.marked marked;
       source_same = quiet ∙ h.source_same;
       reads_same = same_reads ∙ h.reads_same;
       writes_same = same_writes ∙ h.writes_same;
@@ -107,6 +111,7 @@ module _ {L : Type 0} (contents : L → Option Pages) (failed places : L → Mar
     part_stopped after same = record {
       entries = h.done;
       first = lead relations base h.done left now h.stands;
+      valid = (h.upto.law.valid, h.upto.images);
       lanes = inl (subst (λ (l : List L). Redoes contents failed h.done old l) (sym same) h.lanes);
     }
 
@@ -116,6 +121,7 @@ module _ {L : Type 0} (contents : L → Option Pages) (failed places : L → Mar
     part_torn after tag page r x some next told err w = record {
       entries = h.done;
       first = lead relations base h.done left now h.stands;
+      valid = (h.upto.law.valid, h.upto.images);
       lanes = ⊎_elim
           (λ (z : AreRedone h.done (map contents old) (map contents after) (map failed old) (map failed after)). inl z)
           (λ (z : AreRedoneBut h.done (map contents old) (map contents after) (map failed old) (map failed after) tag). inr (record {
@@ -131,6 +137,19 @@ module _ {L : Type 0} (contents : L → Option Pages) (failed places : L → Mar
 
     pub theirs_torn : {E : Type 0} (after : List L) (tag : Tag) (page : List ℕ) (r : Result Unit E) → 0 < length old → WritesTo tag page (map contents lanes) (map contents after) (map failed lanes) (map failed after) r → HoldTheirs (map contents old) → HoldTheirs (map contents after)
     theirs_torn after tag page r some w held = theirs_still tag page (map contents lanes) (map contents after) (map failed lanes) (map failed after) r (some_now some) (h.theirs held) w
+
+    -- what it has marked
+    pub marks_stopped : MarksFirst (LeadIn relations base left) (map unsynced old) (map unsynced lanes)
+    marks_stopped = record { entries = h.done; first = lead relations base h.done left now h.stands; only = h.marked }
+
+    -- and with a write more
+    pub marks_torn : (after : List L) (tag : Tag) (page : List ℕ) → IsNextImage relations p.position tag page now new → is_some new ≡ is_some now → MarksOnly (λ t. t ≡ tag) (map unsynced lanes) (map unsynced after)
+        → MarksFirst (LeadIn relations base left) (map unsynced old) (map unsynced after)
+    marks_torn after tag page next told marked = record {
+      entries = h.done ++ image_entry p.position tag page ∷ [];
+      first = lead relations base (h.done ++ image_entry p.position tag page ∷ []) left new (stand_next relations base h.done left now new p.position tag page h.upto.position h.stands next told);
+      only = marks_more h.done (image_entry p.position tag page) tag (map unsynced old) (map unsynced lanes) (map unsynced after) next.named refl h.marked marked;
+    }
 
     -- it ends where no record follows
     pub all_done : IfSome now (HasNoRecord relations p.position) → HaveRedone contents failed relations base left old lanes p
@@ -183,6 +202,7 @@ module _ {L : Type 0} (contents : L → Option Pages) (failed : L → Marks) (re
   part_behind source left base old new begins h = record {
     entries = h.entries;
     first = first_behind source left base h.entries begins h.first;
+    valid = h.valid;
     lanes = ⊎_elim
         (λ (z : Redoes contents failed h.entries old new). inl z)
         (λ (z : FailsAt contents failed (LeadIn relations base left) h.entries old new). inr (record {
@@ -198,11 +218,27 @@ module _ {L : Type 0} (contents : L → Option Pages) (failed : L → Marks) (re
 
   first_none : (source : Option (List ℕ)) → IfSome source (λ bytes. AreFirstOf relations bytes [])
   first_none None = tt
-  first_none (Some bytes) = λ catalogue log is. (log.entries, refl)
+  first_none (Some bytes) = (λ bad. refl, λ catalogue log is. (log.entries, refl))
+
+  none_valid : AreValid [] × AreImages []
+  none_valid = (λ k e there. absurd (some-ne-none e (sym there)), λ k e there. absurd (some-ne-none e (sym there)))
 
   -- no entry was redone
   pub part_none : (source : Option (List ℕ)) (lanes : List L) → LeavesPart contents failed relations source lanes lanes
-  part_none source lanes = record { entries = []; first = first_none source; lanes = inl (redone_none (map contents lanes) (map failed lanes)) }
+  part_none source lanes = record {
+    entries = [];
+    first = first_none source;
+    valid = none_valid;
+    lanes = inl (redone_none (map contents lanes) (map failed lanes));
+  }
+
+  -- what was marked behind a head
+  pub marks_behind : (source left : Option (List ℕ)) (base : ℕ) (old new : List Marks) → IfSome source (λ bytes. Begins bytes (Some base) left) → MarksFirst (LeadIn relations base left) old new → LeavesUnsynced relations source old new
+  marks_behind source left base old new begins h = record { entries = h.entries; first = first_behind source left base h.entries begins h.first; only = h.only }
+
+  -- nothing was
+  pub marks_none : (source : Option (List ℕ)) (marks : List Marks) → LeavesUnsynced relations source marks marks
+  marks_none source marks = record { entries = []; first = first_none source; only = marks_same (IsEnteredBlock []) marks }
 
   -- bytes are one log
   same_entries : IsCatalogue relations → (bytes : List ℕ) (a b : Log) → IsLogOf relations bytes a → IsLogOf relations bytes b → b.entries ≡ a.entries
@@ -211,9 +247,14 @@ module _ {L : Type 0} (contents : L → Option Pages) (failed : L → Marks) (re
   same_entries catalogue bytes _ _ (from_head base es head reads) (too_short s) = absurd (let long = head.long in omega (arith, long, s))
   same_entries catalogue bytes _ _ (from_head base es head reads) (from_head n ds h more) = read_once relations catalogue base [] (drop 16 bytes) ds es (subst (λ (k : ℕ). Reads relations k [] (drop 16 bytes) ds) (sym h.base_is ∙ head.base_is) more) reads
 
+  -- with a bad head they are none
+  none_of_bad : (bytes : List ℕ) (log : Log) → IsLogOf relations bytes log → HasBadHead bytes → log.entries ≡ []
+  none_of_bad bytes _ (too_short s) bad = refl
+  none_of_bad bytes _ (from_head base es head reads) bad = absurd (bad.1 base head)
+
   first_all : (source : Option (List ℕ)) (log : Log) → IfSome source (λ bytes. IsLogOf relations bytes log) → IfSome source (λ bytes. AreFirstOf relations bytes log.entries)
   first_all None log is = tt
-  first_all (Some bytes) log is = λ catalogue other there. ([], same_entries catalogue bytes log other is there ∙ sym (append-nil log.entries))
+  first_all (Some bytes) log is = (none_of_bad bytes log is, λ catalogue other there. ([], same_entries catalogue bytes log other is there ∙ sym (append-nil log.entries)))
 
   -- what calls leave that change no contents
   redoes_still : (es : List Entry) (old new after : List L) → map contents after ≡ map contents new → map failed after ≡ map failed new → Redoes contents failed es old new → Redoes contents failed es old after
@@ -224,6 +265,7 @@ module _ {L : Type 0} (contents : L → Option Pages) (failed : L → Marks) (re
   part_all source old new after p h same kept = record {
     entries = h.log.entries;
     first = first_all source h.log h.is;
+    valid = (h.upto.law.valid, h.upto.images);
     lanes = inl (redoes_still h.log.entries old new after same kept h.lanes);
   }
 
@@ -248,6 +290,7 @@ module _ {L : Type 0} (contents : L → Option Pages) (failed unsynced places : 
   pub syncing_none : (lanes : List L) → IsSyncing contents failed unsynced places reads writes 0 lanes lanes
   syncing_none lanes = record {
     synced = λ k d low. absurd (omega arith);
+    unmarked = marks_same (λ tag. ⊥) (map unsynced lanes);
     contents_same = refl;
     failed_same = refl;
     reads_same = refl;
@@ -262,6 +305,7 @@ module _ {L : Type 0} (contents : L → Option Pages) (failed unsynced places : 
         (λ (at : k ≡ i). ap (λ (n : ℕ). unsynced (get_or (set lanes i y) n x)) at ∙ ap unsynced (get_or-set_same lanes i y x below) ∙ done)
         (λ (other : k ≡ i → ⊥). ap unsynced (get_or-set_other lanes i k y x other) ∙ h.synced k x (let n : k ≢ i = other in omega arith))
         (cases_eq k i);
+    unmarked = marks_of_none (λ tag. ⊥) (map unsynced old) (map unsynced lanes) (map unsynced (set lanes i y)) h.unmarked (marks_cleared unsynced lanes i y d below done);
     contents_same = map-set_same contents lanes i y d a ∙ h.contents_same;
     failed_same = map-set_same failed lanes i y d b ∙ h.failed_same;
     reads_same = map-set_same reads lanes i y d f ∙ h.reads_same;

@@ -50,8 +50,8 @@ module _ (relations : List RelEntry) where
 
   -- the first entries behind a head are the log's
   pub first_of_log : (bytes : List ℕ) (base : ℕ) (es : List Entry) → IsHead bytes base → AreFirstBehind relations base (drop 16 bytes) es → AreFirstOf relations bytes es
-  first_of_log bytes base es head first catalogue log is = by_log log is
+  first_of_log bytes base es head first = (λ bad. absurd (bad.1 base head), by_log)
     where
-      by_log : (log : Log) → IsLogOf relations bytes log → (rest : List Entry) × (log.entries ≡ es ++ rest)
-      by_log _ (too_short short) = absurd (let long = head.long in omega (arith, long, short))
-      by_log _ (from_head b ds h reads) = first catalogue ds (subst (λ (n : ℕ). Reads relations n [] (drop 16 bytes) ds) (sym h.base_is ∙ head.base_is) reads)
+      by_log : IsCatalogue relations → (log : Log) → IsLogOf relations bytes log → (rest : List Entry) × (log.entries ≡ es ++ rest)
+      by_log catalogue _ (too_short short) = absurd (let long = head.long in omega (arith, long, short))
+      by_log catalogue _ (from_head b ds h reads) = first catalogue ds (subst (λ (n : ℕ). Reads relations n [] (drop 16 bytes) ds) (sym h.base_is ∙ head.base_is) reads)

@@ -23,7 +23,7 @@ either_way : (b : Bool) {A : Type 0} → (b ≡ true → A) → (b ≡ false →
 either_way true x y = x refl
 either_way false x y = y refl
 
-same_tag : (a b : Tag) → tag_eq a b ≡ true → a ≡ b
+pub same_tag : (a b : Tag) → tag_eq a b ≡ true → a ≡ b
 same_tag a b e = grind arith
 
 -- where a block has an entry, which is its whole page, its page after them is the same, whatever it was before
@@ -67,7 +67,7 @@ completed es valid images a b c m n o agree redone = record {
 }
 
 -- an entry among the first is among all
-entered_longer : (es rest : List Entry) (tag : Tag) → IsEnteredBlock es tag → IsEnteredBlock (es ++ rest) tag
+pub entered_longer : (es rest : List Entry) (tag : Tag) → IsEnteredBlock es tag → IsEnteredBlock (es ++ rest) tag
 entered_longer es rest tag (named, (k, e, of)) = (named, (k, e, record { there = at_longer es rest k e of.there; of = of.of }))
 
 module _ (all es rest : List Entry) (is : all ≡ es ++ rest) (valid : AreValid all) where
@@ -112,12 +112,12 @@ pub parts : {L : Type 0} (contents : L → Option Pages) (failed : L → Marks) 
 parts contents failed relations catalogue bytes log is old new part = ⊎_elim
     (λ (x : Redoes contents failed part.entries old new). agree_first log.entries part.entries more.0 more.1 valid (map contents old) (map contents new) (map failed old) (map failed new) x)
     (λ (x : FailsAt contents failed (λ es. AreFirstOf relations bytes es) part.entries old new).
-    let next = x.next catalogue log is in
+    let next = x.next.1 catalogue log is in
     agree_but log.entries part.entries more.0 more.1 valid (map contents old) (map contents new) (map failed old) (map failed new) x.tag (entered_last part.entries next.0 log.entries x.entry x.tag next.1 x.named x.of) x.lanes)
     part.lanes
   where
     more : (rest : List Entry) × (log.entries ≡ part.entries ++ rest)
-    more = part.first catalogue log is
+    more = part.first.1 catalogue log is
 
     valid : AreValid log.entries
     valid = (is_log relations bytes log is).0.valid

@@ -9,9 +9,9 @@ use Rattle.block_tag.specs.declared.tag.Tag.{Tag}
 use Rattle.log_device.specs.Faults.{Rose}
 use Rattle.segment_store.specs.Contents.{Marks, Pages, no_marks, AfterWrite}
 use Rattle.segment_store.specs.Lanes.{lane_at, mark_in, page_in}
-use Rattle.history_core.specs.Log.{AreImages, Entry, Log, LogLaw, log_end, page_after, tag_in}
+use Rattle.history_core.specs.Log.{AreImages, AreValid, Entry, Log, LogLaw, log_end, page_after, tag_in}
 use Rattle.history_core.specs.Unentered.{IsEntered}
-use Rattle.log_recovery.specs.Records.{IsLogOf}
+use Rattle.log_recovery.specs.Records.{HasBadHead, IsLogOf}
 use Rattle.log_recovery.specs.declared.recovering.Redone.{Redone}
 
 -- the blocks whose pages entries change, one for each entry
@@ -69,6 +69,11 @@ pub record WritesTo {E : Type 0} (tag : Tag) (page : List ℕ) (old new : List (
   pub contents : new ≡ slice_set old (lane_number tag (length old)) after
   pub failed : marks_now ≡ slice_set marks (lane_number tag (length marks)) after_marks
 
+-- each tag that was marked since, in any lane, is of this kind
+abbrev pub MarksOnly : (Tag → Type 0) → List Marks → List Marks → Type 0
+MarksOnly kind old new = (q : ℕ) (tag : Tag) → get_or new q no_marks tag ≡ true
+    → (get_or old q no_marks tag ≡ true) ⊎ kind tag
+
 -- some count rose
 abbrev pub AnyRose : List ℕ → List ℕ → Type 0
 AnyRose old new = (q : ℕ) × (q < length old) × Rose (get_or old q 0) (get_or new q 0)
@@ -78,10 +83,22 @@ pub record NoneFell (old new : List ℕ) : Type 0 where
   pub count : length new ≡ length old
   pub each : (q : ℕ) → get_or old q 0 ≤ get_or new q 0
 
--- these are the first entries of the log that the bytes are, for a catalogue of relations
+-- these are the first entries of the log that the bytes are, for a catalogue of relations; none
+-- where the head is bad
 abbrev pub AreFirstOf : List RelEntry → List ℕ → List Entry → Type 0
-AreFirstOf relations bytes es = IsCatalogue relations
-    → (log : Log) → IsLogOf relations bytes log → (rest : List Entry) × (log.entries ≡ es ++ rest)
+AreFirstOf relations bytes es = (HasBadHead bytes → es ≡ []) × (IsCatalogue relations
+    → (log : Log) → IsLogOf relations bytes log → (rest : List Entry) × (log.entries ≡ es ++ rest))
+
+-- Each tag that was marked since is the block of an entry, of first ones that lead
+pub record MarksFirst (leads : List Entry → Type 0) (old new : List Marks) : Type 0 where
+  pub entries : List Entry
+  pub first : leads entries
+  pub only : MarksOnly (IsEnteredBlock entries) old new
+
+-- what a recovery leaves unsynced that wasn't so before: blocks of first entries of the log alone
+abbrev pub LeavesUnsynced : List RelEntry → Option (List ℕ) → List Marks → List Marks → Type 0
+LeavesUnsynced relations source old new =
+    MarksFirst (λ es. IfSome source (λ bytes. AreFirstOf relations bytes es)) old new
 
 module _ {L : Type 0} (contents : L → Option Pages) (failed : L → Marks) where
   abbrev pub Redoes : List Entry → List L → List L → Type 0
@@ -113,6 +130,7 @@ module _ {L : Type 0} (contents : L → Option Pages) (failed : L → Marks) whe
     pub record LeavesFirst (old new : List L) : Type 0 where
       pub entries : List Entry
       pub first : leads entries
+      pub valid : AreValid entries × AreImages entries
       pub lanes : Redoes entries old new ⊎ FailsAt entries old new
 
   -- what a recovery leaves that ended before its end

@@ -13,7 +13,7 @@ use Rattle.history_core.specs.Log.{AreImages, Entry, IsImage, Log, LogLaw, chang
 use Rattle.history_core.specs.State.{last_position}
 use Rattle.segment_store.specs.Lanes.{HoldTheirs}
 use Rattle.log_recovery.specs.Records.{IsHead, IsLogOf, IsRecord, Reads, image_entry}
-use Rattle.log_recovery.specs.Redo.{Redoes, block_count, words_of}
+use Rattle.log_recovery.specs.Redo.{IsEnteredBlock, MarksOnly, Redoes, block_count, words_of}
 use Rattle.log_recovery.specs.declared.redo.Progress.{Progress}
 
 -- after the head: the base, and the bytes behind it; or too few bytes for one
@@ -80,7 +80,7 @@ LeadIn relations base source es = IfSome source (λ bytes. AreFirstBehind relati
 
 module _ {L : Type 0} (contents : L → Option Pages) (failed : L → Marks) where
   -- Records were redone so far, and no call failed
-  pub record IsUnderWay (places : L → Marks) (reads writes : L → ℕ) (relations : List RelEntry)
+  pub record IsUnderWay (unsynced places : L → Marks) (reads writes : L → ℕ) (relations : List RelEntry)
       (base : ℕ) (left left_now : Option (List ℕ)) (faults faults_now : ℕ) (old new : List L)
       (p : Progress) : Type 0 where
     pub done : List Entry
@@ -88,6 +88,7 @@ module _ {L : Type 0} (contents : L → Option Pages) (failed : L → Marks) whe
     pub lanes : Redoes contents failed done old new
     pub stands : StandIn relations base done left left_now
     pub theirs : HoldTheirs (map contents old) → HoldTheirs (map contents new)
+    pub marked : MarksOnly (IsEnteredBlock done) (map unsynced old) (map unsynced new)
     pub source_same : faults_now ≡ faults
     pub reads_same : map reads new ≡ map reads old
     pub writes_same : map writes new ≡ map writes old
@@ -113,6 +114,7 @@ module _ {L : Type 0} (contents : L → Option Pages) (failed : L → Marks) whe
 pub record IsSyncing {L : Type 0} (contents : L → Option Pages) (failed unsynced places : L → Marks)
     (reads writes : L → ℕ) (count : ℕ) (old new : List L) : Type 0 where
   pub synced : (k : ℕ) (d : L) → k < count → unsynced (get_or new k d) ≡ no_marks
+  pub unmarked : MarksOnly (λ tag. ⊥) (map unsynced old) (map unsynced new)
   pub contents_same : map contents new ≡ map contents old
   pub failed_same : map failed new ≡ map failed old
   pub reads_same : map reads new ≡ map reads old

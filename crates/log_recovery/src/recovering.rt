@@ -4,7 +4,7 @@ ghost use Rattle.log_device.specs.Faults.{Rose};
 ghost use Rattle.segment_store.specs.Contents.{no_marks};
 ghost use Rattle.segment_store.specs.Lanes.{HoldTheirs};
 ghost use Rattle.log_recovery.specs.Records.{HasBadHead};
-ghost use Rattle.log_recovery.specs.Redo.{AnyRose, IsRecovered, LeavesPart, NoneFell};
+ghost use Rattle.log_recovery.specs.Redo.{AnyRose, IsRecovered, LeavesPart, LeavesUnsynced, MarksOnly, NoneFell};
 ghost use Rattle.log_recovery.specs.Steps.{HasRedone};
 
 use crate::error::RecoverError;
@@ -28,6 +28,7 @@ pub struct Redone {
 /// Makes the writes to all lanes last.
 fn sync_all<L: BlockLane>(lanes: &mut [L]) -> Result<(), Failed>
     ensures synced { OnOk result (All (λ lane. L.unsynced lane ≡ no_marks) lanes.new) }
+    ensures unsynced { MarksOnly (λ tag. ⊥) (map L.unsynced lanes.old) (map L.unsynced lanes.new) }
     ensures contents { map L.contents lanes.new ≡ map L.contents lanes.old }
     ensures failed { map L.failed_writes lanes.new ≡ map L.failed_writes lanes.old }
     ensures fault { OnErr result
@@ -58,6 +59,8 @@ fn redo_log<L: BlockLane, S: Source>(
     ensures part { OnErr result (LeavesPart L.contents L.failed_writes catalog.now
         (S.left source.old) lanes.old lanes.new) }
     ensures theirs { HoldTheirs (map L.contents lanes.old) → HoldTheirs (map L.contents lanes.new) }
+    ensures unsynced { LeavesUnsynced catalog.now (S.left source.old)
+        (map L.unsynced lanes.old) (map L.unsynced lanes.new) }
     ensures bad { IsErrOf result RecoverError.BadLog → (lanes.new ≡ lanes.old)
         × (S.faults source.new ≡ S.faults source.old) × IfSome (S.left source.old) HasBadHead }
     ensures bad_head { IfSome (S.left source.old)
@@ -67,6 +70,8 @@ fn redo_log<L: BlockLane, S: Source>(
         → Rose (S.faults source.old) (S.faults source.new) }
     ensures write_fault { IsErrOf result RecoverError.WriteFault
         → AnyRose (map L.write_faults lanes.old) (map L.write_faults lanes.new) }
+    ensures short { IsErrOf result RecoverError.Memory → (S.faults source.new ≡ S.faults source.old)
+        × (map L.write_faults lanes.new ≡ map L.write_faults lanes.old) }
     ensures quiet { OnOk result ((S.faults source.new ≡ S.faults source.old)
         × (map L.write_faults lanes.new ≡ map L.write_faults lanes.old)) }
     ensures reads { map L.read_faults lanes.new ≡ map L.read_faults lanes.old }
@@ -98,6 +103,8 @@ pub fn recover<L: BlockLane, S: Source>(
     ensures synced { OnOk result (All (λ lane. L.unsynced lane ≡ no_marks) lanes.new) }
     ensures part { OnErr result (LeavesPart L.contents L.failed_writes catalog.now
         (S.left source.old) lanes.old lanes.new) }
+    ensures unsynced { LeavesUnsynced catalog.now (S.left source.old)
+        (map L.unsynced lanes.old) (map L.unsynced lanes.new) }
     ensures placed { HoldTheirs (map L.contents lanes.new) }
     ensures room { map L.room lanes.new ≡ map L.room lanes.old }
     ensures count { length lanes.new ≡ length lanes.old }
@@ -111,6 +118,9 @@ pub fn recover<L: BlockLane, S: Source>(
         ⊎ AnyRose (map L.read_faults lanes.old) (map L.read_faults lanes.new) }
     ensures write_fault { IsErrOf result RecoverError.WriteFault
         → AnyRose (map L.write_faults lanes.old) (map L.write_faults lanes.new) }
+    ensures short { IsErrOf result RecoverError.Memory → (S.faults source.new ≡ S.faults source.old)
+        × (map L.read_faults lanes.new ≡ map L.read_faults lanes.old)
+        × (map L.write_faults lanes.new ≡ map L.write_faults lanes.old) }
     ensures quiet { OnOk result ((S.faults source.new ≡ S.faults source.old)
         × (map L.read_faults lanes.new ≡ map L.read_faults lanes.old)
         × (map L.write_faults lanes.new ≡ map L.write_faults lanes.old)) }

@@ -4,7 +4,7 @@ ghost use Rattle.block_tag.specs.Names.{names_block};
 ghost use Rattle.log_device.specs.Faults.{HasCause, Rose};
 ghost use Rattle.log_device.specs.declared.device.Failed.{Failed};
 ghost use Rattle.segment_store.specs.Lanes.{HoldTheirs};
-ghost use Rattle.log_recovery.specs.Redo.{AnyRose, LeavesFirst, NoneFell, WritesTo};
+ghost use Rattle.log_recovery.specs.Redo.{AnyRose, LeavesFirst, MarksFirst, MarksOnly, NoneFell, WritesTo};
 ghost use Rattle.log_recovery.specs.Steps.{HasNoRecord, HaveRedone, IsNextImage, IsUpto, LeadIn, StepsOn};
 
 use crate::error::RecoverError;
@@ -51,6 +51,8 @@ fn write_to_lane<L: BlockLane>(lanes: &mut [L], tag: Tag, page: &Page) -> Result
     ensures fault { OnErr result
         (AnyRose (map L.write_faults lanes.old) (map L.write_faults lanes.new)) }
     ensures quiet { OnOk result (map L.write_faults lanes.new ≡ map L.write_faults lanes.old) }
+    ensures unsynced { MarksOnly (λ t. t ≡ tag) (map L.unsynced lanes.old)
+        (map L.unsynced lanes.new) }
     ensures reads { map L.read_faults lanes.new ≡ map L.read_faults lanes.old }
     ensures room { map L.room lanes.new ≡ map L.room lanes.old }
     ensures later { NoneFell (map L.write_faults lanes.old) (map L.write_faults lanes.new) }
@@ -113,6 +115,8 @@ fn redo_image<L: BlockLane>(
         → AnyRose (map L.write_faults lanes.old) (map L.write_faults lanes.new) }
     ensures others { IfErr result (λ e. (e ≡ RecoverError.Memory) ⊎ (e ≡ RecoverError.WriteFault)) }
     ensures quiet { OnOk result (map L.write_faults lanes.new ≡ map L.write_faults lanes.old) }
+    ensures unsynced { MarksOnly (λ t. t ≡ tag) (map L.unsynced lanes.old)
+        (map L.unsynced lanes.new) }
     ensures reads { map L.read_faults lanes.new ≡ map L.read_faults lanes.old }
     ensures room { map L.room lanes.new ≡ map L.room lanes.old }
     ensures later { NoneFell (map L.write_faults lanes.old) (map L.write_faults lanes.new) }
@@ -145,11 +149,15 @@ pub(crate) fn redo_from<L: BlockLane, S: Source>(
     ensures part { OnErr result (LeavesFirst L.contents L.failed_writes
         (LeadIn catalog.now base (S.left source.old)) lanes.old lanes.new) }
     ensures theirs { HoldTheirs (map L.contents lanes.old) → HoldTheirs (map L.contents lanes.new) }
+    ensures unsynced { MarksFirst (LeadIn catalog.now base (S.left source.old))
+        (map L.unsynced lanes.old) (map L.unsynced lanes.new) }
     ensures others { IsErrOf result RecoverError.BadLog → ⊥ }
     ensures read_fault { IsErrOf result RecoverError.ReadFault
         → Rose (S.faults source.old) (S.faults source.new) }
     ensures write_fault { IsErrOf result RecoverError.WriteFault
         → AnyRose (map L.write_faults lanes.old) (map L.write_faults lanes.new) }
+    ensures short { IsErrOf result RecoverError.Memory → (S.faults source.new ≡ S.faults source.old)
+        × (map L.write_faults lanes.new ≡ map L.write_faults lanes.old) }
     ensures quiet { OnOk result ((S.faults source.new ≡ S.faults source.old)
         × (map L.write_faults lanes.new ≡ map L.write_faults lanes.old)) }
     ensures reads { map L.read_faults lanes.new ≡ map L.read_faults lanes.old }

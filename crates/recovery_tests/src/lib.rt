@@ -13,6 +13,8 @@ mod fault_tests;
 #[cfg(test)]
 mod form_tests;
 #[cfg(test)]
+mod host_tests;
+#[cfg(test)]
 mod kept_lane;
 #[cfg(test)]
 mod log_bytes;

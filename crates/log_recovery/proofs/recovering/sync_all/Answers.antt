@@ -1,6 +1,7 @@
-use Rattle.std.proofs.Common.{◌∙◌, arith}
+use Rattle.std.proofs.Common.{◌∙◌, map, arith}
 use Rattle.std.proofs.Math.Seq.{map-set_same}
 use Rattle.log_recovery.proofs.Faults.{none_fell_at, none_fell_since, on_err, rose_at, rose_since}
+use Rattle.log_recovery.proofs.Marking.{marks_kept, marks_of_none}
 use Rattle.log_recovery.proofs.Running.{syncing_more}
 use Rattle.log_recovery.proofs.recovering.sync_all.Goals as goal
 
@@ -26,3 +27,7 @@ pub loop-index-preserved : goal.loop-index-preserved
 loop-index-preserved g c = syncing_more {L = g.row.L.Denot} g.L.BlockLane.contents g.L.BlockLane.failed_writes g.L.BlockLane.unsynced g.L.BlockLane.room g.L.BlockLane.read_faults g.L.BlockLane.write_faults
     c.loop-index.index c.args.lanes.now c.loop-index.lanes c.sync.new.self c.index-lanes-index.result (omega arith) c.loop-index.invariant c.sync.ensures.contents c.sync.ensures.failed c.in_ok-sync.ensures.unsynced
     c.sync.ensures.room c.sync.ensures.reads c.in_ok-sync.ensures.writes.ok
+
+pub returns-in_err-sync-clause-unsynced : goal.returns-in_err-sync-clause-unsynced
+returns-in_err-sync-clause-unsynced g c = marks_of_none (λ tag. ⊥) (map g.L.BlockLane.unsynced c.args.lanes.now) (map g.L.BlockLane.unsynced c.loop-index.lanes) _ c.loop-index.invariant.unmarked
+    (marks_kept {L = g.row.L.Denot} g.L.BlockLane.unsynced c.loop-index.lanes c.loop-index.index c.sync.new.self c.index-lanes-index.result (omega arith) c.in_err-sync.ensures.unsynced)
