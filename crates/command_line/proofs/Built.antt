@@ -10,7 +10,7 @@ use Rattle.std.proofs.lemmas.Result.{IfOk-weaker}
 use Rattle.std.specs.Cmp.Derive.{both_true}
 use Rattle.clap.specs.Simple.{built}
 use Rattle.clap.specs.Faults.{is_free_app}
-use Rattle.command_line.specs.Grammar.{tool_app, with_options}
+use Rattle.command_line.specs.Grammar.{recover_app, tool_app, with_options}
 
 -- an argument more is a rule more
 pub arg_added : (old : Command) (arg : Arg) (new : Command) (app : App) (rule : Rule) → AddsArg old arg new → arg.global ≡ false
@@ -42,12 +42,12 @@ subcommand_added old sub new app inner adds local is before =
 
 -- the command line is simple, so what clap makes of words is exact
 tool_is_simple : is_simple tool_app ≡ true
-unfolding tool_app with_options
+unfolding tool_app with_options recover_app
 tool_is_simple = refl
 
 -- no argument has a rule on another; the two are computed apart, each once
 arguments_are_free : is_free_app (built tool_app) ≡ true
-unfolding tool_app with_options
+unfolding tool_app with_options recover_app
 arguments_are_free = refl
 
 tool_is_free : is_simple_and_free tool_app ≡ true

@@ -25,7 +25,7 @@ option_rule range default = record (new_rule range.name) {
 abbrev pub log_rule : Rule
 log_rule = record (text_rule (codes "log")) { long = Some (codes "log") }
 
--- the options of each command, with their defaults
+-- the options of a command with a buffer manager, with their defaults
 unfoldable pub with_options : App → App
 with_options app =
     let a = with_rule app (option_rule backends_range (codes "1")) in
@@ -43,6 +43,13 @@ abbrev pub rewrite_app : App
 rewrite_app =
     with_options (with_rule (with_rule (new_app (codes "rewrite")) (text_rule (codes "path"))) log_rule)
 
+-- `recover PATH --log FILE`, with two of the options
+unfoldable pub recover_app : App
+recover_app =
+    let a = with_rule (with_rule (new_app (codes "recover")) (text_rule (codes "path"))) log_rule in
+    let b = with_rule a (option_rule lanes_range (codes "4")) in
+    with_rule b (option_rule segment_blocks_range (codes "131072"))
+
 -- `sample SEED BLOCKS`
 abbrev pub sample_app : App
 sample_app =
@@ -59,4 +66,5 @@ tool_app =
     let a = with_subcommand bare_app (path_app (codes "scan")).top in
     let b = with_subcommand a (path_app (codes "dump")).top in
     let c = with_subcommand b rewrite_app.top in
-    with_subcommand c sample_app.top
+    let d = with_subcommand c recover_app.top in
+    with_subcommand d sample_app.top

@@ -5,7 +5,7 @@ use Rattle.clap.specs.Words.{Row, Text, fault_of, first_of, subcommand_of}
 use Rattle.clap.specs.Walk.{is_empty}
 use Rattle.segment_store.specs.Paths.{fork_of}
 use Rattle.command_line.specs.RelationPath.{is_file_of, is_main_fork, is_relation_path}
-use Rattle.command_line.specs.Numbers.{HasOptionsInRange, LiesIn, blocks_range, number_in, options_in, seed_range}
+use Rattle.command_line.specs.Numbers.{HasOptionsInRange, LiesIn, blocks_range, lanes_range, number_in, options_in, seed_range, segment_blocks_range}
 use Rattle.command_line.specs.Grammar.{tool_app}
 use Rattle.command_line.specs.declared.numbers.Options.{Options}
 use Rattle.command_line.specs.declared.commands.Command.{Command}
@@ -16,12 +16,14 @@ pub data Spelled : Type 0 where
   scan : Text → Options → Spelled
   dump : Text → Options → Spelled
   rewrite : Text → Text → Options → Spelled
+  recover : Text → Text → ℕ → ℕ → Spelled
   sample : ℕ → ℕ → Options → Spelled
 
 abbrev pub spelled : Command → Spelled
 spelled (command.Scan path options) = scan path.now options
 spelled (command.Dump path options) = dump path.now options
 spelled (command.Rewrite path log options) = rewrite path.now log.now options
+spelled (command.Recover path log lanes seg_blocks) = recover path.now log.now lanes seg_blocks
 spelled (command.Sample seed blocks options) = sample seed blocks options
 
 -- each number of the command lies in its range
@@ -29,6 +31,8 @@ abbrev pub HasNumbersInRange : Spelled → Type 0
 HasNumbersInRange (scan path options) = HasOptionsInRange options
 HasNumbersInRange (dump path options) = HasOptionsInRange options
 HasNumbersInRange (rewrite path log options) = HasOptionsInRange options
+HasNumbersInRange (recover path log lanes seg_blocks) =
+    LiesIn lanes_range lanes × LiesIn segment_blocks_range seg_blocks
 HasNumbersInRange (sample seed blocks options) =
     LiesIn seed_range seed × LiesIn blocks_range blocks × HasOptionsInRange options
 
@@ -51,12 +55,19 @@ abbrev pub rewrite_in : List Row → Options → Option Spelled
 rewrite_in rows options =
     option_and_then (λ path. option_map (λ log. rewrite path log options) (log_in path rows)) (main_path_in rows)
 
+-- a recovery takes two of the options
+abbrev pub recover_in : List Row → Option Spelled
+recover_in rows =
+    option_and_then (λ path. option_and_then (λ log. option_and_then (λ lanes.
+    option_map (λ seg_blocks. recover path log lanes seg_blocks) (number_in segment_blocks_range rows))
+    (number_in lanes_range rows)) (log_in path rows)) (main_path_in rows)
+
 abbrev pub sample_in : List Row → Options → Option Spelled
 sample_in rows options =
     option_and_then (λ seed. option_map (λ blocks. sample seed blocks options) (number_in blocks_range rows))
     (number_in seed_range rows)
 
--- the command of a subcommand's name, its matches and its options
+-- the command of a subcommand's name, its matches and all options
 abbrev pub command_named : Text → List Row → Options → Option Spelled
 command_named name rows options =
     if bytes_eq name (codes "scan") then option_map (λ path. scan path options) (relation_path_in rows)
@@ -66,7 +77,9 @@ command_named name rows options =
 
 -- the command of a subcommand and its matches
 abbrev pub command_of_subcommand : Text × List Row → Option Spelled
-command_of_subcommand found = option_and_then (command_named found.0 found.1) (options_in found.1)
+command_of_subcommand found =
+    if bytes_eq found.0 (codes "recover") then recover_in found.1
+    else option_and_then (command_named found.0 found.1) (options_in found.1)
 
 -- the command that the words spell: none where clap refuses them, or where a path or a log doesn't pass its test
 unfoldable pub command_of : List Text → Option Spelled

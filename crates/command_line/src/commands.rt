@@ -2,10 +2,12 @@
 ghost use Rattle.std.specs.Prelude.{◌≡◌, ◌≢◌, IfOk, IfSome, None, map, option_and_then, option_map, string_bytes};
 ghost use Rattle.clap.specs.Words.{found_of, kind_of, rows_of, subcommand_rows_of};
 ghost use Rattle.command_line.specs.Numbers.{HasOptionsInRange};
-ghost use Rattle.command_line.specs.Spelled.{HasNumbersInRange, command_of_subcommand, command_named, command_of, log_in, main_path_in, relation_path_in, spelled};
+ghost use Rattle.command_line.specs.Spelled.{HasNumbersInRange, command_of_subcommand, command_named, command_of, log_in, main_path_in, recover_in, relation_path_in, spelled};
 
 use crate::grammar::parse;
-use crate::numbers::{BLOCKS, Options, SEED, number_in, options_in, text_in};
+use crate::numbers::{
+    BLOCKS, LANES, Options, SEED, SEGMENT_BLOCKS, number_in, options_in, text_in,
+};
 use crate::relation_path::{is_file_of, is_main_path, is_relation_path};
 use clap::error::ErrorKind;
 use clap::{ArgMatches, Error};
@@ -31,6 +33,14 @@ pub enum Command<'a> {
         path: &'a str,
         log: &'a str,
         options: Options,
+    },
+
+    /// `recover PATH --log FILE`: redoes the log of a rewrite of a relation's main fork.
+    Recover {
+        path: &'a str,
+        log: &'a str,
+        lanes: u32,
+        seg_blocks: u32,
     },
 
     /// `sample SEED BLOCKS`: scans and rewrites a relation that is made from a number.
@@ -73,6 +83,23 @@ fn log_in<'a>(path: &str, matches: &ArgMatches<'a>) -> Option<&'a str>
     }
 }
 
+/// `recover` among the matches. It takes two of the options.
+fn recover_in<'a>(matches: &ArgMatches<'a>) -> Option<Command<'a>>
+    ensures spelled { option_map spelled result ≡ recover_in (rows_of (found_of matches.now)) }
+    ensures ranges { IfSome result (λ c. HasNumbersInRange (spelled c)) }
+{
+    let path = main_path_in(matches)?;
+    let log = log_in(path, matches)?;
+    let lanes = number_in(matches, LANES)?;
+    let seg_blocks = number_in(matches, SEGMENT_BLOCKS)?;
+    Some(Command::Recover {
+        path,
+        log,
+        lanes,
+        seg_blocks,
+    })
+}
+
 /// The command of a subcommand's name, its matches and its options.
 fn command_named<'a>(name: &str, matches: &ArgMatches<'a>, options: Options) -> Option<Command<'a>>
     requires { HasOptionsInRange options }
@@ -110,6 +137,9 @@ fn command_of_subcommand<'a>(matches: &ArgMatches<'a>) -> Option<Command<'a>>
     ensures ranges { IfSome result (λ c. HasNumbersInRange (spelled c)) }
 {
     let (name, found) = matches.subcommand()?;
+    if name == "recover" {
+        return recover_in(found);
+    }
     let options = options_in(found)?;
     command_named(name, found, options)
 }

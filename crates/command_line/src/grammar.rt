@@ -3,7 +3,7 @@ ghost use Rattle.std.specs.Prelude.{◌≡◌, IfOk, false, map, string_bytes};
 ghost use Rattle.clap.specs.Words.{FailsBy, app_of, fault_of, rule_of, subcommand_of};
 ghost use Rattle.clap.specs.declared.builder.command.Command.TheViews.{out-Command as fields_of};
 ghost use Rattle.clap.specs.Simple.{subcommand_rows_of};
-ghost use Rattle.command_line.specs.Grammar.{bare_app, log_rule, number_rule, option_rule, path_app, rewrite_app, sample_app, text_rule, tool_app, with_options};
+ghost use Rattle.command_line.specs.Grammar.{bare_app, log_rule, number_rule, option_rule, path_app, recover_app, rewrite_app, sample_app, text_rule, tool_app, with_options};
 ghost use Rattle.command_line.specs.Numbers.{range_of};
 
 use crate::numbers::{BACKENDS, BGWRITER, BLOCKS, FRAMES, LANES, NumberArg, SEED, SEGMENT_BLOCKS};
@@ -49,7 +49,7 @@ fn log_option<'a>(alloc: Global) -> Arg<'a>
     text_arg(alloc, "log").long("log")
 }
 
-/// The command with the options that every command takes.
+/// The command with the options that a command with a buffer manager takes.
 fn with_options<'a>(alloc: Global, command: Command<'a>) -> Result<Command<'a>, AllocError>
     requires { (fields_of command).has_globals ≡ false }
     ensures app { IfOk result (λ c. app_of c ≡ with_options (app_of command.entry)) }
@@ -90,6 +90,23 @@ fn rewrite_command<'a>(alloc: Global) -> Result<Command<'a>, AllocError>
     with_options(alloc, command)
 }
 
+/// `recover PATH --log FILE`.
+fn recover_command<'a>(alloc: Global) -> Result<Command<'a>, AllocError>
+    ensures app { IfOk result (λ c. app_of c ≡ recover_app) }
+    ensures local { IfOk result (λ c. (fields_of c).has_globals ≡ false) }
+{
+    let path = text_arg(alloc, "path");
+    let log = log_option(alloc);
+    let lanes = number_option(alloc, LANES, "4");
+    let segment_blocks = number_option(alloc, SEGMENT_BLOCKS, "131072");
+    let command = Command::new(alloc, "recover")
+        .arg(path)?
+        .arg(log)?
+        .arg(lanes)?
+        .arg(segment_blocks)?;
+    Ok(command)
+}
+
 /// `sample SEED BLOCKS`.
 fn sample_command<'a>(alloc: Global) -> Result<Command<'a>, AllocError>
     ensures app { IfOk result (λ c. app_of c ≡ sample_app) }
@@ -110,18 +127,20 @@ fn bare_command<'a>(alloc: Global) -> Command<'a>
         .subcommand_required(true)
 }
 
-/// The command line with its four subcommands.
+/// The command line with its five subcommands.
 fn tool_command<'a>(alloc: Global) -> Result<Command<'a>, AllocError>
     ensures { IfOk result (λ c. app_of c ≡ tool_app) }
 {
     let scan = path_command(alloc, "scan")?;
     let dump = path_command(alloc, "dump")?;
     let rewrite = rewrite_command(alloc)?;
+    let recover = recover_command(alloc)?;
     let sample = sample_command(alloc)?;
     let tool = bare_command(alloc)
         .subcommand(scan)?
         .subcommand(dump)?
         .subcommand(rewrite)?
+        .subcommand(recover)?
         .subcommand(sample)?;
     Ok(tool)
 }

@@ -55,7 +55,7 @@ pub(crate) const BLOCKS: NumberArg = NumberArg {
     greatest: 16_384,
 };
 
-/// The options that every command takes.
+/// The options that a command with a buffer manager takes.
 #[derive(Clone, Copy, PartialEq, Eq, Debug)]
 pub struct Options {
     /// How many backends do the work, 1 to 32: `--backends`, or 1.
