@@ -1,5 +1,5 @@
 -- Counts of faults to which those of lanes and of a log are added.
-use Rattle.std.proofs.Common.{◌≡◌, ℕ, zero, suc, ◌-◌, ◌%◌, ◌^◌, ◌<◌, ◌≤◌, List, [], ◌∷◌, get_or, length, map, set, refl, sym, ◌∙◌, ap, subst, arith}
+use Rattle.std.proofs.Common.{◌≡◌, ℕ, zero, suc, ◌%◌, ◌^◌, ◌<◌, ◌≤◌, List, [], ◌∷◌, get_or, length, map, set, refl, sym, ◌∙◌, ap, subst, arith}
 use Rattle.std.specs.Prelude.{sum_by}
 use Rattle.std.proofs.lemmas.List.{length-map}
 use Rattle.std.proofs.lemmas.List.Sums.{get_or-le-sum_by, sum_by-cons}
@@ -28,7 +28,7 @@ pub rose_from_none : (n : ℕ) → Rose 0 n → 0 < n
 rose_from_none n rose = omega arith
 
 module _ {L : Type 0} (faults : L → ℕ) where
-  sum_of_map : (ls : List L) → sum_by (λ (n : ℕ). n) (map faults ls) ≡ sum_by faults ls
+  pub sum_of_map : (ls : List L) → sum_by (λ (n : ℕ). n) (map faults ls) ≡ sum_by faults ls
   sum_of_map [] = refl
   sum_of_map (l ∷ ls) =
       let a = sum_by-cons (λ (n : ℕ). n) (faults l) (map faults ls) in

@@ -1,5 +1,5 @@
 -- What the steps of a rewrite leave of a host's files.
-use Rattle.std.proofs.Common.{◌≡◌, ◌≢◌, ℕ, ◌<◌, Bool, true, false, List, [], ◌++◌, map, Option, Some, None, Result, Ok, Err, refl, sym, ap, ◌∙◌, subst, arith}
+use Rattle.std.proofs.Common.{◌≡◌, ◌≢◌, ℕ, ◌<◌, ◌≤◌, Bool, true, false, List, [], ◌++◌, map, Option, Some, None, Result, Ok, Err, refl, sym, ap, ◌∙◌, subst, arith}
 use Rattle.std.specs.Prelude.{All, IfErr, IfOk, IfSome, IsSome, IsSomeAnd, OnOk, option_map}
 use Rattle.block_tag.specs.declared.tag.Fork.{Fork}
 use Rattle.block_tag.specs.declared.tag.Fork.TheVariants.{Main}
@@ -15,12 +15,13 @@ use Rattle.segment_store.specs.Restored.{marks_after, pages_in, paths_after}
 use Rattle.segment_store.proofs.GivenBack.{paths_same}
 use Rattle.pin_core.specs.State.{Page}
 use Rattle.history_core.specs.Log.{head_bytes}
+use Rattle.history_core.specs.State.{last_position}
 use Rattle.page_jobs.specs.Rewrites.{rule_of}
 use Rattle.relation_commands.specs.declared.rewriting.RewriteError.{RewriteError}
 use Rattle.relation_commands.specs.declared.rewriting.RewriteError.TheVariants.{ReadFault, WriteFault, LogFault, OutFault, Memory, OverLimit}
 use Rattle.relation_commands.specs.declared.starting.RelationFork.{RelationFork}
 use Rattle.relation_commands.specs.Limits.{log_base}
-use Rattle.relation_commands.specs.Request.{RewriteAsked}
+use Rattle.relation_commands.specs.Request.{LoggedAsked}
 use Rattle.relation_commands.specs.RewriteCommand.{AreSurveyed, IsLogRefusal, IsPutRefusal, IsSurveyRefusal, LeavesByEnd, OpensLog}
 use Rattle.relation_commands.specs.RewriteFiles.{BecomesOf, Changes, HostFiles, IsHeadBegun, IsRewrittenAt, KeepsFiles, KeepsPaths, RewriteLeaves, RewritesFiles, files_of, fork_at, log_opened, main_rule, pages_at, relation_at, rewrote, untouched, with_blocks}
 use Rattle.relation_commands.specs.RewriteResults.{IsRewrittenFile, LeavesEither}
@@ -51,14 +52,14 @@ some_known None is = absurd (let no : false ≡ true = is in cc)
 some_known (Some x) is = (x, refl)
 
 -- what became of files that are known
-record Became (c : Told) (Leaves : HostFiles → Type 0) : Type 0 where
-  paths : Paths
-  logs : Logs
-  paths_are : c.contents ≡ Some paths
-  logs_are : c.logs ≡ Some logs
-  leaves : Leaves (record { paths = paths; failed = c.failed; logs = logs })
+pub record Became (c : Told) (Leaves : HostFiles → Type 0) : Type 0 where
+  pub paths : Paths
+  pub logs : Logs
+  pub paths_are : c.contents ≡ Some paths
+  pub logs_are : c.logs ≡ Some logs
+  pub leaves : Leaves (record { paths = paths; failed = c.failed; logs = logs })
 
-becomes_by : (known : Option Paths) (marks : PathMarks) (told : Option Logs) (c : Told) (Leaves : HostFiles → HostFiles → Type 0)
+pub becomes_by : (known : Option Paths) (marks : PathMarks) (told : Option Logs) (c : Told) (Leaves : HostFiles → HostFiles → Type 0)
     → ((paths : Paths) (logs : Logs) → known ≡ Some paths → told ≡ Some logs → Became c (Leaves (record { paths = paths; failed = marks; logs = logs })))
     → BecomesOf (files_of known marks told) (files_of c.contents c.failed c.logs) Leaves
 becomes_by None marks told c Leaves all = tt
@@ -69,7 +70,7 @@ becomes_by (Some paths) marks (Some logs) c Leaves all =
     subst (λ (o : Option Paths). IsSomeAnd (files_of o c.failed c.logs) (Leaves old)) (sym became.paths_are)
     (subst (λ (o : Option Logs). IsSomeAnd (files_of (Some became.paths) c.failed o) (Leaves old)) (sym became.logs_are) became.leaves)
 
-at_some : {A : Type 0} (o : Option A) (P : A → Type 0) (x : A) → o ≡ Some x → IfSome o P → P x
+pub at_some : {A : Type 0} (o : Option A) (P : A → Type 0) (x : A) → o ≡ Some x → IfSome o P → P x
 at_some {A = A} o P x is all = subst (λ (p : Option A). IfSome p P) is all
 
 pub of_none : {A : Type 0} (o : Option A) (P : A → Type 0) → ((x : A) → P x) → IfSome o P
@@ -146,7 +147,7 @@ rewrite_puts_nothing : (reads writes logs logs_now : ℕ) (end : Result RewriteT
 rewrite_puts_nothing reads writes logs logs_now (Ok totals) has = tt
 rewrite_puts_nothing reads writes logs logs_now (Err e) has = rewrite_cause reads writes logs logs_now e has.cause
 
-module _ (r : RewriteAsked) (old new : HostFiles) where
+module _ (r : LoggedAsked) (old new : HostFiles) where
   -- nothing was written
   pub keeps_all : (status : ℕ) → (status ≡ 0 → ⊥) → (status ≡ 7 → ⊥) → KeepsFiles r old new → RewritesFiles r status old new
   keeps_all status some unput keeps = record {
@@ -178,7 +179,7 @@ module _ (r : RewriteAsked) (old new : HostFiles) where
   after_put totals faults faults_now (Err LogFault) why leaves = absurd why
   after_put totals faults faults_now (Err (OverLimit limit)) why leaves = absurd why
 
-module _ {L G : Type 0} (contents : L → Option Pages) (failed : L → Marks) (bytes : G → Option (List ℕ)) (synced : G → ℕ) (r : RewriteAsked) where
+module _ {L G : Type 0} (contents : L → Option Pages) (failed : L → Marks) (bytes : G → Option (List ℕ)) (synced : G → ℕ) (r : LoggedAsked) where
   -- the relation that is asked for is open
   abbrev pub IsOpen : Told → Type 0
   IsOpen a = IfSome a.contents (λ _. a.open_at ≡ relation_at r)
@@ -261,10 +262,10 @@ module _ {L G : Type 0} (contents : L → Option Pages) (failed : L → Marks) (
   -- A log that couldn't be begun was given back, if it was opened, with lanes that were not written
   pub refused : (a b c : Told) (lanes : List L) (base : ℕ) (log : Option G) (logs_before logs_now faults : ℕ) (e : RewriteError) → IsOpen a → All (λ lane. failed lane ≡ no_marks) lanes
       → IfSome a.contents (λ paths. paths r.path ≢ []) → IfSome a.contents (λ paths. HoldPages (fork_of r.path) (pages_at r paths) (map contents lanes))
-      → IfSome a.contents (λ paths. base ≡ log_base (pages_at r paths)) → IfSome log (λ l. IfSome (bytes l) (IsHeadBegun base))
+      → base ≤ last_position → IfSome a.contents (λ paths. base ≡ log_base (pages_at r paths)) → IfSome log (λ l. IfSome (bytes l) (IsHeadBegun base))
       → SamePaths a b → OpensLog log r.log a.logs b.logs b.log_at → ((l : G) → IfSome b.logs (λ _. IsSome (bytes l))) → IsLogRefusal logs_before logs_now faults e → GivesBack b c lanes log
       → BecomesOf (files_of a.contents a.failed a.logs) (files_of c.contents c.failed c.logs) (LeavesByEnd {T = RewriteTotals} r (Err e))
-  refused a b c lanes base None logs_before logs_now faults e open_so unmarked there held base_is begun same opens told why gives =
+  refused a b c lanes base None logs_before logs_now faults e open_so unmarked there held low base_is begun same opens told why gives =
       becomes_by a.contents a.failed a.logs c (LeavesByEnd {T = RewriteTotals} r (Err e)) (λ paths logs known logs_known.
       let there_so = at_some a.contents (λ ps. ps r.path ≢ []) paths known there in
       let held_so = at_some a.contents (λ ps. HoldPages (fork_of r.path) (pages_at r ps) (map contents lanes)) paths known held in
@@ -278,7 +279,7 @@ module _ {L G : Type 0} (contents : L → Option Pages) (failed : L → Marks) (
           logs = refl;
         });
       })
-  refused a b c lanes base (Some log) logs_before logs_now faults e open_so unmarked there held base_is begun same opens told why gives =
+  refused a b c lanes base (Some log) logs_before logs_now faults e open_so unmarked there held low base_is begun same opens told why gives =
       becomes_by a.contents a.failed a.logs c (LeavesByEnd {T = RewriteTotals} r (Err e)) (λ paths logs known logs_known.
       let there_so = at_some a.contents (λ ps. ps r.path ≢ []) paths known there in
       let held_so = at_some a.contents (λ ps. HoldPages (fork_of r.path) (pages_at r ps) (map contents lanes)) paths known held in
@@ -289,6 +290,7 @@ module _ {L G : Type 0} (contents : L → Option Pages) (failed : L → Marks) (
         paths_are = given_paths a b c lanes (Some log) open_so same gives paths known there_so;
         logs_are = given_file a b c lanes logs logs_known log log opens (told log) gives;
         leaves = by_end r _ _ (Err e) (log_opened (record { bytes = file.0; synced = synced log })
+            (subst (λ (n : ℕ). n ≤ last_position) (at_some a.contents (λ ps. base ≡ log_base (pages_at r ps)) paths known base_is) low)
             (subst (λ (n : ℕ). IsHeadBegun n file.0) (at_some a.contents (λ ps. base ≡ log_base (pages_at r ps)) paths known base_is) (at_some (bytes log) (IsHeadBegun base) file.0 file.1 begun))
             (kept_paths lanes paths a.failed c.failed logs _ unmarked held_so (given_marks a b c lanes (Some log) open_so same gives paths known there_so)) refl)
             tt (log_refusal logs_before logs_now faults e why) (log_puts_nothing logs_before logs_now faults e why);

@@ -42,7 +42,7 @@ pub marks_elsewhere : (at : OpenAt) (lanes : List Marks) (marks : PathMarks) (ot
 marks_elsewhere at lanes marks other not = rw not
 
 module _ {L : Type 0} (failed : L → Marks) where
-  unmarked_at : (lanes : List L) (q : ℕ) → All (λ lane. failed lane ≡ no_marks) lanes → get_or (map failed lanes) q no_marks ≡ no_marks
+  pub unmarked_at : (lanes : List L) (q : ℕ) → All (λ lane. failed lane ≡ no_marks) lanes → get_or (map failed lanes) q no_marks ≡ no_marks
   unmarked_at [] q all = refl
   unmarked_at (lane ∷ lanes) zero all = all 0 lane (omega arith)
   unmarked_at (lane ∷ lanes) (suc q) all = unmarked_at lanes q (λ k y below. all (suc k) y (omega arith))

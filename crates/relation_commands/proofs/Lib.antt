@@ -19,3 +19,12 @@ mod RewriteOutcome
 mod RewriteUntouched
 mod PagesAfter
 mod Sampled
+mod WholePages
+mod RecoverNames
+mod Redone
+mod RedoEnds
+pub mod RecoverGiven
+mod RecoverCauses
+mod LostLogs
+mod RecoverRewrite
+mod RecoveredPages

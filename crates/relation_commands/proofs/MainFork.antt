@@ -1,4 +1,4 @@
--- A rewrite that words ask for is of a main fork.
+-- A rewrite and a recovery that words ask for are of a main fork.
 use Rattle.std.proofs.Common.{◌≡◌, ℕ, Bool, true, false, List, Option, Some, None, if◌then◌else◌, refl, sym, subst}
 use Rattle.std.specs.Prelude.{IfSome, codes, option_and_then, option_map}
 use Rattle.std.specs.Str.{bytes_eq}
@@ -10,17 +10,18 @@ use Rattle.segment_store.specs.Paths.{fork_of}
 use Rattle.command_line.specs.declared.commands.Command.{Command}
 use Rattle.command_line.specs.declared.numbers.Options.{Options}
 use Rattle.command_line.specs.Grammar.{tool_app}
-use Rattle.command_line.specs.Numbers.{blocks_range, number_in, options_in, seed_range}
+use Rattle.command_line.specs.Numbers.{blocks_range, lanes_range, number_in, options_in, seed_range, segment_blocks_range}
 use Rattle.command_line.specs.RelationPath.{is_main_fork}
-use Rattle.command_line.specs.Spelled.{Spelled, command_named, command_of, command_of_subcommand, dump, log_in, main_path_in, relation_path_in, rewrite, rewrite_in, sample, sample_in, scan, spelled}
+use Rattle.command_line.specs.Spelled.{Spelled, command_named, command_of, command_of_subcommand, dump, log_in, main_path_in, recover, recover_in, relation_path_in, rewrite, rewrite_in, sample, sample_in, scan, spelled}
 use Rattle.relation_commands.specs.declared.request.Request.{Request}
 use Rattle.relation_commands.specs.Request.{IsOfMainFork, asked, asked_by}
 
--- a command that is no rewrite, or one of a main fork
+-- a command that is no rewrite and no recovery, or one of a main fork
 abbrev IsOfMain : Spelled → Type 0
 IsOfMain (scan path options) = Unit {0}
 IsOfMain (dump path options) = Unit {0}
 IsOfMain (rewrite path log options) = fork_of path ≡ Main
+IsOfMain (recover path log lanes seg_blocks) = fork_of path ≡ Main
 IsOfMain (sample seed blocks options) = Unit {0}
 
 by_test : {B : Type 0} (P : B → Type 0) (t : Bool) (x y : Option B) → IfSome x P → IfSome y P → IfSome (if t then x else y) P
@@ -58,6 +59,14 @@ rewrite_of_main : (rows : List Row) (options : Options) → IfSome (rewrite_in r
 rewrite_of_main rows options = by_then IsOfMain (λ (p : Text). fork_of p ≡ Main) (λ (path : Text). option_map (λ (log : Text). rewrite path log options) (log_in path rows)) (main_path_in rows) (path_of_main rows)
     (λ path main. by_map IsOfMain (λ (log : Text). rewrite path log options) (log_in path rows) (λ log. main))
 
+recover_of_main : (rows : List Row) → IfSome (recover_in rows) IsOfMain
+recover_of_main rows = by_then IsOfMain (λ (p : Text). fork_of p ≡ Main) (λ (path : Text). option_and_then (λ (log : Text). option_and_then (λ (lanes : ℕ).
+    option_map (λ (seg_blocks : ℕ). recover path log lanes seg_blocks) (number_in segment_blocks_range rows)) (number_in lanes_range rows)) (log_in path rows)) (main_path_in rows) (path_of_main rows)
+    (λ path main. by_then IsOfMain (λ (log : Text). Unit {0}) (λ (log : Text). option_and_then (λ (lanes : ℕ). option_map (λ (seg_blocks : ℕ). recover path log lanes seg_blocks) (number_in segment_blocks_range rows)) (number_in lanes_range rows))
+    (log_in path rows) (any (log_in path rows))
+    (λ log _. by_then IsOfMain (λ (n : ℕ). Unit {0}) (λ (lanes : ℕ). option_map (λ (seg_blocks : ℕ). recover path log lanes seg_blocks) (number_in segment_blocks_range rows)) (number_in lanes_range rows) (any (number_in lanes_range rows))
+    (λ lanes _. by_map IsOfMain (λ (seg_blocks : ℕ). recover path log lanes seg_blocks) (number_in segment_blocks_range rows) (λ seg_blocks. main))))
+
 sample_of_main : (rows : List Row) (options : Options) → IfSome (sample_in rows options) IsOfMain
 sample_of_main rows options = by_then IsOfMain (λ (n : ℕ). Unit {0}) (λ (seed : ℕ). option_map (λ (blocks : ℕ). sample seed blocks options) (number_in blocks_range rows))
     (number_in seed_range rows) (any (number_in seed_range rows))
@@ -71,8 +80,9 @@ named name rows options =
     (by_test IsOfMain (bytes_eq name (codes "sample")) _ _ (sample_of_main rows options) tt)))
 
 of_subcommand : (found : Text × List Row) → IfSome (command_of_subcommand found) IsOfMain
-of_subcommand found = by_then IsOfMain (λ (o : Options). Unit {0}) (command_named found.0 found.1) (options_in found.1) (any (options_in found.1))
-    (λ options _. named found.0 found.1 options)
+of_subcommand found = by_test IsOfMain (bytes_eq found.0 (codes "recover")) (recover_in found.1) _ (recover_of_main found.1)
+    (by_then IsOfMain (λ (o : Options). Unit {0}) (command_named found.0 found.1) (options_in found.1) (any (options_in found.1))
+    (λ options _. named found.0 found.1 options))
 
 commands_are : (words : List Text) → IfSome (command_of words) IsOfMain
 unfolding command_of
@@ -83,9 +93,10 @@ asked_of_main : (s : Spelled) → IsOfMain s → IsOfMainFork (asked_by s)
 asked_of_main (scan path options) main = tt
 asked_of_main (dump path options) main = tt
 asked_of_main (rewrite path log options) main = main
+asked_of_main (recover path log lanes seg_blocks) main = main
 asked_of_main (sample seed blocks options) main = tt
 
--- what words ask for is no rewrite, or one of a main fork
+-- what words ask for is no rewrite and no recovery, or one of a main fork
 pub request_of_main : (words : List Text) (command : Command) (r : Request) → Some (spelled command) ≡ command_of words
     → asked r ≡ asked_by (spelled command) → IsOfMainFork (asked r)
 request_of_main words command r spelled_so asked_so =

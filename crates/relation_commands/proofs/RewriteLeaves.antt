@@ -279,6 +279,7 @@ module _ {L G : Type 0} (d : Devices L G) (m : Manager L G) (r : RelationFork) (
         law = c.laws.invariant.log;
         log = c.state.log;
         based = c.opened.base ∙ started.based;
+        low = (let ends = c.laws.invariant.ends in let limit = c.laws.invariant.limit in omega arith);
         begins = subst (λ (names : ℕ → List ℕ). BeginsWith names c.state.log (file_at d.synced log known)) names_are (begins_with c.mark c.device c.bytes);
         images = images has;
         counted = pages_long r.fork (map d.contents lanes) 0 pages;

@@ -1,5 +1,5 @@
 -- Lanes and a log that no rewrite was made of.
-use Rattle.std.proofs.Common.{◌≡◌, length, ℕ, ◌+◌, append-nil, List, [], map, get_or, Option, Some, None, Err, refl, sym, ap, ◌∙◌, subst, inl, unwrap_or, arith}
+use Rattle.std.proofs.Common.{◌≡◌, length, ℕ, ◌+◌, ◌≤◌, append-nil, List, [], map, get_or, Option, Some, None, Err, refl, sym, ap, ◌∙◌, subst, inl, unwrap_or, arith}
 use Rattle.std.specs.Prelude.{IfSome, IsSomeAnd}
 use Rattle.std.specs.Option.{option_and_then}
 use mathlib.Core.Option.{some, some-injective, some-ne-none}
@@ -12,6 +12,8 @@ use Rattle.segment_store.specs.Contents.{AreFullPages, Marks, Pages}
 use Rattle.segment_store.specs.Lanes.{HasPage, HoldPages, lane_at, page_in, tag_at}
 use Rattle.pin_core.specs.State.{Page}
 use Rattle.history_core.specs.Log.{AreChained, head_bytes, log_bytes, records}
+use Rattle.history_core.specs.State.{last_position}
+use Rattle.history_core.proofs.Logs.{end_none}
 use Rattle.page_jobs.proofs.Standing.{found, inside, standing_or, there}
 use Rattle.relation_commands.specs.declared.rewriting.RewriteError.TheVariants.{Memory}
 use Rattle.relation_commands.specs.declared.starting.RelationFork.{RelationFork}
@@ -29,7 +31,7 @@ unfolding records
 head_only names base = append-nil (head_bytes base)
 
 module _ {L G : Type 0} (contents : L → Option Pages) (failed : L → Marks) (bytes : G → Option (List ℕ)) (synced : G → ℕ) (r : RelationFork) (base : ℕ) (lanes : List L) (log : G)
-    (head : (known : List ℕ) → bytes log ≡ Some known → known ≡ head_bytes base) (whole : (lane : L) → IfSome (contents lane) AreFullPages) where
+    (head : (known : List ℕ) → bytes log ≡ Some known → known ≡ head_bytes base) (low : base ≤ last_position) (whole : (lane : L) → IfSome (contents lane) AreFullPages) where
   module _ (pages : List Page) (are : ArePages contents r base lanes pages) where
     -- each page is as it was
     same : (block : ℕ) (old new : Page) → get_elem? pages block ≡ some old → get_elem? (pages_after contents r lanes pages) block ≡ some new → new ≡ old
@@ -68,6 +70,7 @@ module _ {L G : Type 0} (contents : L → Option Pages) (failed : L → Marks) (
       log = record { base = base; entries = [] };
       law = record { chained = tt; valid = λ k e at. absurd (some-ne-none e (sym at)) };
       based = refl;
+      low = (let none = end_none base in let within = low in omega arith);
       begins = record { rest = []; begins = λ some. absurd (some refl); short = omega arith; is_bytes = head known told ∙ sym (head_only (names_of r) base) ∙ sym (append-nil (log_bytes (names_of r) (record { base = base; entries = [] }))) };
       images = record { each = λ k e at. absurd (some-ne-none e (sym at)); one = λ j k tag x y of also. absurd (some-ne-none x (sym of.there)) };
       counted = pages_long r.fork (map contents lanes) 0 pages;

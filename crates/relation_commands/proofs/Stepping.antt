@@ -29,7 +29,7 @@ use Rattle.relation_commands.specs.declared.starting.RelationFork.{RelationFork}
 use Rattle.relation_commands.specs.Answers.{ArePastLimit}
 use Rattle.relation_commands.specs.Limits.{largest_lsn, log_base, rounded_up}
 use Rattle.relation_commands.specs.Listings.{NoneFails}
-use Rattle.relation_commands.specs.Request.{RewriteAsked}
+use Rattle.relation_commands.specs.Request.{LoggedAsked}
 use Rattle.relation_commands.specs.RewriteCommand.{AreSurveyed, IsPutRefusal, MeetsLimit, StaysBelowLimit}
 use Rattle.relation_commands.specs.RewriteFiles.{BecomesOf, Changes, HostFiles, IsRewrittenAt, KeepsFiles, KeepsPaths, RewriteLeaves, RewritesFiles, files_of, fork_at, log_opened, pages_at, rewrote, untouched}
 use Rattle.relation_commands.specs.RewriteTexts.{rewrite_lines, rewrite_text}
@@ -59,7 +59,7 @@ module _ {L : Type 0} (contents : L → Option Pages) (failed unsynced : L → M
   unfolding log_base
   past_base pages base is = let up = round_up (largest_lsn pages) in omega (arith, is, up)
 
-  module _ (r : RewriteAsked) (opened : Opened L) (lanes : List L) (same : AreOnlyRead contents failed unsynced write_faults opened.lanes.items lanes) where
+  module _ (r : LoggedAsked) (opened : Opened L) (lanes : List L) (same : AreOnlyRead contents failed unsynced write_faults opened.lanes.items lanes) where
     long : length lanes ≡ length opened.lanes.items
     long = sym (length-map lanes contents) ∙ ap (λ (l : List (Option Pages)). length l) same.contents_same ∙ length-map opened.lanes.items contents
 
@@ -75,7 +75,7 @@ module _ {L : Type 0} (contents : L → Option Pages) (failed unsynced : L → M
     hold_so None held = tt
     hold_so (Some paths) held = still_hold paths held
 
-  module _ (r : RewriteAsked) (main : fork_of r.path ≡ Main) (opened : Opened L) (lanes : List L) (number base : ℕ) (number_is : number ≡ unwrap_or (relation_number r.path) 0)
+  module _ (r : LoggedAsked) (main : fork_of r.path ≡ Main) (opened : Opened L) (lanes : List L) (number base : ℕ) (number_is : number ≡ unwrap_or (relation_number r.path) 0)
       (same : AreOnlyRead contents failed unsynced write_faults opened.lanes.items lanes) where
     abbrev relation : RelationFork
     relation = record { number = number; fork = Main; blocks = opened.blocks }
@@ -127,7 +127,7 @@ module _ {L : Type 0} (contents : L → Option Pages) (failed unsynced : L → M
         pages = pages_so known is.blocks is.holds is.only;
       }
 
-module _ {L : Type 0} (contents : L → Option Pages) (failed : L → Marks) (reads writes : L → ℕ) (known : Option Paths) (r : RewriteAsked) (relation : RelationFork) (base : ℕ) (lanes : List L)
+module _ {L : Type 0} (contents : L → Option Pages) (failed : L → Marks) (reads writes : L → ℕ) (known : Option Paths) (r : LoggedAsked) (relation : RelationFork) (base : ℕ) (lanes : List L)
     (so : AreSurveyed contents failed reads writes known r relation base lanes) where
   not_past : (pages : List Page) → base ≡ log_base pages → relation.blocks ≡ length pages → ¬ ArePastLimit pages
   unfolding log_base
@@ -182,7 +182,7 @@ module _ {L : Type 0} (contents : L → Option Pages) (failed : L → Marks) (re
     text_so totals_are = text_by known so.base_is so.pages totals_are
 
 -- what holds of all files that became of the old ones
-becomes_some : (new : Option HostFiles) (P Q : HostFiles → Type 0) → ((n : HostFiles) → P n → Q n) → IsSomeAnd new P → IsSomeAnd new Q
+pub becomes_some : (new : Option HostFiles) (P Q : HostFiles → Type 0) → ((n : HostFiles) → P n → Q n) → IsSomeAnd new P → IsSomeAnd new Q
 becomes_some None P Q to is = absurd is
 becomes_some (Some files) P Q to is = to files is
 
@@ -191,7 +191,7 @@ becomes_also None new P Q to is = tt
 becomes_also (Some files) new P Q to is = becomes_some new (P files) (Q files) (to files) is
 
 -- nothing is put where a rewrite is refused
-pub refused_text : (r : RewriteAsked) (known : Option Paths) (old : Option (List ℕ)) (e : RewriteError) → IfSome known (λ paths. Puts {E = RewriteError} (rewrite_text (pages_at r paths)) old old (Err e))
+pub refused_text : (r : LoggedAsked) (known : Option Paths) (old : Option (List ℕ)) (e : RewriteError) → IfSome known (λ paths. Puts {E = RewriteError} (rewrite_text (pages_at r paths)) old old (Err e))
 refused_text r None old e = tt
 refused_text r (Some paths) old e = puts_nothing (rewrite_text (pages_at r paths)) old e
 
@@ -199,10 +199,10 @@ refused_text r (Some paths) old e = puts_nothing (rewrite_text (pages_at r paths
 cleared_here : (path : List ℕ) (marks : PathMarks) (block : ℕ) → bytes_eq path path ≡ true → cleared path marks path block ≡ false
 cleared_here path marks block same = rw same
 
-cleared_elsewhere : (path : List ℕ) (marks : PathMarks) (other : List ℕ) → bytes_eq other path ≡ false → cleared path marks other ≡ marks other
+pub cleared_elsewhere : (path : List ℕ) (marks : PathMarks) (other : List ℕ) → bytes_eq other path ≡ false → cleared path marks other ≡ marks other
 cleared_elsewhere path marks other not = rw not
 
-module _ (r : RewriteAsked) (paths : Paths) (marks : PathMarks) (logs : Logs) (new : HostFiles) where
+module _ (r : LoggedAsked) (paths : Paths) (marks : PathMarks) (logs : Logs) (new : HostFiles) where
   abbrev opened_files : HostFiles
   opened_files = record { paths = paths; failed = cleared r.path marks; logs = logs }
 
@@ -215,7 +215,7 @@ module _ (r : RewriteAsked) (paths : Paths) (marks : PathMarks) (logs : Logs) (n
     here = λ block below marked. absurd (let was = none.here block below marked in let not = cleared_here r.path marks block (same_bytes r.path) in let no : true ≡ false = sym was ∙ not in cc);
   }
 
-  keeps_since : KeepsPaths r opened_files new → KeepsPaths r first_files new
+  pub keeps_since : KeepsPaths r opened_files new → KeepsPaths r first_files new
   keeps_since keeps = record { paths = keeps.paths; failed = paths_since new.failed keeps.failed }
 
   changes_since : (after : List Page) (file : StoredLog) → Changes r opened_files new after file → Changes r first_files new after file
@@ -223,7 +223,7 @@ module _ (r : RewriteAsked) (paths : Paths) (marks : PathMarks) (logs : Logs) (n
 
   leaves_since : RewriteLeaves r opened_files new → RewriteLeaves r first_files new
   leaves_since (untouched keeps) = untouched (record { pages = keeps_since keeps.pages; logs = keeps.logs })
-  leaves_since (log_opened file begun keeps logs_are) = log_opened file begun (keeps_since keeps) logs_are
+  leaves_since (log_opened file low begun keeps logs_are) = log_opened file low begun (keeps_since keeps) logs_are
   leaves_since (rewrote after file changes either) = rewrote after file (changes_since after file changes) either
 
   rewritten_since : IsRewrittenAt r opened_files new → IsRewrittenAt r first_files new
@@ -242,7 +242,7 @@ module _ (r : RewriteAsked) (paths : Paths) (marks : PathMarks) (logs : Logs) (n
   }
 
 -- what is left of the files since the relation was opened
-pub since_opened : (r : RewriteAsked) (status : ℕ) (known known_now : Option Paths) (marks marks_now : PathMarks) (told told_now : Option Logs) (new : Option HostFiles)
+pub since_opened : (r : LoggedAsked) (status : ℕ) (known known_now : Option Paths) (marks marks_now : PathMarks) (told told_now : Option Logs) (new : Option HostFiles)
     → known_now ≡ known → IfSome known (λ _. marks_now ≡ cleared r.path marks) → told_now ≡ told
     → BecomesOf (files_of known_now marks_now told_now) new (RewritesFiles r status) → BecomesOf (files_of known marks told) new (RewritesFiles r status)
 since_opened r status None known_now marks marks_now told told_now new known_same marks_are told_same becomes = tt

@@ -10,18 +10,21 @@ use Rattle.segment_store.specs.Relation.{relation_of}
 use Rattle.pin_core.specs.State.{Page}
 use Rattle.history_core.specs.Log.{record_size}
 use Rattle.history_core.specs.State.{last_position}
+use Rattle.log_recovery.specs.Records.{HasBadHead}
 use Rattle.relation_commands.specs.declared.error.ToolError.{ToolError}
-use Rattle.relation_commands.specs.declared.error.ToolError.TheVariants.{Usage, Crowded, Missing, ReadFault, WriteFault, LogFault, OutFault, Memory, OverLimit}
+use Rattle.relation_commands.specs.declared.error.ToolError.TheVariants.{Usage, Crowded, Missing, ReadFault, WriteFault, LogFault, OutFault, Memory, OverLimit, BadLog}
 use Rattle.relation_commands.specs.declared.limits.PositionLimit.{PositionLimit}
 use Rattle.relation_commands.specs.declared.limits.PositionLimit.TheVariants.{OfPages, OfPage, OfLog}
 use Rattle.relation_commands.specs.Limits.{PassesLimit, largest_lsn}
 use Rattle.relation_commands.specs.Listings.{NoneFails, text_of}
-use Rattle.relation_commands.specs.Request.{Asked, IsCrowded, ListingAsked, crowding_of, is_rewriting, listing, rewriting, sampling, options_of, path_of}
+use Rattle.relation_commands.specs.RecoverFiles.{ForLogOf, RecoversFiles}
+use Rattle.relation_commands.specs.RecoverTexts.{recover_text}
+use Rattle.relation_commands.specs.Request.{Asked, IsCrowded, ListingAsked, crowding_of, is_rewriting, is_writing, listing, log_path_of, rewriting, recovering, sampling, options_of, path_of}
 use Rattle.relation_commands.specs.RewriteFiles.{HostFiles, RewritesFiles, files_of, pages_at}
 use Rattle.relation_commands.specs.RewriteTexts.{rewrite_text}
 use Rattle.relation_commands.specs.Samples.{sample_text}
 use Rattle.sample_relation.specs.Relations.{sample_relation}
-use Rattle.relation_commands.specs.Status.{crowded_text, error_line, limit_text, missing_text, status_of_error, tool_line, usage_text}
+use Rattle.relation_commands.specs.Status.{bad_log_text, crowded_text, error_line, limit_text, missing_text, status_of_error, tool_line, usage_text}
 
 -- where the paths are known, nothing is there at the one that is asked for; a sample asks for none
 abbrev pub IsMissing : Option Paths → Option (List ℕ) → Type 0
@@ -38,16 +41,58 @@ abbrev pub IsKnownThere : Option Paths → Option (List ℕ) → Type 0
 IsKnownThere known None = Unit {0}
 IsKnownThere known (Some path) = IsSomeAnd known (λ paths. paths path ≢ [])
 
+-- of a recovery: where the logs are known, none is at the path of its log
+abbrev pub LacksLog : Asked → Option Logs → Type 0
+LacksLog (listing l) logs = ⊥
+LacksLog (rewriting r) logs = ⊥
+LacksLog (recovering r) logs = IfSome logs (λ logs. logs r.log ≡ None)
+LacksLog (sampling s) logs = ⊥
+
+-- one is there
+abbrev pub HasLog : Asked → Option Logs → Type 0
+HasLog (listing l) logs = Unit {0}
+HasLog (rewriting r) logs = Unit {0}
+HasLog (recovering r) logs = IfSome logs (λ logs. IsSome (logs r.log))
+HasLog (sampling s) logs = Unit {0}
+
+-- the head of one that is there isn't bad
+abbrev pub HasGoodHead : Asked → Option Logs → Type 0
+HasGoodHead (listing l) logs = Unit {0}
+HasGoodHead (rewriting r) logs = Unit {0}
+HasGoodHead (recovering r) logs = IfSome logs (λ logs. IfSome (logs r.log) (λ file. ¬ HasBadHead file.bytes))
+HasGoodHead (sampling s) logs = Unit {0}
+
+-- one is there, whose head is bad
+abbrev pub HasBadLog : Asked → Option Logs → Type 0
+HasBadLog (listing l) logs = ⊥
+HasBadLog (rewriting r) logs = ⊥
+HasBadLog (recovering r) logs = IfSome logs (λ logs. IsSomeAnd (logs r.log) (λ file. HasBadHead file.bytes))
+HasBadLog (sampling s) logs = ⊥
+
+-- the logs are known, and one is there, whose head isn't bad
+abbrev pub IsKnownLog : Asked → Option Logs → Type 0
+IsKnownLog (listing l) logs = Unit {0}
+IsKnownLog (rewriting r) logs = Unit {0}
+IsKnownLog (recovering r) logs = IsSomeAnd logs (λ logs. IsSomeAnd (logs r.log) (λ file. ¬ HasBadHead file.bytes))
+IsKnownLog (sampling s) logs = Unit {0}
+
+-- this file isn't there: the relation's; or, of a recovery whose relation is there, that of its log
+abbrev pub IsAbsent : Asked → Option Paths → Option Logs → List ℕ → Type 0
+IsAbsent a known logs path = ((path_of a ≡ Some path) × IsMissing known (path_of a))
+    ⊎ ((log_path_of a ≡ Some path) × IsThere known (path_of a) × LacksLog a logs)
+
 -- the pages of the relation that is asked for
 abbrev pub pages_asked : Asked → Paths → List Page
 pages_asked (listing l) paths = relation_of l.options.seg_blocks (paths l.path)
 pages_asked (rewriting r) paths = pages_at r paths
+pages_asked (recovering r) paths = pages_at r paths
 pages_asked (sampling s) paths = sample_relation s.seed s.blocks
 
--- the text that is asked for, where it is known: that of a sample is, and that of a relation where the paths are
+-- the text that is asked for, where it is known: that of a sample is, and that of a listing and of a rewrite where the paths are; that of a recovery is the log's
 abbrev pub text_asked : Asked → Option Paths → Option (List ℕ)
 text_asked (listing l) known = option_map (λ paths. text_of l.listing (pages_asked (listing l) paths)) known
 text_asked (rewriting r) known = option_map (λ paths. rewrite_text (pages_at r paths)) known
+text_asked (recovering r) known = None
 text_asked (sampling s) known = Some (sample_text s.seed s.blocks)
 
 -- The counts of faults, of the host and of the output
@@ -85,11 +130,16 @@ pub record ListingKeeps (l : ListingAsked) (old new : HostFiles) : Type 0 where
 abbrev pub IsNoRewrite : Option Asked → Type 0
 IsNoRewrite request = IfSome request (λ a. is_rewriting a ≡ false)
 
+-- the words ask for nothing that writes pages of a relation at a path
+abbrev pub WritesNoPath : Option Asked → Type 0
+WritesNoPath request = IfSome request (λ a. is_writing a ≡ false)
+
 -- no block's last write failed; where the words are no command, or ask for a sample, all is as it was
 abbrev pub FailsNone : Option Asked → Paths → PathMarks → PathMarks → Type 0
 FailsNone None paths old new = new ≡ old
 FailsNone (Some (listing l)) paths old new = NoneFails l.options.seg_blocks paths l.path old new
 FailsNone (Some (rewriting r)) paths old new = NoneFails r.options.seg_blocks paths r.path old new
+FailsNone (Some (recovering r)) paths old new = NoneFails r.options.seg_blocks paths r.path old new
 FailsNone (Some (sampling s)) paths old new = new ≡ old
 
 -- what a run leaves of the files
@@ -97,6 +147,7 @@ abbrev pub LeavesFiles : Option Asked → ℕ → HostFiles → HostFiles → Ty
 LeavesFiles None status old new = new ≡ old
 LeavesFiles (Some (listing l)) status old new = ListingKeeps l old new
 LeavesFiles (Some (rewriting r)) status old new = RewritesFiles r status old new
+LeavesFiles (Some (recovering r)) status old new = RecoversFiles r status old new
 LeavesFiles (Some (sampling s)) status old new = new ≡ old
 
 -- the refusals of words that are no command
@@ -115,10 +166,11 @@ IsOverLimit known (OfLog end) = (last_position < end + record_size) × IfSome kn
 abbrev pub ArePastLimit : List Page → Type 0
 ArePastLimit pages = PassesLimit (largest_lsn pages) (length pages)
 
--- a rewrite's positions stay below the last one; a listing has none
+-- a rewrite's positions stay below the last one; a listing has none, and a recovery makes none
 abbrev pub HasPositions : Asked → List Page → Type 0
 HasPositions (listing l) pages = Unit {0}
 HasPositions (rewriting r) pages = ¬ ArePastLimit pages
+HasPositions (recovering r) pages = Unit {0}
 HasPositions (sampling s) pages = Unit {0}
 
 -- the same of the relation that is asked for, where it is known
@@ -126,34 +178,50 @@ abbrev pub HasPositionsAt : Asked → Option Paths → Type 0
 HasPositionsAt a known = IfSome known (λ paths. HasPositions a (pages_asked a paths))
 
 -- the cause of each refusal of a command that isn't crowded
-abbrev pub IsRefusal : Asked → Option Paths → FaultCounts → FaultCounts → ToolError → Type 0
-IsRefusal a known old new Usage = ⊥
-IsRefusal a known old new (Crowded crowding) = (crowding ≡ crowding_of (options_of a)) × IsCrowded (options_of a)
-IsRefusal a known old new (Missing path) = (path_of a ≡ Some path.now) × IsMissing known (path_of a) × ¬ IsCrowded (options_of a) × (new.reads ≡ old.reads)
-IsRefusal a known old new ReadFault = Rose old.reads new.reads × ¬ IsCrowded (options_of a) × IsSome (path_of a)
-IsRefusal a known old new WriteFault = Rose old.writes new.writes × IsThere known (path_of a) × ¬ IsCrowded (options_of a) × (is_rewriting a ≡ true) × HasPositionsAt a known
-IsRefusal a known old new LogFault = Rose old.logs new.logs × IsThere known (path_of a) × ¬ IsCrowded (options_of a) × (is_rewriting a ≡ true) × HasPositionsAt a known
-IsRefusal a known old new OutFault = Rose old.outs new.outs × IsThere known (path_of a) × ¬ IsCrowded (options_of a) × HasPositionsAt a known
-IsRefusal a known old new Memory = Unit {0}
-IsRefusal a known old new (OverLimit limit) = IsOverLimit (option_map (pages_asked a) known) limit × IsThere known (path_of a) × ¬ IsCrowded (options_of a) × (is_rewriting a ≡ true)
+abbrev pub IsRefusal : Asked → Option Paths → Option Logs → FaultCounts → FaultCounts → ToolError → Type 0
+IsRefusal a known logs old new Usage = ⊥
+IsRefusal a known logs old new (Crowded crowding) =
+    (crowding ≡ crowding_of (options_of a)) × IsCrowded (options_of a)
+IsRefusal a known logs old new (Missing path) =
+    IsAbsent a known logs path.now × ¬ IsCrowded (options_of a) × (new.reads ≡ old.reads)
+IsRefusal a known logs old new ReadFault =
+    Rose old.reads new.reads × ¬ IsCrowded (options_of a) × IsSome (path_of a)
+IsRefusal a known logs old new WriteFault =
+    Rose old.writes new.writes × IsThere known (path_of a) × ¬ IsCrowded (options_of a)
+    × (is_writing a ≡ true) × HasPositionsAt a known
+    × HasLog a logs × (¬ Rose old.reads new.reads → HasGoodHead a logs)
+IsRefusal a known logs old new LogFault =
+    Rose old.logs new.logs × IsThere known (path_of a) × ¬ IsCrowded (options_of a)
+    × (is_rewriting a ≡ true) × HasPositionsAt a known
+IsRefusal a known logs old new OutFault =
+    Rose old.outs new.outs × IsThere known (path_of a) × ¬ IsCrowded (options_of a)
+    × HasPositionsAt a known × HasLog a logs × HasGoodHead a logs
+IsRefusal a known logs old new Memory = Unit {0}
+IsRefusal a known logs old new (OverLimit limit) =
+    IsOverLimit (option_map (pages_asked a) known) limit × IsThere known (path_of a)
+    × ¬ IsCrowded (options_of a) × (is_rewriting a ≡ true)
+IsRefusal a known logs old new (BadLog path) =
+    (log_path_of a ≡ Some path.now) × IsThere known (path_of a) × HasBadLog a logs
+    × ¬ IsCrowded (options_of a) × (new.reads ≡ old.reads)
 
--- A command that was done: it wasn't crowded, the relation was there, its positions stay below the last one, and no count rose
-pub record IsDone (a : Asked) (known : Option Paths) (old new : FaultCounts) : Type 0 where
+-- A command that was done: it wasn't crowded, the relation was there, its positions stay below the last one, the log of a recovery was there with a good head, and no count rose
+pub record IsDone (a : Asked) (known : Option Paths) (logs : Option Logs) (old new : FaultCounts) : Type 0 where
   pub roomy : ¬ IsCrowded (options_of a)
   pub there : IsThere known (path_of a)
   pub positions : HasPositionsAt a known
+  pub logged : HasLog a logs × HasGoodHead a logs
   pub quiet : new ≡ old
 
 -- how a command ends
-abbrev pub EndsCommand : Asked → Option Paths → FaultCounts → FaultCounts → Result Unit ToolError → Type 0
-EndsCommand a known old new (Ok done) = IsDone a known old new
-EndsCommand a known old new (Err error) = IsRefusal a known old new error
+abbrev pub EndsCommand : {T : Type 0} → Asked → Option Paths → Option Logs → FaultCounts → FaultCounts → Result T ToolError → Type 0
+EndsCommand a known logs old new (Ok done) = IsDone a known logs old new
+EndsCommand a known logs old new (Err error) = IsRefusal a known logs old new error
 
 -- how a run ends
-abbrev pub Ends : Option Asked → Option Paths → FaultCounts → FaultCounts → Result Unit ToolError → Type 0
-Ends None known old new (Ok done) = ⊥
-Ends None known old new (Err error) = RefusesWords error
-Ends (Some a) known old new result = EndsCommand a known old new result
+abbrev pub Ends : Option Asked → Option Paths → Option Logs → FaultCounts → FaultCounts → Result Unit ToolError → Type 0
+Ends None known logs old new (Ok done) = ⊥
+Ends None known logs old new (Err error) = RefusesWords error
+Ends (Some a) known logs old new result = EndsCommand a known logs old new result
 
 -- status 1 comes only where the words are no command, and always then unless memory was short
 pub record UsageIf (request : Option Asked) (status : ℕ) : Type 0 where
@@ -165,10 +233,22 @@ pub record CrowdedIf (options : Options) (status : ℕ) : Type 0 where
   pub only : status ≡ 2 → IsCrowded options
   pub always : IsCrowded options → (status ≡ 2) ⊎ (status ≡ 8)
 
--- status 3 comes only where it isn't crowded, nothing is there and no opening failed, and always then unless an opening failed or memory was short
-pub record MissingIf (a : Asked) (known : Option Paths) (reads reads_now status : ℕ) : Type 0 where
-  pub only : status ≡ 3 → IsMissing known (path_of a) × ¬ IsCrowded (options_of a) × (reads_now ≡ reads)
+-- Status 3 comes only where it isn't crowded, the relation isn't there, or it is and the log of its recovery isn't, and no opening failed; and always then unless an opening failed or memory was short
+pub record MissingIf (a : Asked) (known : Option Paths) (logs : Option Logs) (reads reads_now status : ℕ) : Type 0 where
+  pub only : status ≡ 3 → (IsMissing known (path_of a) ⊎ (IsThere known (path_of a) × LacksLog a logs))
+      × ¬ IsCrowded (options_of a) × (reads_now ≡ reads)
   pub always : ¬ IsCrowded (options_of a) → IfSome known (λ paths. IsMissing (Some paths) (path_of a) → (status ≡ 3) ⊎ ((status ≡ 8) ⊎ ((status ≡ 4) × Rose reads reads_now)))
+  pub always_log : ¬ IsCrowded (options_of a) → IfSome known (λ paths. IfSome logs (λ logs.
+      IsThere (Some paths) (path_of a) → LacksLog a (Some logs)
+      → (status ≡ 3) ⊎ ((status ≡ 8) ⊎ ((status ≡ 4) × Rose reads reads_now))))
+
+-- Status 10 comes only for a recovery that isn't crowded, of a relation that is there, by a log whose head is bad, where these are known, and no read failed; and always then unless a read failed or memory was short
+pub record BadLogIf (a : Asked) (known : Option Paths) (logs : Option Logs) (reads reads_now status : ℕ) : Type 0 where
+  pub only : status ≡ 10 → IsThere known (path_of a) × HasBadLog a logs
+      × ¬ IsCrowded (options_of a) × (reads_now ≡ reads)
+  pub always : ¬ IsCrowded (options_of a) → ¬ Rose reads reads_now
+      → IfSome known (λ paths. IfSome logs (λ logs. IsThere (Some paths) (path_of a)
+      → HasBadLog a (Some logs) → (status ≡ 10) ⊎ (status ≡ 8)))
 
 -- status 9 comes only for a rewrite of a relation that is there and isn't crowded, whose pages, where they are known, could pass the last position; and always then unless a read failed or memory was short
 pub record LimitIf (a : Asked) (known : Option Paths) (reads reads_now status : ℕ) : Type 0 where
@@ -176,10 +256,10 @@ pub record LimitIf (a : Asked) (known : Option Paths) (reads reads_now status : 
   pub always : is_rewriting a ≡ true → ¬ IsCrowded (options_of a)
       → IfSome known (λ paths. IsThere (Some paths) (path_of a) → ArePastLimit (pages_asked a paths) → (status ≡ 9) ⊎ ((status ≡ 8) ⊎ ((status ≡ 4) × Rose reads reads_now)))
 
--- the faults of writing and of the log are those of a rewrite alone, and those of reading of a relation at a path
+-- the faults of writing are those of a rewrite and of a recovery alone, those of the log of a rewrite alone, and those of reading of a relation at a path
 pub record FaultIf (request : Option Asked) (old new : FaultCounts) (status : ℕ) : Type 0 where
   pub reads : status ≡ 4 → Rose old.reads new.reads × IsSomeAnd request (λ a. IsSome (path_of a))
-  pub writes : status ≡ 5 → Rose old.writes new.writes × IsSomeAnd request (λ a. is_rewriting a ≡ true)
+  pub writes : status ≡ 5 → Rose old.writes new.writes × IsSomeAnd request (λ a. is_writing a ≡ true)
   pub logs : status ≡ 6 → Rose old.logs new.logs × IsSomeAnd request (λ a. is_rewriting a ≡ true)
   pub outs : status ≡ 7 → Rose old.outs new.outs
 
@@ -188,6 +268,22 @@ pub record Wrote (text : List ℕ) (old new : Option (List ℕ)) (status : ℕ) 
   pub all : status ≡ 0 → new ≡ option_map (λ bytes. bytes ++ text) old
   pub prefix : IfSome old (λ bytes. IsSomeAnd new (GainsPrefix text bytes))
 
+-- Of a recovery, the text of the log that its file is, where that is known, was put, or a prefix of it
+abbrev pub PutsLogOf : {E : Type 0} → Asked → Option Logs → Option (List ℕ) → Option (List ℕ) → Result Unit E → Type 0
+PutsLogOf (listing l) logs old new result = Unit {0}
+PutsLogOf (rewriting r) logs old new result = Unit {0}
+PutsLogOf (recovering r) logs old new result =
+    IfSome logs (λ logs. ForLogOf r logs (λ log. Puts (recover_text log) old new result))
+PutsLogOf (sampling s) logs old new result = Unit {0}
+
+-- the same at the end of a run
+abbrev pub WroteLogOf : Asked → Option Logs → Option (List ℕ) → Option (List ℕ) → ℕ → Type 0
+WroteLogOf (listing l) logs old new status = Unit {0}
+WroteLogOf (rewriting r) logs old new status = Unit {0}
+WroteLogOf (recovering r) logs old new status =
+    IfSome logs (λ logs. ForLogOf r logs (λ log. Wrote (recover_text log) old new status))
+WroteLogOf (sampling s) logs old new status = Unit {0}
+
 -- no count is at its last value, past which it doesn't rise
 pub record CountsBelowLast (old : FaultCounts) : Type 0 where
   pub reads : old.reads < 2 ^ 64 - 1
@@ -195,36 +291,42 @@ pub record CountsBelowLast (old : FaultCounts) : Type 0 where
   pub logs : old.logs < 2 ^ 64 - 1
   pub outs : old.outs < 2 ^ 64 - 1
 
--- what is owed where no count rose: a relation that is known to be there is listed, or rewritten where its positions stay below the last one, and a sample is done, unless it is crowded or memory was short
-abbrev pub IsComplete : Asked → Option Paths → FaultCounts → FaultCounts → ℕ → Type 0
-IsComplete a known old new status = ¬ IsCrowded (options_of a) → IsKnownThere known (path_of a) → HasPositionsAt a known
+-- what is owed where no count rose: a relation that is known to be there is listed, or rewritten where its positions stay below the last one, or recovered where a log with a good head is known to be there, and a sample is done, unless it is crowded or memory was short
+abbrev pub IsComplete : Asked → Option Paths → Option Logs → FaultCounts → FaultCounts → ℕ → Type 0
+IsComplete a known logs old new status = ¬ IsCrowded (options_of a)
+    → IsKnownThere known (path_of a) → IsKnownLog a logs → HasPositionsAt a known
     → new ≡ old → CountsBelowLast old → (status ≡ 0) ⊎ (status ≡ 8)
 
--- the text of a status, which the request and the position limit make whole
-abbrev pub status_text : Option Asked → PositionLimit → ℕ → List ℕ
-status_text None limit status = if status == 1 then usage_text else codes "out of memory"
-status_text (Some a) limit status =
+-- the text of a status, which the request, the position limit and the path of a file that is missing make whole
+abbrev pub status_text : Option Asked → PositionLimit → List ℕ → ℕ → List ℕ
+status_text None limit missing status = if status == 1 then usage_text else codes "out of memory"
+status_text (Some a) limit missing status =
     if status == 2 then crowded_text (crowding_of (options_of a))
-    else (if status == 3 then missing_text (unwrap_or (path_of a) [])
+    else (if status == 3 then missing_text missing
     else (if status == 4 then codes "read fault"
     else (if status == 5 then codes "write fault"
     else (if status == 6 then codes "log fault"
     else (if status == 7 then codes "output fault"
-    else (if status == 9 then limit_text limit else codes "out of memory"))))))
+    else (if status == 9 then limit_text limit
+    else (if status == 10 then bad_log_text (unwrap_or (log_path_of a) [])
+    else codes "out of memory")))))))
 
 -- the line of a status on the error stream; status 0 has none
-abbrev pub status_line : Option Asked → PositionLimit → ℕ → List ℕ
-status_line request limit status = if status == 0 then [] else tool_line (status_text request limit status)
+abbrev pub status_line : Option Asked → PositionLimit → List ℕ → ℕ → List ℕ
+status_line request limit missing status =
+    if status == 0 then [] else tool_line (status_text request limit missing status)
 
 -- the text was put, or a prefix of it and the sink's count of faults rose
 abbrev pub Said : List ℕ → Option (List ℕ) → Option (List ℕ) → ℕ → ℕ → Type 0
 Said text old new faults faults_now = (result : Result Unit Failed) × Puts text old new result × HasCause faults faults_now result
 
--- The line of the status was said; that of status 9 with a position limit that was passed
-pub record SaysStatus (request : Option Asked) (known : Option Paths) (old new : Option (List ℕ)) (faults faults_now status : ℕ) : Type 0 where
+-- The line of the status was said; that of status 9 with a position limit that was passed, that of status 3 with the path of a file that isn't there
+pub record SaysStatus (request : Option Asked) (known : Option Paths) (logs : Option Logs) (old new : Option (List ℕ)) (faults faults_now status : ℕ) : Type 0 where
   pub limit : PositionLimit
   pub passed : status ≡ 9 → IsSomeAnd request (λ a. IsOverLimit (option_map (pages_asked a) known) limit)
-  pub said : Said (status_line request limit status) old new faults faults_now
+  pub missing : List ℕ
+  pub absent : status ≡ 3 → IsSomeAnd request (λ a. IsAbsent a known logs missing)
+  pub said : Said (status_line request limit missing status) old new faults faults_now
 
 -- the line of a refusal was said, and the status is its own
 pub record SaysAs (error : ToolError) (old new : Option (List ℕ)) (faults faults_now status : ℕ) : Type 0 where

@@ -4,13 +4,17 @@ pub mod Listings
 pub mod Starting
 pub mod Request
 pub mod RewriteTexts
+pub mod RecoverTexts
 pub mod Samples
 pub mod RewriteResults
 pub mod Rewriting
 pub mod Checkpointing
 pub mod RewriteFiles
+pub mod RecoverFiles
 pub mod Causes
 pub mod Status
 pub mod Answers
 pub mod RewriteCommand
+pub mod RecoverCommand
 pub mod SampleSteps
+pub mod RecoverRewrite

@@ -9,10 +9,11 @@ use Rattle.relation_commands.specs.declared.request.Request.{Request}
 use Rattle.relation_commands.specs.declared.request.Request.TheVariants as request
 use Rattle.relation_commands.specs.declared.request.ListRequest.{ListRequest}
 use Rattle.relation_commands.specs.declared.request.RewriteRequest.{RewriteRequest}
+use Rattle.relation_commands.specs.declared.request.RecoverRequest.{RecoverRequest}
 use Rattle.relation_commands.specs.declared.request.SampleRequest.{SampleRequest}
 use Rattle.relation_commands.specs.declared.listing.Listing.{Listing}
 use Rattle.relation_commands.specs.declared.listing.Listing.TheVariants.{Scan, Dump}
-use Rattle.command_line.specs.Spelled.{Spelled, command_of, scan, dump, rewrite, sample}
+use Rattle.command_line.specs.Spelled.{Spelled, command_of, scan, dump, rewrite, recover, sample}
 
 -- a scan or a dump of the relation at a path
 pub record ListingAsked : Type 0 where
@@ -20,8 +21,8 @@ pub record ListingAsked : Type 0 where
   pub options : Options
   pub listing : Listing
 
--- a rewrite of the relation at a path, with the log at another
-pub record RewriteAsked : Type 0 where
+-- a command on the relation at a path with a log at another: a rewrite, or a recovery
+pub record LoggedAsked : Type 0 where
   pub path : List ℕ
   pub log : List ℕ
   pub options : Options
@@ -34,14 +35,24 @@ pub record SampleAsked : Type 0 where
 
 pub data Asked : Type 0 where
   listing : ListingAsked → Asked
-  rewriting : RewriteAsked → Asked
+  rewriting : LoggedAsked → Asked
+  recovering : LoggedAsked → Asked
   sampling : SampleAsked → Asked
 
 abbrev pub listing_asked : ListRequest → ListingAsked
 listing_asked l = record { path = l.path.now; options = l.options; listing = l.listing }
 
-abbrev pub rewrite_asked : RewriteRequest → RewriteAsked
+abbrev pub rewrite_asked : RewriteRequest → LoggedAsked
 rewrite_asked r = record { path = r.path.now; log = r.log.now; options = r.options }
+
+-- a recovery has no buffer manager: one backend and the frames by default stand here, which are enough
+abbrev pub recover_options : ℕ → ℕ → Options
+recover_options lanes seg_blocks =
+    record { backends = 1; frames = 128; lanes = lanes; seg_blocks = seg_blocks; rounds = 0 }
+
+abbrev pub recover_asked : RecoverRequest → LoggedAsked
+recover_asked r =
+    record { path = r.path.now; log = r.log.now; options = recover_options r.lanes r.seg_blocks }
 
 abbrev pub sample_asked : SampleRequest → SampleAsked
 sample_asked s = record { seed = s.seed; blocks = s.blocks; options = s.options }
@@ -49,35 +60,55 @@ sample_asked s = record { seed = s.seed; blocks = s.blocks; options = s.options 
 abbrev pub asked : Request → Asked
 asked (request.List l) = listing (listing_asked l)
 asked (request.Rewrite r) = rewriting (rewrite_asked r)
+asked (request.Recover r) = recovering (recover_asked r)
 asked (request.Sample s) = sampling (sample_asked s)
 
 -- the relation's path; a sample has none
 abbrev pub path_of : Asked → Option (List ℕ)
 path_of (listing l) = Some l.path
 path_of (rewriting r) = Some r.path
+path_of (recovering r) = Some r.path
 path_of (sampling s) = None
+
+-- the path of the log that a recovery redoes; no other command has one
+abbrev pub log_path_of : Asked → Option (List ℕ)
+log_path_of (listing l) = None
+log_path_of (rewriting r) = None
+log_path_of (recovering r) = Some r.log
+log_path_of (sampling s) = None
 
 abbrev pub options_of : Asked → Options
 options_of (listing l) = l.options
 options_of (rewriting r) = r.options
+options_of (recovering r) = r.options
 options_of (sampling s) = s.options
 
 -- whether the relation at a path is rewritten
 abbrev pub is_rewriting : Asked → Bool
 is_rewriting (listing l) = false
 is_rewriting (rewriting r) = true
+is_rewriting (recovering r) = false
 is_rewriting (sampling s) = false
 
--- a rewrite is of a relation's main fork
+-- whether pages of the relation at a path are written
+abbrev pub is_writing : Asked → Bool
+is_writing (listing l) = false
+is_writing (rewriting r) = true
+is_writing (recovering r) = true
+is_writing (sampling s) = false
+
+-- a rewrite and a recovery are of a relation's main fork
 abbrev pub IsOfMainFork : Asked → Type 0
 IsOfMainFork (listing l) = Unit {0}
 IsOfMainFork (rewriting r) = fork_of r.path ≡ Main
+IsOfMainFork (recovering r) = fork_of r.path ≡ Main
 IsOfMainFork (sampling s) = Unit {0}
 
 -- the most blocks that a sample can have
 abbrev pub HasSampleSize : Asked → Type 0
 HasSampleSize (listing l) = Unit {0}
 HasSampleSize (rewriting r) = Unit {0}
+HasSampleSize (recovering r) = Unit {0}
 HasSampleSize (sampling s) = s.blocks ≤ 16384
 
 -- what a command asks for
@@ -85,6 +116,8 @@ abbrev pub asked_by : Spelled → Asked
 asked_by (scan path options) = listing (record { path = path; options = options; listing = Scan })
 asked_by (dump path options) = listing (record { path = path; options = options; listing = Dump })
 asked_by (rewrite path log options) = rewriting (record { path = path; log = log; options = options })
+asked_by (recover path log lanes seg_blocks) =
+    recovering (record { path = path; log = log; options = recover_options lanes seg_blocks })
 asked_by (sample seed blocks options) = sampling (record { seed = seed; blocks = blocks; options = options })
 
 -- what the words ask for; nothing where they are no command

@@ -14,7 +14,7 @@ use Rattle.relation_commands.specs.declared.rewriting.RewriteError.TheVariants.{
 use Rattle.relation_commands.specs.declared.starting.RelationFork.{RelationFork}
 use Rattle.relation_commands.specs.Answers.{ArePastLimit, CountsLater, FaultCounts, IsOverLimit}
 use Rattle.relation_commands.specs.Limits.{PassesLimit, largest_lsn, log_base}
-use Rattle.relation_commands.specs.Request.{RewriteAsked}
+use Rattle.relation_commands.specs.Request.{LoggedAsked}
 use Rattle.relation_commands.specs.RewriteFiles.{HostFiles, RewritesFiles, fork_at, pages_at}
 use Rattle.relation_commands.specs.Rewriting.{ArePages, HavePages}
 use Rattle.relation_commands.specs.Status.{rewrite_tool_error, status_of_error}
@@ -30,7 +30,7 @@ module _ {L : Type 0} (contents : L → Option Pages) where
 
 module _ {L : Type 0} (contents : L → Option Pages) (failed : L → Marks) (read_faults write_faults : L → ℕ) where
   -- The lanes of the relation that is open, and the position where its log is to begin, once they were surveyed: no call failed, and no block was written. Where the paths are known the relation is there, its pages stand in the lanes, and no record of theirs passes the last position
-  pub record AreSurveyed (known : Option Paths) (r : RewriteAsked) (relation : RelationFork) (base : ℕ) (lanes : List L) : Type 0 where
+  pub record AreSurveyed (known : Option Paths) (r : LoggedAsked) (relation : RelationFork) (base : ℕ) (lanes : List L) : Type 0 where
     pub count : length lanes ≡ r.options.lanes
     pub reads : sum_by read_faults lanes ≡ 0
     pub writes : sum_by write_faults lanes ≡ 0
@@ -88,7 +88,7 @@ rewrite_status (Ok done) = 0
 rewrite_status (Err e) = status_of_error (rewrite_tool_error e)
 
 -- what an end leaves of the files
-abbrev pub LeavesByEnd : {T : Type 0} → RewriteAsked → Result T RewriteError → HostFiles → HostFiles → Type 0
+abbrev pub LeavesByEnd : {T : Type 0} → LoggedAsked → Result T RewriteError → HostFiles → HostFiles → Type 0
 LeavesByEnd r result old new = RewritesFiles r (rewrite_status result) old new
 
 -- why the text isn't out: its put failed, or there was no memory for it

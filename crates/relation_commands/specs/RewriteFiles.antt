@@ -10,11 +10,12 @@ use Rattle.segment_store.specs.Relation.{relation_of}
 use Rattle.segment_store.specs.Restored.{restored}
 use Rattle.pin_core.specs.State.{Page}
 use Rattle.history_core.specs.Log.{head_bytes}
+use Rattle.history_core.specs.State.{last_position}
 use Rattle.page_jobs.specs.Rewrites.{Rule, rule_of}
 use Rattle.relation_commands.specs.declared.starting.RelationFork.{RelationFork}
 use Rattle.relation_commands.specs.Limits.{log_base}
 use Rattle.relation_commands.specs.Listings.{NoneFails}
-use Rattle.relation_commands.specs.Request.{RewriteAsked}
+use Rattle.relation_commands.specs.Request.{LoggedAsked}
 use Rattle.relation_commands.specs.RewriteResults.{IsRewrittenFile, LeavesEither}
 use Rattle.relation_commands.specs.Starting.{names_of}
 
@@ -38,32 +39,32 @@ BecomesOf old new Leaves = IfSome old (λ files. IsSomeAnd new (Leaves files))
 abbrev pub with_blocks : OpenAt → List Page → Paths → Paths
 with_blocks at pages paths = λ path. if bytes_eq path at.path then restored at.seg_blocks (paths path) pages else paths path
 
-abbrev pub relation_at : RewriteAsked → OpenAt
+abbrev pub relation_at : LoggedAsked → OpenAt
 relation_at r = record { path = r.path; seg_blocks = r.options.seg_blocks }
 
 -- the pages of the relation
-abbrev pub pages_at : RewriteAsked → Paths → List Page
+abbrev pub pages_at : LoggedAsked → Paths → List Page
 pages_at r paths = relation_of r.options.seg_blocks (paths r.path)
 
 -- the main fork of the relation, as the manager and the log name it
-abbrev pub fork_at : RewriteAsked → Paths → RelationFork
+abbrev pub fork_at : LoggedAsked → Paths → RelationFork
 fork_at r paths = record { number = unwrap_or (relation_number r.path) 0; fork = Main; blocks = length (pages_at r paths) }
 
 abbrev pub main_rule : Rule
 main_rule = rule_of 0 Main
 
 -- No page was written: the paths are as they were, and no further block's last write failed
-pub record KeepsPaths (r : RewriteAsked) (old new : HostFiles) : Type 0 where
+pub record KeepsPaths (r : LoggedAsked) (old new : HostFiles) : Type 0 where
   pub paths : new.paths ≡ old.paths
   pub failed : NoneFails r.options.seg_blocks old.paths r.path old.failed new.failed
 
 -- nothing was written at all
-pub record KeepsFiles (r : RewriteAsked) (old new : HostFiles) : Type 0 where
+pub record KeepsFiles (r : LoggedAsked) (old new : HostFiles) : Type 0 where
   pub pages : KeepsPaths r old new
   pub logs : new.logs ≡ old.logs
 
 -- The relation has these pages now, and this file is at the log's path; all else is as it was
-pub record Changes (r : RewriteAsked) (old new : HostFiles) (after : List Page) (file : StoredLog) : Type 0 where
+pub record Changes (r : LoggedAsked) (old new : HostFiles) (after : List Page) (file : StoredLog) : Type 0 where
   pub paths : new.paths ≡ with_blocks (relation_at r) after old.paths
   pub logs : new.logs ≡ with_log r.log file old.logs
   pub failed : (other : List ℕ) → bytes_eq other r.path ≡ false → new.failed other ≡ old.failed other
@@ -74,17 +75,17 @@ pub record IsHeadBegun (base : ℕ) (bytes : List ℕ) : Type 0 where
   pub whole : bytes ++ more ≡ head_bytes base
 
 -- What a rewrite leaves with any end
-pub data RewriteLeaves (r : RewriteAsked) (old new : HostFiles) : Type 0 where
+pub data RewriteLeaves (r : LoggedAsked) (old new : HostFiles) : Type 0 where
   untouched : KeepsFiles r old new → RewriteLeaves r old new
   -- the log was emptied, a prefix of its head put, and no page written
-  log_opened : (file : StoredLog) → IsHeadBegun (log_base (pages_at r old.paths)) file.bytes → KeepsPaths r old new → new.logs ≡ with_log r.log file old.logs
+  log_opened : (file : StoredLog) → log_base (pages_at r old.paths) ≤ last_position → IsHeadBegun (log_base (pages_at r old.paths)) file.bytes → KeepsPaths r old new → new.logs ≡ with_log r.log file old.logs
       → RewriteLeaves r old new
   -- each page is as before or that of its entry, or its last write failed
   rewrote : (after : List Page) (file : StoredLog) → Changes r old new after file
       → LeavesEither main_rule (names_of (fork_at r old.paths)) (log_base (pages_at r old.paths)) (pages_at r old.paths) after (new.failed r.path) file → RewriteLeaves r old new
 
 -- The rewrite was done: the relation is the rewritten one, the file is that of its log, and no block's last write failed
-pub record IsRewrittenAt (r : RewriteAsked) (old new : HostFiles) : Type 0 where
+pub record IsRewrittenAt (r : LoggedAsked) (old new : HostFiles) : Type 0 where
   pub after : List Page
   pub file : StoredLog
   pub changes : Changes r old new after file
@@ -92,7 +93,7 @@ pub record IsRewrittenAt (r : RewriteAsked) (old new : HostFiles) : Type 0 where
   pub unfailed : (block : ℕ) → block < length (pages_at r old.paths) → new.failed r.path block ≡ false
 
 -- What a rewrite leaves by its status: nothing is written before the log is opened, which no refusal of the words, the path or the positions is
-pub record RewritesFiles (r : RewriteAsked) (status : ℕ) (old new : HostFiles) : Type 0 where
+pub record RewritesFiles (r : LoggedAsked) (status : ℕ) (old new : HostFiles) : Type 0 where
   pub any : RewriteLeaves r old new
   pub done : status ≡ 0 → IsRewrittenAt r old new
   pub refused : 1 ≤ status → status ≤ 3 → KeepsFiles r old new

@@ -10,6 +10,7 @@ use Rattle.page_layout.specs.Rewritten.{rewritten_page}
 use Rattle.page_layout.specs.Soundness.{is_sound_page}
 use Rattle.pin_core.specs.State.{Page}
 use Rattle.history_core.specs.Log.{Entry, IsEntryOf, Log, LogLaw, end_of, head_size, log_bytes, log_end, record_size}
+use Rattle.history_core.specs.State.{last_position}
 use Rattle.history_core.specs.Rest.{BeginsRecord}
 use Rattle.page_jobs.specs.RewriteEnds.{HasEntry, IsPageEntry}
 use Rattle.page_jobs.specs.Rewrites.{Rule}
@@ -55,6 +56,8 @@ pub record LeavesEither (r : Rule) (names : ℕ → List ℕ) (base : ℕ) (befo
   pub log : Log
   pub law : LogLaw log
   pub based : log.base ≡ base
+  -- it ends at the last position or before it
+  pub low : log_end log ≤ last_position
   pub begins : BeginsWith names log file
   pub images : HasImages r before log
   pub counted : length after ≡ length before

@@ -7,6 +7,8 @@ use Rattle.segment_store.specs.declared.host.HostError.{HostError}
 use Rattle.segment_store.specs.declared.host.HostError.TheVariants as host
 use Rattle.segment_store.specs.declared.host.LogOpen.{LogOpen}
 use Rattle.segment_store.specs.declared.host.LogOpen.TheVariants as opening
+use Rattle.log_recovery.specs.declared.error.RecoverError.{RecoverError}
+use Rattle.log_recovery.specs.declared.error.RecoverError.TheVariants as recovery
 use Rattle.relation_commands.specs.declared.listing.ListingError.{ListingError}
 use Rattle.relation_commands.specs.declared.listing.ListingError.TheVariants as listing
 use Rattle.relation_commands.specs.declared.rewriting.RewriteError.{RewriteError}
@@ -15,7 +17,7 @@ use Rattle.relation_commands.specs.declared.limits.PositionLimit.{PositionLimit}
 use Rattle.relation_commands.specs.declared.limits.PositionLimit.TheVariants.{OfPages, OfPage, OfLog}
 use Rattle.relation_commands.specs.declared.error.Crowding.{Crowding}
 use Rattle.relation_commands.specs.declared.error.ToolError.{ToolError}
-use Rattle.relation_commands.specs.declared.error.ToolError.TheVariants.{Usage, Crowded, Missing, ReadFault, WriteFault, LogFault, OutFault, Memory, OverLimit}
+use Rattle.relation_commands.specs.declared.error.ToolError.TheVariants.{Usage, Crowded, Missing, ReadFault, WriteFault, LogFault, OutFault, Memory, OverLimit, BadLog}
 
 abbrev pub status_of_error : ToolError → ℕ
 status_of_error Usage = 1
@@ -27,8 +29,9 @@ status_of_error LogFault = 6
 status_of_error OutFault = 7
 status_of_error Memory = 8
 status_of_error (OverLimit limit) = 9
+status_of_error (BadLog path) = 10
 
-abbrev pub status_of : Result Unit ToolError → ℕ
+abbrev pub status_of : {T : Type 0} → Result T ToolError → ℕ
 status_of (Ok done) = 0
 status_of (Err error) = status_of_error error
 
@@ -43,6 +46,9 @@ crowded_text crowding = codes "crowded: " ++ crowding_text crowding
 
 abbrev pub missing_text : List ℕ → List ℕ
 missing_text path = codes "missing: " ++ path
+
+abbrev pub bad_log_text : List ℕ → List ℕ
+bad_log_text path = codes "bad log: " ++ path
 
 -- a position of a page and the number of blocks, or the log's end, or the log's end alone
 abbrev pub position_limit_text : PositionLimit → List ℕ
@@ -63,6 +69,7 @@ error_text LogFault = codes "log fault"
 error_text OutFault = codes "output fault"
 error_text Memory = codes "out of memory"
 error_text (OverLimit limit) = limit_text limit
+error_text (BadLog path) = bad_log_text path.now
 
 -- a line of the tool on the error stream
 abbrev pub tool_line : List ℕ → List ℕ
@@ -94,3 +101,10 @@ rewrite_tool_error rewrite.LogFault = LogFault
 rewrite_tool_error rewrite.OutFault = OutFault
 rewrite_tool_error rewrite.Memory = Memory
 rewrite_tool_error (rewrite.OverLimit limit) = OverLimit limit
+
+-- what the end of a recovery by the log at a path means to the tool
+abbrev pub recover_tool_error : RecoverError → Bor (List ℕ) → ToolError
+recover_tool_error recovery.BadLog path = BadLog path
+recover_tool_error recovery.ReadFault path = ReadFault
+recover_tool_error recovery.WriteFault path = WriteFault
+recover_tool_error recovery.Memory path = Memory

@@ -1,12 +1,13 @@
 //! Why a command isn't done: the status and the line of each refusal.
 ghost use Rattle.std.specs.Prelude.{◌≡◌, ◌++◌, [], IfOk, IfSome, None, Some, string_bytes};
 ghost use Rattle.relation_commands.specs.Request.{IsCrowded, crowding_of};
-ghost use Rattle.relation_commands.specs.Status.{crowding_text, error_line, error_text, host_error, listing_tool_error, rewrite_tool_error, status_of_error};
+ghost use Rattle.relation_commands.specs.Status.{crowding_text, error_line, error_text, host_error, listing_tool_error, recover_tool_error, rewrite_tool_error, status_of_error};
 
 use crate::limits::PositionLimit;
 use crate::listing::ListingError;
 use crate::rewriting::RewriteError;
 use command_line::Options;
+use log_recovery::RecoverError;
 use segment_store::HostError;
 use std::alloc::{AllocError, Global};
 use std::fmt;
@@ -50,7 +51,7 @@ pub enum ToolError<'a> {
     /// The words are no command.
     Usage,
     Crowded(Crowding),
-    /// The first segment of the relation isn't there.
+    /// Nothing is there at the path of the relation, or of the log of a recovery.
     Missing { path: &'a str },
     ReadFault,
     WriteFault,
@@ -59,6 +60,8 @@ pub enum ToolError<'a> {
     Memory,
     /// The log could pass its last position.
     OverLimit(PositionLimit),
+    /// The first 16 bytes of the log at the path aren't the head of one.
+    BadLog { path: &'a str },
 }
 
 impl fmt::Display for ToolError<'_> {
@@ -77,6 +80,7 @@ impl fmt::Display for ToolError<'_> {
             ToolError::OutFault => f.write_str("output fault"),
             ToolError::Memory => f.write_str("out of memory"),
             ToolError::OverLimit(limit) => write!(f, "log position limit: {limit}"),
+            ToolError::BadLog { path } => write!(f, "bad log: {path}"),
         }
     }
 }
@@ -96,6 +100,7 @@ impl<'a> ToolError<'a> {
             ToolError::OutFault => 7,
             ToolError::Memory => 8,
             ToolError::OverLimit(_) => 9,
+            ToolError::BadLog { .. } => 10,
         }
     }
 
@@ -139,6 +144,18 @@ impl<'a> ToolError<'a> {
             RewriteError::OutFault => ToolError::OutFault,
             RewriteError::Memory => ToolError::Memory,
             RewriteError::OverLimit(limit) => ToolError::OverLimit(limit),
+        }
+    }
+
+    /// What the end of a recovery by the log at a path means to the tool.
+    pub fn from_recovery(error: RecoverError, path: &'a str) -> ToolError<'a>
+        ensures { result ≡ recover_tool_error error path.entry }
+    {
+        match error {
+            RecoverError::BadLog => ToolError::BadLog { path },
+            RecoverError::ReadFault => ToolError::ReadFault,
+            RecoverError::WriteFault => ToolError::WriteFault,
+            RecoverError::Memory => ToolError::Memory,
         }
     }
 }

@@ -83,7 +83,7 @@ pub fn list_relation<'a, H: Host, R: Threads + Wait + Sync, O: Sink + Send, G: G
     ensures later { (H.read_faults host.old ≤ H.read_faults host.new)
         × (O.faults out.old ≤ O.faults out.new) }
     ensures ends { let faults = counts_of H.read_faults H.write_faults H.log_faults O.faults in
-        EndsCommand (asked (Request.List request.now)) (H.contents host.old)
+        EndsCommand (asked (Request.List request.now)) (H.contents host.old) (H.logs host.old)
         (faults host.old out.old) (faults host.new out.new) result }
     ensures text { IfSome (text_asked (asked (Request.List request.now)) (H.contents host.old))
         (λ text. Puts text (O.bytes out.old) (O.bytes out.new) result) }

@@ -24,6 +24,15 @@ pub struct RewriteRequest<'a> {
     pub options: Options,
 }
 
+/// A recovery of the relation at a path by the log at another.
+#[derive(Clone, Copy, Debug)]
+pub struct RecoverRequest<'a> {
+    pub path: &'a str,
+    pub log: &'a str,
+    pub lanes: u32,
+    pub seg_blocks: u32,
+}
+
 /// A rewrite in memory of so many blocks of the relation that is made from a seed.
 #[derive(Clone, Copy, Debug)]
 pub struct SampleRequest {
@@ -37,6 +46,7 @@ pub struct SampleRequest {
 pub enum Request<'a> {
     List(ListRequest<'a>),
     Rewrite(RewriteRequest<'a>),
+    Recover(RecoverRequest<'a>),
     Sample(SampleRequest),
 }
 
@@ -62,6 +72,17 @@ fn request_by(command: Command<'_>) -> Request<'_>
             path,
             log,
             options,
+        }),
+        Command::Recover {
+            path,
+            log,
+            lanes,
+            seg_blocks,
+        } => Request::Recover(RecoverRequest {
+            path,
+            log,
+            lanes,
+            seg_blocks,
         }),
         Command::Sample {
             seed,

@@ -278,7 +278,7 @@ pub fn rewrite_relation<'a, H: Host, R: Threads + Wait + Sync, O: Sink, G: Gate 
     requires main { fork_of request.now.path.now ≡ Main }
     ensures later { CountsLater (counts (H.read_faults host.old) (H.write_faults host.old) (H.log_faults host.old) (O.faults out.old))
         (counts (H.read_faults host.new) (H.write_faults host.new) (H.log_faults host.new) (O.faults out.new)) }
-    ensures ends { EndsCommand (asked (Request.Rewrite request.now)) (H.contents host.old)
+    ensures ends { EndsCommand (asked (Request.Rewrite request.now)) (H.contents host.old) (H.logs host.old)
         (counts (H.read_faults host.old) (H.write_faults host.old) (H.log_faults host.old) (O.faults out.old))
         (counts (H.read_faults host.new) (H.write_faults host.new) (H.log_faults host.new) (O.faults out.new)) result }
     ensures files { BecomesOf (files_of (H.contents host.old) (H.failed_writes host.old) (H.logs host.old))

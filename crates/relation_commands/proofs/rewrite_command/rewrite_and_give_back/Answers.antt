@@ -1,3 +1,4 @@
+use Rattle.std.proofs.Common.{arith}
 use Rattle.relation_commands.specs.Request.{rewrite_asked}
 use Rattle.relation_commands.proofs.GivenFiles.{told, held_by, refused, rewritten}
 use Rattle.relation_commands.proofs.rewrite_command.rewrite_and_give_back.Goals as goal
@@ -24,6 +25,6 @@ returns-in-Err-clause-files g c =
     c.requires.open_at surveyed.unmarked surveyed.there
     (held_by g.H.Lane.BlockLane.contents g.H.Lane.BlockLane.failed_writes g.H.Log.LogDevice.bytes g.H.Log.LogDevice.synced (rewrite_asked c.args.request.now)
     _ c.args.relation c.args.base c.args.lanes.items c.requires.main surveyed.relation_is surveyed.pages)
-    surveyed.base_is opened.head
+    (let begins = surveyed.begins.1 in omega arith) surveyed.base_is opened.head
     (record { contents = opened.contents; failed = opened.failed; open_at = opened.open_at }) opened.logs (g.met.H.Host.logs_told c.open_log.new.host) opened.cause
     (record { paths = back.contents; marks = back.failed; logs = back.logs })

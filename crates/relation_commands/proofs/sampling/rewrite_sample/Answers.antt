@@ -1,4 +1,4 @@
-use Rattle.std.proofs.Common.{◌≡◌, List, ◌++◌, drop, length, map, refl, sym, subst, take, arith}
+use Rattle.std.proofs.Common.{◌≡◌, List, length, map, refl, sym, subst, arith}
 use Rattle.std.specs.Prelude.{sum_by}
 use Rattle.segment_store.specs.Lanes.{HasBlocks}
 use Rattle.relation_commands.proofs.Sampled.{are_surveyed, based, changed_within, has_blocks, have_surveyed, no_reads, no_write_failed, rewritten, unwritten}
