@@ -1,7 +1,10 @@
-//! `page_tool`: lists and rewrites the pages of a PostgreSQL relation, at a path or made from a number.
+//! `page_tool`: lists and rewrites the pages of a PostgreSQL relation, at a path or made from a
+//! number, and recovers a relation at a path by the log of a rewrite.
 //! `docs/page_tool.1.md` is its manual page.
 #![tactic(auto)]
 
+#[cfg(test)]
+mod recover_fault_tests;
 #[cfg(test)]
 mod rewrite_fault_tests;
 mod run;

@@ -2,7 +2,7 @@
 ghost use Rattle.std.specs.Prelude.{◌≡◌, ◌≤◌, ◌⊎◌, None, IfErr, IfSome};
 ghost use Rattle.log_device.specs.Bytes.{Puts};
 ghost use Rattle.relation_commands.specs.declared.error.ToolError.{ToolError};
-ghost use Rattle.relation_commands.specs.Answers.{CountsLater, CrowdedIf, Ends, FailsNone, FaultIf, IsComplete, IsNoRewrite, LeavesFiles, LimitIf, MissingIf, SaysAs, SaysStatus, UsageIf, Wrote, counts_of, files_in, text_asked};
+ghost use Rattle.relation_commands.specs.Answers.{BadLogIf, CountsLater, CrowdedIf, Ends, FailsNone, FaultIf, IsComplete, IsNoRewrite, LeavesFiles, LimitIf, MissingIf, PutsLogOf, SaysAs, SaysStatus, UsageIf, WritesNoPath, Wrote, WroteLogOf, counts_of, files_in, text_asked};
 ghost use Rattle.relation_commands.specs.Request.{NamesNoPath, options_of, request_in};
 ghost use Rattle.relation_commands.specs.RewriteFiles.{BecomesOf};
 ghost use Rattle.relation_commands.specs.Status.{status_of, status_of_error};
@@ -10,7 +10,7 @@ ghost use Rattle.relation_commands.specs.Status.{status_of, status_of_error};
 use log_device::Sink;
 use page_jobs::Gate;
 use relation_commands::{
-    Request, ToolError, list_relation, read_request, rewrite_relation, sample,
+    Request, ToolError, list_relation, read_request, recover_relation, rewrite_relation, sample,
 };
 use segment_store::Host;
 use std::alloc::Global;
@@ -48,21 +48,26 @@ fn perform<'a, H: Host, R: Threads + Wait + Sync, O: Sink + Send, G: Gate + Sync
     ensures later { let faults = counts_of H.read_faults H.write_faults H.log_faults O.faults in
         CountsLater (faults host.old out.old) (faults host.new out.new) }
     ensures ends { let faults = counts_of H.read_faults H.write_faults H.log_faults O.faults in
-        Ends (request_in words.now) (H.contents host.old)
+        Ends (request_in words.now) (H.contents host.old) (H.logs host.old)
         (faults host.old out.old) (faults host.new out.new) result }
     ensures text { IfSome (request_in words.now) (λ a. IfSome (text_asked a (H.contents host.old))
         (λ text. Puts text (O.bytes out.old) (O.bytes out.new) result)) }
+    ensures recovers { IfSome (request_in words.now) (λ a. PutsLogOf a (H.logs host.old)
+        (O.bytes out.old) (O.bytes out.new) result) }
     ensures silent { IfErr result (λ e. status_of_error e ≤ 3 → O.bytes out.new ≡ O.bytes out.old) }
+    ensures bad_log_silent { IfErr result
+        (λ e. status_of_error e ≡ 10 → O.bytes out.new ≡ O.bytes out.old) }
     ensures no_command { request_in words.now ≡ None → O.bytes out.new ≡ O.bytes out.old }
     ensures files { let files = files_in H.contents H.failed_writes H.logs in
         BecomesOf (files host.old) (files host.new)
         (LeavesFiles (request_in words.now) (status_of result)) }
-    ensures listed { IsNoRewrite (request_in words.now)
+    ensures listed { WritesNoPath (request_in words.now)
         → (H.contents host.new ≡ H.contents host.old)
-        × (H.logs host.new ≡ H.logs host.old)
-        × (H.write_faults host.new ≡ H.write_faults host.old)
+        × (H.write_faults host.new ≡ H.write_faults host.old) }
+    ensures unlogged { IsNoRewrite (request_in words.now)
+        → (H.logs host.new ≡ H.logs host.old)
         × (H.log_faults host.new ≡ H.log_faults host.old) }
-    ensures failed { IsNoRewrite (request_in words.now)
+    ensures failed { WritesNoPath (request_in words.now)
         → IfSome (H.contents host.old) (λ paths. FailsNone (request_in words.now) paths
         (H.failed_writes host.old) (H.failed_writes host.new)) }
     ensures untouched { NamesNoPath (request_in words.now) → host.new ≡ host.old }
@@ -72,6 +77,7 @@ fn perform<'a, H: Host, R: Threads + Wait + Sync, O: Sink + Send, G: Gate + Sync
         Ok(Some(Request::Rewrite(request))) => {
             rewrite_relation(rt, alloc, &request, host, out, gate)
         }
+        Ok(Some(Request::Recover(request))) => recover_relation(alloc, &request, host, out),
         Ok(Some(Request::Sample(request))) => sample(rt, alloc, &request, out, gate),
         Ok(None) => Err(ToolError::Usage),
         Err(_) => Err(ToolError::Memory),
@@ -84,13 +90,16 @@ fn perform<'a, H: Host, R: Threads + Wait + Sync, O: Sink + Send, G: Gate + Sync
 /// - `dump PATH` prints besides a line for each line pointer of a page.
 /// - `rewrite PATH --log FILE` rewrites each page that has dead line pointers or room between its
 ///   items, with a log of the pages at FILE, and prints the totals and the log's positions.
+/// - `recover PATH --log FILE` redoes the log of a rewrite: each record's page is written to its
+///   block, and the relation is synced. It prints where the log begins and ends, how many records
+///   it has, and how many blocks were redone.
 /// - `sample SEED BLOCKS` makes a relation of so many blocks from a number, in memory, scans it,
 ///   rewrites it with a log in memory, and scans it again. It prints the totals of each scan, and
 ///   between them what a rewrite prints. It doesn't call the host.
 ///
 /// The blocks are read and written by as many backends as `--backends` says, through a buffer
-/// manager of `--frames` frames. The answer is the status that the program ends with; a refusal has
-/// its line on the error stream.
+/// manager of `--frames` frames, but for a recovery, which has none. The answer is the status that
+/// the program ends with; a refusal has its line on the error stream.
 pub fn run<H: Host, R: Threads + Wait + Sync, O: Sink + Send, E: Sink, G: Gate + Sync>(
     rt: &R,
     alloc: Global,
@@ -100,14 +109,16 @@ pub fn run<H: Host, R: Threads + Wait + Sync, O: Sink + Send, E: Sink, G: Gate +
     err: &mut E,
     gate: &G,
 ) -> u8
-    ensures status { result ≤ 9 }
+    ensures status { result ≤ 10 }
 
-    // When each refusal comes, by the words, the numbers of the options, what is at the path, and
+    // When each refusal comes, by the words, the numbers of the options, what is at the paths, and
     // the counts of faults.
     ensures usage { UsageIf (request_in words.now) result }
     ensures crowded { IfSome (request_in words.now) (λ a. CrowdedIf (options_of a) result) }
     ensures missing { IfSome (request_in words.now) (λ a. MissingIf a (H.contents host.old)
-        (H.read_faults host.old) (H.read_faults host.new) result) }
+        (H.logs host.old) (H.read_faults host.old) (H.read_faults host.new) result) }
+    ensures bad_log { IfSome (request_in words.now) (λ a. BadLogIf a (H.contents host.old)
+        (H.logs host.old) (H.read_faults host.old) (H.read_faults host.new) result) }
     ensures over_limit { IfSome (request_in words.now) (λ a. LimitIf a (H.contents host.old)
         (H.read_faults host.old) (H.read_faults host.new) result) }
     ensures faults { let faults = counts_of H.read_faults H.write_faults H.log_faults O.faults in
@@ -116,23 +127,28 @@ pub fn run<H: Host, R: Threads + Wait + Sync, O: Sink + Send, E: Sink, G: Gate +
     // What is out: the text that is asked for, where it is known, or a prefix of it.
     ensures text { IfSome (request_in words.now) (λ a. IfSome (text_asked a (H.contents host.old))
         (λ text. Wrote text (O.bytes out.old) (O.bytes out.new) result)) }
+    ensures recovers { IfSome (request_in words.now) (λ a. WroteLogOf a (H.logs host.old)
+        (O.bytes out.old) (O.bytes out.new) result) }
     ensures silent { 1 ≤ result → result ≤ 3 → O.bytes out.new ≡ O.bytes out.old }
+    ensures bad_log_silent { result ≡ 10 → O.bytes out.new ≡ O.bytes out.old }
     ensures no_command { request_in words.now ≡ None → O.bytes out.new ≡ O.bytes out.old }
     ensures quiet { result ≡ 0
         → (E.bytes err.new ≡ E.bytes err.old) × (E.faults err.new ≡ E.faults err.old) }
-    ensures says { SaysStatus (request_in words.now) (H.contents host.old)
+    ensures says { SaysStatus (request_in words.now) (H.contents host.old) (H.logs host.old)
         (E.bytes err.old) (E.bytes err.new) (E.faults err.old) (E.faults err.new) result }
 
-    // What is left of the files. Only a rewrite changes them, whether they are known or not; and
-    // the host isn't called where no path is asked for.
+    // What is left of the files. Only a rewrite and a recovery change relations, and only a rewrite
+    // changes logs, whether they are known or not; and the host isn't called where no path is asked
+    // for.
     ensures files { let files = files_in H.contents H.failed_writes H.logs in
         BecomesOf (files host.old) (files host.new) (LeavesFiles (request_in words.now) result) }
-    ensures listed { IsNoRewrite (request_in words.now)
+    ensures listed { WritesNoPath (request_in words.now)
         → (H.contents host.new ≡ H.contents host.old)
-        × (H.logs host.new ≡ H.logs host.old)
-        × (H.write_faults host.new ≡ H.write_faults host.old)
+        × (H.write_faults host.new ≡ H.write_faults host.old) }
+    ensures unlogged { IsNoRewrite (request_in words.now)
+        → (H.logs host.new ≡ H.logs host.old)
         × (H.log_faults host.new ≡ H.log_faults host.old) }
-    ensures failed { IsNoRewrite (request_in words.now)
+    ensures failed { WritesNoPath (request_in words.now)
         → IfSome (H.contents host.old) (λ paths. FailsNone (request_in words.now) paths
         (H.failed_writes host.old) (H.failed_writes host.new)) }
     ensures untouched { NamesNoPath (request_in words.now) → host.new ≡ host.old }
@@ -144,7 +160,7 @@ pub fn run<H: Host, R: Threads + Wait + Sync, O: Sink + Send, E: Sink, G: Gate +
     ensures done { let faults = counts_of H.read_faults H.write_faults H.log_faults O.faults in
         result ≡ 0 → faults host.new out.new ≡ faults host.old out.old }
     ensures complete { let faults = counts_of H.read_faults H.write_faults H.log_faults O.faults in
-        IfSome (request_in words.now) (λ a. IsComplete a (H.contents host.old)
+        IfSome (request_in words.now) (λ a. IsComplete a (H.contents host.old) (H.logs host.old)
         (faults host.old out.old) (faults host.new out.new) result) }
 {
     match perform(rt, alloc, words, host, out, gate) {
