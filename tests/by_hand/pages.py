@@ -1,7 +1,8 @@
-"""Pages of a relation, the rule that rewrites them, the texts of page_tool and the log of a rewrite.
+"""Pages of a relation, the rule that rewrites them, the texts of page_tool, the log of a rewrite and
+its redo.
 
 A second implementation, for comparison: it follows the chapter "Database Page Layout" of PostgreSQL's
-documentation and docs/page_tool.1.md, and shares nothing with the program's sources.
+documentation, docs/page_tool.1.md and docs/LOG_FORMAT.md, and shares nothing with the program's sources.
 """
 
 import enum
@@ -28,11 +29,15 @@ LOG_MAGIC = b"PGBUFLOG"
 LOG_HEAD_SIZE = 16
 RECORD_HEAD = struct.Struct("<IIIIIIQ")
 RECORD_SIZE = RECORD_HEAD.size + PAGE_SIZE
+# The kind of a record of a page.
+IMAGE_KIND = 1
+MAIN_FORK, LAST_FORK = 0, 3
+LAST_BLOCK = 0xFFFFFFFE
 # A log ends at this position at the latest.
 LAST_POSITION = 1 << 62
 
 # The exit statuses of page_tool that the scripts speak of.
-DONE, USAGE, OUT_OF_MEMORY, POSITION_LIMIT = 0, 1, 8, 9
+DONE, MISSING, WRITE_FAULT, OUT_OF_MEMORY, POSITION_LIMIT, BAD_LOG = 0, 3, 5, 8, 9, 10
 
 
 class State(enum.IntEnum):
@@ -238,14 +243,99 @@ class Record(NamedTuple):
     block: int
     start: int
     image: bytes
+    fork: int = MAIN_FORK
 
     @property
     def end(self):
         return self.start + RECORD_SIZE
 
 
+class BadLog(Exception):
+    """A file of 16 bytes or more that doesn't begin as a log does."""
+
+
+class Log(NamedTuple):
+    base: int
+    records: list
+
+    @property
+    def end(self):
+        return self.base + RECORD_SIZE * len(self.records)
+
+
+# A log without a head.
+EMPTY_LOG = Log(0, [])
+
+
+def log_head(base):
+    return LOG_MAGIC + struct.pack("<Q", base)
+
+
+def record_bytes(relation, block, start, page, fork=MAIN_FORK):
+    """The bytes of a record of a page, at the end of which the page then is."""
+    head = RECORD_HEAD.pack(IMAGE_KIND, 0, 0, relation, fork, block, start)
+    return head + with_lsn(page, start + RECORD_SIZE)
+
+
+def record_at(start, relation, data):
+    """The record that these bytes are at a position, if it is a well-formed one of the relation."""
+    if len(data) < RECORD_SIZE:
+        return None
+    kind, tablespace, database, number, fork, block, position = RECORD_HEAD.unpack_from(data)
+    record = Record(block, start, data[RECORD_HEAD.size :], fork)
+    is_well_formed = (
+        kind == IMAGE_KIND
+        and (tablespace, database, number) == (0, 0, relation)
+        and fork <= LAST_FORK
+        and block <= LAST_BLOCK
+        and position == start
+        and record.end <= LAST_POSITION
+        and kind_of(record.image) is Kind.USED
+        and header_of(record.image).lsn == record.end
+    )
+    return record if is_well_formed else None
+
+
+def read_log(relation, data):
+    """The log that a file's bytes are, for the relation whose files have this number.
+
+    Its records are those before the first that isn't well formed. The format is that of
+    docs/LOG_FORMAT.md. A file that doesn't begin as a log does is a BadLog.
+    """
+    if len(data) < LOG_HEAD_SIZE:
+        return EMPTY_LOG
+    base = struct.unpack_from("<Q", data, len(LOG_MAGIC))[0]
+    if not data.startswith(LOG_MAGIC) or base % 8 != 0 or base > LAST_POSITION:
+        raise BadLog(f"the log's head is {data[:LOG_HEAD_SIZE].hex()}")
+    log = Log(base, [])
+    for at in range(LOG_HEAD_SIZE, len(data), RECORD_SIZE):
+        record = record_at(log.end, relation, data[at : at + RECORD_SIZE])
+        if record is None:
+            break
+        log.records.append(record)
+    return log
+
+
+def recover_text(log):
+    """What page_tool prints after the recovery by a log."""
+    blocks = {(it.fork, it.block) for it in log.records}
+    return (
+        f"log {position_text(log.base)} {position_text(log.end)} entries {len(log.records)}\n"
+        f"blocks {len(blocks)} redone\n"
+    )
+
+
+def redone(pages, log):
+    """The pages of a relation after redo of a log whose records are of its main fork."""
+    result = list(pages)
+    for record in log.records:
+        result += [NEW_PAGE] * (record.block + 1 - len(result))
+        result[record.block] = record.image
+    return result
+
+
 class Damaged(Exception):
-    """Files that no rewrite leaves, whole or killed."""
+    """Files that no rewrite and no recovery leaves, whole or killed."""
 
 
 class Rewrite:
@@ -292,11 +382,10 @@ class Rewrite:
         return f"page_tool: log position limit: page {largest}, blocks {len(self.pages)}\n"
 
     def log_head(self):
-        return LOG_MAGIC + struct.pack("<Q", self.base)
+        return log_head(self.base)
 
     def record_bytes(self, block, start):
-        head = RECORD_HEAD.pack(1, 0, 0, self.relation, 0, block, start)
-        return head + with_lsn(self.results[block].page, start + RECORD_SIZE)
+        return record_bytes(self.relation, block, start, self.results[block].page)
 
     def records(self, log):
         """The whole records of a log by their blocks, where it is a prefix of a log of this rewrite.
@@ -391,7 +480,8 @@ def write_relation(path, pages, segment_blocks=131072):
 
 
 def repository():
-    return os.path.dirname(os.path.dirname(os.path.realpath(__file__)))
+    here = os.path.dirname(os.path.realpath(__file__))
+    return os.path.dirname(os.path.dirname(here))
 
 
 def built_program(given=None):
