@@ -14,14 +14,11 @@ use std::thread::Threads;
 /// The relation of most tests.
 pub(crate) const RELATION: &str = "base/5/16384";
 
-/// The path of the log.
-pub(crate) const LOG: &str = "w";
-
 /// How many bytes each log has room for: its head and 65 records.
 const LOG_ROOM: usize = 16 + 65 * 8224;
 
-/// The calls of a run that are to fail, by their numbers from 1: those of a lane, of a log and of a
-/// source are numbered anew at each opening.
+/// The calls of a run that are to fail, by their numbers from 1: those of a lane and of a log are
+/// numbered anew at each opening.
 #[derive(Clone, Copy)]
 pub(crate) struct Failing<'a> {
     pub openings: &'a [u64],
@@ -31,8 +28,6 @@ pub(crate) struct Failing<'a> {
     pub log_openings: &'a [u64],
     pub appends: &'a [u64],
     pub log_syncs: &'a [u64],
-    pub source_openings: &'a [u64],
-    pub source_calls: &'a [u64],
     pub puts: &'a [u64],
 }
 
@@ -44,8 +39,6 @@ pub(crate) const NONE_FAIL: Failing<'static> = Failing {
     log_openings: &[],
     appends: &[],
     log_syncs: &[],
-    source_openings: &[],
-    source_calls: &[],
     puts: &[],
 };
 
@@ -82,26 +75,8 @@ fn logs_of(alloc: Global, failing: Failing) -> Result<MemLogs, Fail> {
         syncs: plan(alloc, failing.log_syncs)?,
     };
     let openings = plan(alloc, failing.log_openings)?;
-    let source_openings = plan(alloc, failing.source_openings)?;
-    let source_calls = plan(alloc, failing.source_calls)?;
-    let sources = SourcePlan::new(source_openings, source_calls, 8192);
+    let sources = SourcePlan::new(plan(alloc, &[])?, plan(alloc, &[])?, 8192);
     Ok(MemLogs::new(alloc, LOG_ROOM, openings, calls, sources))
-}
-
-/// A host with these files, and with a log of these bytes, if there are any.
-fn host_over(
-    alloc: Global,
-    files: Vec<MemFile>,
-    log: Option<&[u8]>,
-    failing: Failing,
-) -> Result<MemHost, Fail> {
-    let openings = plan(alloc, failing.openings)?;
-    let lanes = lane_plan(alloc, failing)?;
-    let mut logs = logs_of(alloc, failing)?;
-    if let Some(bytes) = log {
-        logs.put(alloc, LOG, bytes)?;
-    }
-    Ok(MemHost::new(alloc, files, openings, lanes, logs))
 }
 
 /// A host with these relations, each of one segment, and no logs.
@@ -111,43 +86,10 @@ pub(crate) fn host_of(
     failing: Failing,
 ) -> Result<MemHost, Fail> {
     let files = relation_files(alloc, relations)?;
-    host_over(alloc, files, None, failing)
-}
-
-/// A host with the relation of most tests, of one segment, and with a log, if there is one.
-pub(crate) fn host_with_log(
-    alloc: Global,
-    relation: &[u8],
-    log: Option<&[u8]>,
-    failing: Failing,
-) -> Result<MemHost, Fail> {
-    let files = relation_files(alloc, &[(RELATION, relation)])?;
-    host_over(alloc, files, log, failing)
-}
-
-/// A host with a log, and with a relation that may have so many segments, each of so many blocks.
-pub(crate) fn host_with_space(
-    alloc: Global,
-    relation: &[&[u8]],
-    log: &[u8],
-    count: u32,
-    blocks: u32,
-) -> Result<MemHost, Fail> {
-    let mut segments = Vec::new(alloc);
-    for segment in relation {
-        segments.push(segment.to_vec(alloc)?)?;
-    }
-    let path = String::from_str(alloc, RELATION)?;
-    let mut files = Vec::new(alloc);
-    files.push(MemFile::with_space(alloc, path, segments, count, blocks)?)?;
-    host_over(alloc, files, Some(log), NONE_FAIL)
-}
-
-/// Whether these are the segments of the relation of most tests.
-pub(crate) fn has_segments(host: &MemHost, wanted: &[&[u8]]) -> bool {
-    let segments = host.segments(RELATION);
-    let mut pairs = segments.iter().zip(wanted);
-    segments.len() == wanted.len() && pairs.all(|(segment, bytes)| segment.as_slice() == *bytes)
+    let openings = plan(alloc, failing.openings)?;
+    let lanes = lane_plan(alloc, failing)?;
+    let logs = logs_of(alloc, failing)?;
+    Ok(MemHost::new(alloc, files, openings, lanes, logs))
 }
 
 /// Whether these bytes are the one segment of the relation at a path.
