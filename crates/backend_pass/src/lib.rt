@@ -1,4 +1,14 @@
-//! A manager of buffers and its backends, over `frame_table`. Each thread works with a pass of its own, and all share the manager.
+//! The buffer manager as an engine sees it (`bufmgr.h`): a [`Manager`] has the pool, the lanes and the log, and each
+//! backend works through a [`Pass`] of its own.
+//!
+//! 1. [`Manager::start`] takes a [`Config`], a catalogue, the lanes and a new log, and returns the manager with all
+//!    its passes. Give one to each thread, and share the manager by `&`.
+//! 2. [`Pass::read_buffer`] pins a block and returns a token, [`Pinned`]; `share`, `exclusive` and `lock_cleanup` trade
+//!    it for one with the content lock. Read and `put` pages with that, then unlock and `release`.
+//! 3. [`Manager::close`] takes all passes back and returns the devices.
+//!
+//! Tokens, passes and the manager aren't `Drop`: forget one, and the compiler complains. `docs/LIBRARY.md` says how an
+//! engine uses them.
 #![tactic(auto)]
 
 mod cleanup;

@@ -1,4 +1,9 @@
-//! The frames of the buffer pool, below a backend's pass: what works on a table and a seat alone. A block is looked up, and comes into the frame of a victim that is chosen, flushed and emptied; its page comes into its frame, is read and put there, and goes out to its lane (`bufmgr.c`).
+//! What a backend does with one buffer (`bufmgr.c`), below its pass: it works on the shared table and the backend's
+//! seat there, and keeps no account of tokens. Engines call `backend_pass` instead.
+//!
+//! [`read_block`] looks a block up and, if it isn't in the pool, evicts a victim and reads it in. [`read_copy`] and
+//! [`share_to_read`] copy the page out, [`put_locked`] changes it through the log, and [`flush_frame`] and
+//! [`flush_pinned`] write it to its lane.
 #![tactic(auto)]
 
 mod choosing;

@@ -1,4 +1,8 @@
-//! What the background writer and checkpoints do on a table and a seat, below a backend's pass: a frame is written unless its state word says that it need not be, or noted for a checkpoint, and a lane is synced (`bufmgr.c`).
+//! What the background writer and checkpoints do with one buffer (`SyncOneBuffer`), below a backend's pass. Engines
+//! call `bg_writer` and `checkpointer` instead.
+//!
+//! [`sync_one`] writes a buffer unless its state word says that it needn't be written, [`need_checkpoint`] marks one
+//! for a checkpoint, and [`sync_lane`] makes the writes to a lane durable.
 #![tactic(auto)]
 
 mod lanes;

@@ -1,4 +1,8 @@
-//! The cleanup lock of a frame (`LockBufferForCleanup`), over `content_locks`: the exclusive content lock, got while no other backend pins the frame. A backend that gives up a pin wakes the one that waits for that.
+//! Cleanup locks (`LockBufferForCleanup`), over `content_locks`: the exclusive content lock, granted while no other
+//! backend pins the buffer. Engines call `Pass::lock_cleanup` and `Pass::try_cleanup` instead.
+//!
+//! [`lock()`] waits for the other pins to go, and [`try_lock`] doesn't. Whoever gives up a pin calls [`unpin_and_wake`],
+//! which wakes the backend that waits.
 #![tactic(auto)]
 
 ghost use Rattle.std.specs.Prelude.{◌<◌, ℕ};

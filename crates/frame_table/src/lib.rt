@@ -1,6 +1,9 @@
-//! The table that the backends share: the frames, the partitions of the mapping table, the lanes and the log in one `atomic_table`, whose rule is the law of `history_core`.
+//! The table that the backends share (`BufferDescriptors` and more): the frames, the partitions of the mapping table,
+//! the lanes and the log in one `atomic_table`, whose rule is the law of `history_core`.
 //!
-//! Each call is one step of the protocol, or the call of a device and its return, after loads where it tests or waits, and says which. docs/PROTOCOL.md tells the steps in words.
+//! Start with [`FrameTable`]. Each of its calls is one step of the protocol, or the call of a device and its return,
+//! after loads where it tests or waits, and its contract says which. docs/PROTOCOL.md has the steps in words. Engines
+//! use `backend_pass`, a few crates up.
 #![tactic(auto)]
 
 mod blocks;

@@ -1,4 +1,9 @@
-//! Bytes that are put or taken one piece after another, as traits: logs, sinks and sources, with forms in memory and over files.
+//! Devices that take or give bytes one piece after another, as traits: a log is a [`LogDevice`], an output a [`Sink`],
+//! an input a [`Source`].
+//!
+//! Use [`MemLog`], [`MemSink`] and [`MemSource`] in memory, where a [`FaultPlan`] says which calls are to fail, or
+//! [`FileLog`], [`FileSource`] and [`StdSink`] over files. For a device of your own, implement the trait and count each
+//! failed call in a [`FaultCount`]: contracts tell by it that nothing failed.
 #![tactic(auto)]
 
 mod count;

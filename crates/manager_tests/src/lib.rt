@@ -1,4 +1,7 @@
-//! Passes of a small manager, which tests run.
+//! Tests of passes over a small manager: pins, reads, puts, content and cleanup locks, hints, crowded pools.
+//!
+//! `bench` starts a manager of 16 frames with three passes and closes it, `reading` and `putting` use its pages. The
+//! tests of other crates begin with these, too.
 #![tactic(auto)]
 
 pub mod bench;

@@ -1,6 +1,8 @@
 //! Content locks, pages, input and output, as plain data: what a step may be, and what every list of steps keeps.
 //!
-//! Nothing here runs. The types are those of `pin_core`; the kinds of step, the invariant that they keep and the lists of steps are in `specs/`, and docs/PROTOCOL.md and docs/INVARIANT.md tell them in words.
+//! Nothing here runs. The types are those of `pin_core`; the kinds of step, the invariant that they keep and the lists
+//! of steps are in `specs/`, and docs/PROTOCOL.md and docs/INVARIANT.md tell them in words. Begin with
+//! [`all_histories`], whose clauses are the promises.
 #![tactic(auto)]
 
 ghost use Rattle.std.specs.Prelude.{ℕ, ◌<◌, List, Option};

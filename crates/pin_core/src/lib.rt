@@ -1,6 +1,9 @@
-//! Pins, buffer headers, buffer tags, and the partitions of the mapping table with their maps, as plain data: what a step may be, and what every list of steps keeps.
+//! Pins, buffer headers, buffer tags, and the partitions of the mapping table with their maps, as plain data: what a
+//! step may be, and what every list of steps keeps.
 //!
-//! Nothing here runs. The types are what a backend knows ([`View`]); the kinds of step, the invariant that they keep and the lists of steps are in `specs/`, and docs/PROTOCOL.md and docs/INVARIANT.md tell them in words.
+//! Nothing here runs. The types are what a backend knows ([`View`]); the kinds of step, the invariant that they keep
+//! and the lists of steps are in `specs/`, and docs/PROTOCOL.md and docs/INVARIANT.md tell them in words. Begin with
+//! [`all_schedules`], whose clauses are the promises.
 #![tactic(auto)]
 
 ghost use Rattle.std.specs.Prelude.{List};

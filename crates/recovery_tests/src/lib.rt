@@ -1,5 +1,5 @@
-//! Tests of recovery: a log that is cut anywhere, what a crash may leave of blocks, calls that fail,
-//! and bytes that are no records.
+//! Tests of recovery: logs cut at any byte, blocks as a crash may leave them, devices that fail, and bytes that are no
+//! records. `bench` has the lanes and what they should hold afterwards, `log_bytes` writes the logs by hand.
 #![tactic(auto)]
 
 #[cfg(test)]

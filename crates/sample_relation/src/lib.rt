@@ -1,4 +1,7 @@
-//! A relation that is made from a number, to try a buffer manager on: new pages, pages that aren't sound, and pages with items, some of whose line pointers are dead. Lanes in memory hold its first blocks.
+//! A relation made from a number, to try a buffer manager on: new pages, pages that aren't sound, and pages with items,
+//! some of whose line pointers are dead. The same number makes the same pages.
+//!
+//! [`sample_lanes`] returns lanes in memory ([`SampleLane`]) with the first blocks, ready for a manager.
 #![tactic(auto)]
 
 ghost use Rattle.std.specs.Prelude.{◌≡◌, ◌≤◌, OnOk, OnErr, length, replicate};

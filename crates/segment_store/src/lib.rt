@@ -1,4 +1,8 @@
-//! What the buffer manager asks of the outside, as traits, with forms in memory.
+//! What a buffer manager asks of the outside, as traits: a [`BlockLane`] reads, writes and syncs pages, and a [`Host`]
+//! opens a relation's segments and log.
+//!
+//! In memory there are [`MemLane`], [`MemFile`] and [`MemHost`], whose calls fail when a plan says so; `segment_files`
+//! has lanes over files. For a lane of your own keep a [`LaneHistory`], and read docs/LIBRARY.md, "Devices of one's own".
 #![tactic(auto)]
 
 mod device;

@@ -1,4 +1,6 @@
-//! Tests of the jobs, the background writer and the checkpointer over a small manager.
+//! Tests of the background writer, the checkpointer and the jobs over a small manager. `acts` plays a list of acts by
+//! three passes and says what came of each, `sharing` runs rounds or checkpoints beside two threads that read and put,
+//! and `devices` has lanes and logs that note their calls.
 #![tactic(auto)]
 
 #[cfg(test)]

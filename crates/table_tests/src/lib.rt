@@ -1,4 +1,5 @@
-//! Tests of a small table that has no manager: its pins, its free list, its hints, its values and the positions of its log.
+//! Tests of a small table without a manager: pins, the free list, hints, the values in its slots and the positions of
+//! its log. There is nothing in it to call.
 #![tactic(auto)]
 
 #[cfg(test)]

@@ -1,4 +1,9 @@
-//! Inserts into the log, and its flushes (`xlog.c`), over `frame_table`.
+//! The log in front of the pages (`xlog.c`), over `frame_table`. [`begin_log`] writes the head of a new log, which
+//! `Manager::start` needs.
+//!
+//! The rest is for the crates above: [`insert`] appends a record with a whole page and answers its position
+//! (`XLogInsert`), [`flush_to`] makes the log durable up to a position (`XLogFlush`), and [`log_end`] and [`flushed`] load
+//! how far it is.
 #![tactic(auto)]
 
 mod flushes;
