@@ -122,15 +122,15 @@ impl OpenFile for CountedFile<'_> {
     }
 
     fn sync_all(&self) -> io::Result<()> {
+        Err(ErrorKind::Unsupported.into())
+    }
+
+    fn sync_data(&self) -> io::Result<()> {
         self.syncs.set(self.syncs.get().saturating_add(1));
         if self.syncs.get() == self.failing {
             return Err(ErrorKind::Other.into());
         }
         Ok(())
-    }
-
-    fn sync_data(&self) -> io::Result<()> {
-        Err(ErrorKind::Unsupported.into())
     }
 }
 
