@@ -1,12 +1,17 @@
 //! A host over the file system.
-ghost use Rattle.std.specs.Prelude.{[], ◌+◌, ◌≡◌, ◌≤◌, All, false, None, IfOk, length, sum_by};
+ghost use Rattle.std.specs.Prelude.{[], ◌+◌, ◌≡◌, ◌≤◌, All, false, None, IfOk, OnOk, length, sum_by};
 ghost use Rattle.std.specs.Option.{option_map_or};
 ghost use Rattle.segment_store.specs.Contents.{no_marks};
 ghost use Rattle.segment_store.specs.History.{unsynced_in};
+ghost use Rattle.segment_store.specs.Faults.{HasOpeningCause};
+ghost use Rattle.segment_files.specs.Catalog.{HaveNoClashes};
 ghost use Rattle.log_device.specs.Faults.{Added};
 
-use crate::lane::{FileLane, SharedFiles};
-use crate::opening::{FileIdentity, open_empty, open_files, open_source};
+use crate::catalog::{CatalogFile, OpenedCatalog, open_catalog};
+use crate::lane::FileLane;
+use crate::opening::{FileIdentity, open_empty, open_source};
+use crate::shared::SharedFiles;
+use block_tag::RelNo;
 use log_device::{FaultCount, FileLog, FileSource};
 use segment_store::{Host, HostError, LogOpen, Opened, fork_of_path};
 use std::alloc::Global;
@@ -14,12 +19,11 @@ use std::io::{ErrorKind, Read};
 use std::os::unix::fs::FileExt;
 use std::rt::Files;
 use std::sync::Arc;
-use std::sync::atomic::AtomicU32;
 
-/// A relation as it was opened, and which files it has.
+/// A catalogue as it was opened, and which files it has.
 #[derive(Drop)]
 struct OpenedFiles<'a, R: Files> {
-    opened: Opened<FileLane<'a, R>>,
+    opened: OpenedCatalog<FileLane<'a, R>>,
     identities: Vec<FileIdentity>,
 }
 
@@ -38,8 +42,8 @@ fn count_source<F: Read + Drop>(faults: &mut FaultCount, source: &Option<FileSou
 #[derive(Drop)]
 pub struct FileHost<'a, R: Files> {
     rt: &'a R,
-    /// The files of the relation that was opened last.
-    relation: Vec<FileIdentity>,
+    /// The files of the relations that were opened last.
+    opened: Vec<FileIdentity>,
     read_faults: FaultCount,
     write_faults: FaultCount,
     log_faults: FaultCount,
@@ -53,7 +57,7 @@ impl<'a, R: Files> FileHost<'a, R> {
     {
         FileHost {
             rt,
-            relation: Vec::new(alloc),
+            opened: Vec::new(alloc),
             read_faults: FaultCount::new(),
             write_faults: FaultCount::new(),
             log_faults: FaultCount::new(),
@@ -75,16 +79,42 @@ impl<'a, R: Files> FileHost<'a, R> {
         self.write_faults.get()
     }
 
-    /// Opens a relation as lanes that share its files.
+    /// So many lanes over these files.
+    fn lanes_over(
+        &self,
+        alloc: Global,
+        shared: Vec<SharedFiles<R::File>>,
+        seg_blocks: u32,
+        count: u32,
+    ) -> Result<Vec<FileLane<'a, R>>, HostError>
+        requires seg_blocks { 1 ≤ seg_blocks }
+        ensures count { IfOk result (λ lanes. length lanes.items ≡ count) }
+        ensures reads { IfOk result (λ lanes. sum_by (λ lane. lane.read_faults.count) lanes.items ≡ 0) }
+        ensures writes { IfOk result (λ lanes. sum_by (λ lane. lane.write_faults.count) lanes.items ≡ 0) }
+        ensures synced { IfOk result (λ lanes. All (λ lane. unsynced_in lane.history ≡ no_marks) lanes.items) }
+    {
+        let files = Arc::new(alloc, shared).map_err(|_| HostError::Memory)?;
+        let mut lanes = Vec::new(alloc);
+        for _i in 0..count {
+            let shared = Arc::try_clone(&files).map_err(|_| HostError::Memory)?;
+            lanes
+                .push(FileLane::new(self.rt, alloc, shared, seg_blocks))
+                .map_err(|_| HostError::Memory)?;
+        }
+        Ok(lanes)
+    }
+
+    /// Opens the files of a catalogue as lanes that share them.
     fn open(
         &self,
         alloc: Global,
-        path: &str,
+        entries: &[CatalogFile<'_>],
         seg_blocks: u32,
         count: u32,
     ) -> Result<OpenedFiles<'a, R>, HostError>
         requires seg_blocks { 1 ≤ seg_blocks }
-        requires count { 1 ≤ count }
+        ensures blocks { IfOk result (λ found. length found.opened.blocks.items ≡ length entries.now) }
+        ensures clashes { OnOk result (HaveNoClashes entries.now) }
         ensures count { IfOk result (λ found. length found.opened.lanes.items ≡ count) }
         ensures reads { IfOk result (λ found.
             sum_by (λ lane. lane.read_faults.count) found.opened.lanes.items ≡ 0) }
@@ -93,25 +123,57 @@ impl<'a, R: Files> FileHost<'a, R> {
         ensures synced { IfOk result (λ found.
             All (λ lane. unsynced_in lane.history ≡ no_marks) found.opened.lanes.items) }
     {
-        let segments = open_files(self.rt, alloc, path, seg_blocks)?;
-        let blocks = segments.blocks;
-        let identities = segments.identities;
-        let files = SharedFiles {
-            files: segments.files,
-            path: String::from_str(alloc, path).map_err(|_| HostError::Memory)?,
-            blocks: AtomicU32::new(blocks),
-        };
-        let files = Arc::new(alloc, files).map_err(|_| HostError::Memory)?;
-        let mut lanes = Vec::new(alloc);
-        for _i in 0..count {
-            let shared = Arc::try_clone(&files).map_err(|_| HostError::Memory)?;
-            let lane = FileLane::new(self.rt, alloc, shared, fork_of_path(path), seg_blocks);
-            lanes.push(lane).map_err(|_| HostError::Memory)?;
-        }
+        let files = open_catalog(self.rt, alloc, entries, seg_blocks)?;
+        let lanes = self.lanes_over(alloc, files.shared, seg_blocks, count)?;
         Ok(OpenedFiles {
-            opened: Opened { blocks, lanes },
-            identities,
+            opened: OpenedCatalog {
+                blocks: files.blocks,
+                lanes,
+            },
+            identities: files.identities,
         })
+    }
+
+    /// Opens the files of a catalogue, whose segments have up to `seg_blocks` blocks, as so many lanes:
+    /// each lane reaches all files. As `Host::relation` it takes the place of what was opened before.
+    ///
+    /// `Missing` comes where the first segment of an entry isn't there. `Failed` counts as a failed
+    /// read, and comes also where two entries are of one fork of a relation, where the path of one is
+    /// that of a segment of another, and where two have a file in common, if only by a link.
+    pub fn relations(
+        &mut self,
+        alloc: Global,
+        entries: &[CatalogFile<'_>],
+        seg_blocks: u32,
+        lanes: u32,
+    ) -> Result<OpenedCatalog<FileLane<'a, R>>, HostError>
+        requires seg_blocks { 1 ≤ seg_blocks }
+        requires lanes { 1 ≤ lanes }
+        ensures blocks { IfOk result (λ opened. length opened.blocks.items ≡ length entries.now) }
+        ensures clashes { OnOk result (HaveNoClashes entries.now) }
+        ensures count { IfOk result (λ opened. length opened.lanes.items ≡ lanes) }
+        ensures lane_reads { IfOk result (λ opened.
+            sum_by (λ lane. lane.read_faults.count) opened.lanes.items ≡ 0) }
+        ensures lane_writes { IfOk result (λ opened.
+            sum_by (λ lane. lane.write_faults.count) opened.lanes.items ≡ 0) }
+        ensures synced { IfOk result (λ opened.
+            All (λ lane. unsynced_in lane.history ≡ no_marks) opened.lanes.items) }
+        ensures reads { HasOpeningCause self.old.read_faults.count self.new.read_faults.count result }
+        ensures writes { self.new.write_faults.count ≡ self.old.write_faults.count }
+        ensures logs { self.new.log_faults.count ≡ self.old.log_faults.count }
+    {
+        match self.open(alloc, entries, seg_blocks, lanes) {
+            Ok(found) => {
+                self.opened = found.identities;
+                Ok(found.opened)
+            }
+            Err(HostError::Missing) => Err(HostError::Missing),
+            Err(HostError::Memory) => Err(HostError::Memory),
+            Err(HostError::Failed) => {
+                self.read_faults.raise();
+                Err(HostError::Failed)
+            }
+        }
     }
 }
 
@@ -150,31 +212,31 @@ where
         seg_blocks: u32,
         lanes: u32,
     ) -> Result<Opened<FileLane<'a, R>>, HostError> {
-        match self.open(alloc, path, seg_blocks, lanes) {
-            Ok(found) => {
-                self.relation = found.identities;
-                Ok(found.opened)
-            }
-            Err(HostError::Missing) => Err(HostError::Missing),
-            Err(HostError::Memory) => Err(HostError::Memory),
-            Err(HostError::Failed) => {
-                self.read_faults.raise();
-                Err(HostError::Failed)
-            }
+        let entry = CatalogFile {
+            rel: RelNo(0),
+            fork: fork_of_path(path),
+            path,
+        };
+        match self.relations(alloc, &[entry], seg_blocks, lanes) {
+            Ok(opened) => Ok(Opened {
+                blocks: opened.blocks[0],
+                lanes: opened.lanes,
+            }),
+            Err(error) => Err(error),
         }
     }
 
     fn log(&mut self, _alloc: Global, path: &str) -> Result<FileLog<R::File>, LogOpen> {
-        if let Ok(file) = open_empty(self.rt, path, &self.relation) {
+        if let Ok(file) = open_empty(self.rt, path, &self.opened) {
             return Ok(FileLog::new(file));
         }
         self.log_faults.raise();
         Err(LogOpen::Failed)
     }
 
-    /// Fails for a file of the relation that was opened last.
+    /// Fails for a file of the relations that were opened last.
     fn bytes(&mut self, _alloc: Global, path: &str) -> Result<FileSource<R::File>, HostError> {
-        match open_source(self.rt, path, &self.relation) {
+        match open_source(self.rt, path, &self.opened) {
             Ok(file) => Ok(FileSource::new(file)),
             Err(error) if error.kind() == ErrorKind::NotFound => Err(HostError::Missing),
             Err(_) => {

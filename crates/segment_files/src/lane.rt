@@ -1,10 +1,11 @@
-//! A lane over the files of a relation's segments.
-ghost use Rattle.std.specs.Prelude.{◌≡◌, ◌≤◌, ◌<◌, ◌-◌, ◌^◌, false, None, OnOk};
+//! Lanes over the files of a catalogue.
+ghost use Rattle.std.specs.Prelude.{◌≡◌, ◌≤◌, ◌<◌, ◌-◌, ◌^◌, false, None};
 ghost use Rattle.segment_store.specs.Contents.{no_marks};
 ghost use Rattle.segment_store.specs.History.{calls_in, unsynced_in};
 
 use crate::opening::open_segment;
-use block_tag::{Fork, LAST_BLOCK, RelNo, Tag, segment_place};
+use crate::shared::{SharedFiles, files_of};
+use block_tag::{Fork, RelNo, Tag, segment_place};
 use log_device::{Failed, FaultCount};
 use page_layout::{PAGE_SIZE, Page};
 use segment_store::{BlockLane, LaneHistory};
@@ -15,28 +16,32 @@ use std::io::ErrorKind;
 use std::os::unix::fs::FileExt;
 use std::rt::Files;
 use std::sync::Arc;
-use std::sync::atomic::{AtomicU32, Ordering};
 
-/// What all lanes of a relation share: the files that were opened, the path, and how many blocks
-/// there are by now.
+/// A segment behind the shared files: of which relation and fork, which one, and its file.
 #[derive(Drop)]
-pub(crate) struct SharedFiles<F: Drop> {
-    pub(crate) files: Vec<F>,
-    pub(crate) path: String,
-    pub(crate) blocks: AtomicU32,
+struct AddedSegment<F: Drop> {
+    rel: RelNo,
+    fork: Fork,
+    number: u32,
+    file: F,
 }
 
-/// The files of a relation, as one lane uses them.
+impl<F: Drop> AddedSegment<F> {
+    /// Whether it is this segment of this relation's fork.
+    fn is(&self, rel: RelNo, fork: Fork, number: u32) -> bool {
+        self.rel == rel && self.fork == fork && self.number == number
+    }
+}
+
+/// The segments of relations, as one lane uses them.
 #[derive(Drop)]
-struct LaneFiles<'a, R: Files> {
+struct LaneSegments<'a, R: Files> {
     rt: &'a R,
     alloc: Global,
-    shared: Arc<SharedFiles<R::File>, Global>,
-    /// The segment behind the shared files that this lane used last, and its number.
-    added: Option<(u32, R::File)>,
+    /// The segment behind the shared files that this lane used last.
+    added: Option<AddedSegment<R::File>>,
     /// Whether a sync of such a segment failed since the last call of `sync`.
     sync_failed: bool,
-    fork: Fork,
     seg_blocks: u32,
     ghost some: { 1 ≤ seg_blocks },
 }
@@ -62,65 +67,58 @@ fn zero_blocks<F: FileExt + OpenFile>(file: &F, from: u32, upto: u32) -> io::Res
     Ok(())
 }
 
-impl<R: Files> LaneFiles<'_, R> {
-    /// How many blocks the relation has.
-    fn blocks(&self) -> u32 {
-        self.shared.blocks.load(Ordering::SeqCst)
-    }
-
-    /// The segment of a block, and the block's place in it. A block of another relation or another
-    /// fork is an error.
-    fn place_of(&self, tag: Tag) -> io::Result<(u32, u32)>
-        ensures { OnOk result (tag.block < 2 ^ 32 - 1) }
-    {
-        if tag.rel != RelNo(0) || tag.fork != self.fork || tag.block > LAST_BLOCK {
-            return Err(ErrorKind::InvalidInput.into());
-        }
-        Ok(segment_place(tag.block, self.seg_blocks))
-    }
-}
-
-impl<R: Files> LaneFiles<'_, R>
+impl<R: Files> LaneSegments<'_, R>
 where
     R::File: FileExt,
 {
     /// Syncs the segment that isn't among the shared files, if one is open.
     fn sync_added(&mut self) -> io::Result<()> {
-        let Some((_, file)) = &self.added else {
+        let Some(added) = &self.added else {
             return Ok(());
         };
-        let synced = file.sync_all();
+        let synced = added.file.sync_all();
         if synced.is_err() {
             self.sync_failed = true;
         }
         synced
     }
 
-    /// The file of a segment. One that wasn't opened with the relation is opened when it is needed,
-    /// or created if `create` is true. Only the last such one stays open; it is synced before the
-    /// next is opened.
-    fn file_of(&mut self, segment: u32, create: bool) -> io::Result<&R::File> {
-        if (segment as usize) < self.shared.files.len() {
-            return Ok(&self.shared.files[segment as usize]);
+    /// The file of a segment. One that isn't among the shared files is opened when it is needed, or
+    /// created if `create` is true. Only the last such one stays open, of whatever relation; it is
+    /// synced before the next is opened.
+    fn file_of<'s, 'f: 's>(
+        &'s mut self,
+        files: &'f SharedFiles<R::File>,
+        segment: u32,
+        create: bool,
+    ) -> io::Result<&'s R::File> {
+        if (segment as usize) < files.files.len() {
+            return Ok(&files.files[segment as usize]);
         }
-        let is_open = matches!(&self.added, Some((number, _)) if *number == segment);
+        let is_open =
+            matches!(&self.added, Some(added) if added.is(files.rel, files.fork, segment));
         if !is_open {
             self.sync_added()?;
-            let path = self.shared.path.as_str();
+            let path = files.path.as_str();
             let file = open_segment(self.rt, self.alloc, path, segment, create)?;
-            self.added = Some((segment, file));
+            self.added = Some(AddedSegment {
+                rel: files.rel,
+                fork: files.fork,
+                number: segment,
+                file,
+            });
         }
         match &self.added {
-            Some((_, file)) => Ok(file),
+            Some(added) => Ok(&added.file),
             None => Err(ErrorKind::NotFound.into()),
         }
     }
 
-    /// Zeroes all blocks from the relation's end up to this one, and opens or creates its segment.
-    fn fill_gap(&mut self, block: u32) -> io::Result<()>
+    /// Zeroes all blocks from a fork's end up to this one, and opens or creates its segment.
+    fn fill_gap(&mut self, files: &SharedFiles<R::File>, block: u32) -> io::Result<()>
         requires { block < 2 ^ 32 - 1 }
     {
-        let end = self.blocks();
+        let end = files.blocks();
         if block < end {
             return Ok(());
         }
@@ -134,50 +132,78 @@ where
             } else {
                 seg_blocks
             };
-            let file = self.file_of(segment, true)?;
+            let file = self.file_of(files, segment, true)?;
             zero_blocks(file, from, upto)?;
         }
         Ok(())
     }
 
-    fn read(&mut self, tag: Tag, page: &mut Page) -> io::Result<()> {
-        let (segment, place) = self.place_of(tag)?;
-        if tag.block >= self.blocks() {
+    fn read(
+        &mut self,
+        files: &SharedFiles<R::File>,
+        block: u32,
+        page: &mut Page,
+    ) -> io::Result<()> {
+        if block >= files.blocks() {
             return Err(ErrorKind::InvalidInput.into());
         }
-        let file = self.file_of(segment, false)?;
+        let (segment, place) = segment_place(block, self.seg_blocks);
+        let file = self.file_of(files, segment, false)?;
         page.read_at(file, start_of(place))
     }
 
-    fn write(&mut self, tag: Tag, page: &Page) -> io::Result<()> {
-        let (segment, place) = self.place_of(tag)?;
-        self.fill_gap(tag.block)?;
-        let file = self.file_of(segment, false)?;
+    fn write(&mut self, files: &SharedFiles<R::File>, block: u32, page: &Page) -> io::Result<()>
+        requires { block < 2 ^ 32 - 1 }
+    {
+        self.fill_gap(files, block)?;
+        let (segment, place) = segment_place(block, self.seg_blocks);
+        let file = self.file_of(files, segment, false)?;
         file.write_all_at(page.bytes(), start_of(place))?;
-        if tag.block >= self.blocks() {
-            self.shared.blocks.store(tag.block + 1, Ordering::SeqCst);
-        }
+        files.reach(block);
         Ok(())
+    }
+}
+
+/// The files of a catalogue, as one lane uses them.
+#[derive(Drop)]
+struct LaneFiles<'a, R: Files> {
+    shared: Arc<Vec<SharedFiles<R::File>>, Global>,
+    segments: LaneSegments<'a, R>,
+}
+
+impl<R: Files> LaneFiles<'_, R>
+where
+    R::File: FileExt,
+{
+    fn read(&mut self, tag: Tag, page: &mut Page) -> io::Result<()> {
+        let files = files_of(&self.shared, tag)?;
+        self.segments.read(files, tag.block, page)
+    }
+
+    fn write(&mut self, tag: Tag, page: &Page) -> io::Result<()> {
+        let files = files_of(&self.shared, tag)?;
+        self.segments.write(files, tag.block, page)
     }
 
     /// Fails also if a segment couldn't be synced before another was opened.
     fn sync(&mut self) -> io::Result<()> {
-        for file in self.shared.files.as_slice() {
-            file.sync_all()?;
+        for files in self.shared.as_slice() {
+            files.sync()?;
         }
-        let _synced = self.sync_added();
-        if self.sync_failed {
-            self.sync_failed = false;
+        let _synced = self.segments.sync_added();
+        if self.segments.sync_failed {
+            self.segments.sync_failed = false;
             return Err(ErrorKind::Other.into());
         }
         Ok(())
     }
 }
 
-/// A lane over the files of a relation's segments, which all lanes of the relation share.
+/// A lane over the files of a catalogue, which all lanes of one opening share.
 ///
-/// A block past the relation's end can be written too: the blocks between are zeroed, and missing
-/// segments are created. At most one lane at a time may write past the end.
+/// A block past the end of its relation's fork can be written too: the blocks between are zeroed, and
+/// missing segments are created. Of each fork of a relation at most one lane at a time may write past
+/// the end.
 #[derive(Drop)]
 pub struct FileLane<'a, R: Files> {
     files: LaneFiles<'a, R>,
@@ -190,8 +216,7 @@ impl<'a, R: Files> FileLane<'a, R> {
     pub(crate) fn new(
         rt: &'a R,
         alloc: Global,
-        shared: Arc<SharedFiles<R::File>, Global>,
-        fork: Fork,
+        shared: Arc<Vec<SharedFiles<R::File>>, Global>,
         seg_blocks: u32,
     ) -> FileLane<'a, R>
         requires { 1 ≤ seg_blocks }
@@ -199,17 +224,15 @@ impl<'a, R: Files> FileLane<'a, R> {
         ensures writes { result.write_faults.count ≡ 0 }
         ensures unsynced { unsynced_in result.history ≡ no_marks }
     {
-        let files = LaneFiles {
+        let segments = LaneSegments {
             rt,
             alloc,
-            shared,
             added: None,
             sync_failed: false,
-            fork,
             seg_blocks,
         };
         FileLane {
-            files,
+            files: LaneFiles { shared, segments },
             read_faults: FaultCount::new(),
             write_faults: FaultCount::new(),
             history: LaneHistory::new(),
@@ -249,7 +272,7 @@ where
 
     ghost calls = { λ l. calls_in l.history };
 
-    /// Fails for a block past the relation's end.
+    /// Fails for a block past the end of its fork, and for one of a relation or a fork that wasn't opened.
     fn read(&mut self, tag: Tag, page: &mut Page) -> Result<(), Failed> {
         self.history.count_call();
         if self.files.read(tag, page).is_ok() {
@@ -259,7 +282,7 @@ where
         Err(Failed)
     }
 
-    /// Also writes past the relation's end. Fails for a block of another relation or another fork.
+    /// Also writes past the end of a fork. Fails for a block of a relation or a fork that wasn't opened.
     fn write(&mut self, tag: Tag, page: &Page) -> Result<(), Failed> {
         self.history.count_call();
         self.history.mark_written(tag);

@@ -79,30 +79,30 @@ pub(crate) fn open_segment<R: Files>(
 }
 
 /// Opens a file for writing: it is created, or emptied where it exists. It isn't emptied before it
-/// is known to be none of the relation's files: a path may name one of these by a link.
+/// is known to be none of the files that are open: a path may name one of these by a link.
 pub(crate) fn open_empty<R: Files>(
     rt: &R,
     path: &str,
-    relation: &[FileIdentity],
+    opened: &[FileIdentity],
 ) -> io::Result<R::File> {
     let file = OpenOptions::new().write(true).create(true).open(rt, path)?;
     let identity = FileIdentity::from(&file.metadata()?);
-    if relation.contains(&identity) {
+    if opened.contains(&identity) {
         return Err(ErrorKind::InvalidInput.into());
     }
     file.set_len(0)?;
     Ok(file)
 }
 
-/// Opens a file for reading. One of the relation's files, if only by a link, is an error.
+/// Opens a file for reading. One of the relations' files, if only by a link, is an error.
 pub(crate) fn open_source<R: Files>(
     rt: &R,
     path: &str,
-    relation: &[FileIdentity],
+    opened: &[FileIdentity],
 ) -> io::Result<R::File> {
     let file = OpenOptions::new().read(true).open(rt, path)?;
     let identity = FileIdentity::from(&regular_file(&file)?);
-    if relation.contains(&identity) {
+    if opened.contains(&identity) {
         return Err(ErrorKind::InvalidInput.into());
     }
     Ok(file)

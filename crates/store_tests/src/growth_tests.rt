@@ -22,14 +22,14 @@ fn runs_of(alloc: Global, runs: &[(u8, usize)]) -> Result<Vec<u8>, AllocError> {
     Ok(bytes)
 }
 
-fn put_file(rt: &HostRuntime, path: &str, runs: &[(u8, usize)]) -> Result<(), Fail> {
+pub(crate) fn put_file(rt: &HostRuntime, path: &str, runs: &[(u8, usize)]) -> Result<(), Fail> {
     let bytes = runs_of(rt.alloc(), runs)?;
     fs::write(rt, path, bytes.as_slice())?;
     Ok(())
 }
 
 /// Whether a file has these bytes. It is removed.
-fn had(rt: &HostRuntime, path: &str, runs: &[(u8, usize)]) -> Result<bool, Fail> {
+pub(crate) fn had(rt: &HostRuntime, path: &str, runs: &[(u8, usize)]) -> Result<bool, Fail> {
     let wanted = runs_of(rt.alloc(), runs)?;
     let found = fs::read(rt, path)?;
     fs::remove_file(rt, path)?;

@@ -1,7 +1,9 @@
-//! Tests of tags, state words, rings, logs and hosts: values worked out by hand, failures that leave a part,
-//! and real files.
+//! Tests of the crates at the bottom, on values worked out by hand: tags, state words, rings, logs and hosts, failures
+//! that leave a part, and real files. There is nothing in it to call.
 #![tactic(auto)]
 
+#[cfg(test)]
+mod catalog_tests;
 #[cfg(test)]
 mod file_tests;
 #[cfg(test)]

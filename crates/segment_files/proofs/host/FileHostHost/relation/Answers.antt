@@ -5,12 +5,12 @@ use Rattle.segment_files.proofs.host.FileHostHost.relation.Goals as goal
 pub returns-in-Ok-clause-opened : goal.returns-in-Ok-clause-opened
 returns-in-Ok-clause-opened g c = record {
   count = c.in-Ok.ensures.count;
-  reads = c.in-Ok.ensures.reads;
-  writes = c.in-Ok.ensures.writes;
+  reads = c.in-Ok.ensures.lane_reads;
+  writes = c.in-Ok.ensures.lane_writes;
   unmarked = λ k d within. refl;
   synced = c.in-Ok.ensures.synced;
-  has = unknown c.in-Ok.found.opened.lanes.items _ _;
-  theirs = unknown_theirs c.in-Ok.found.opened.lanes.items;
+  has = unknown c.in-Ok.opened.lanes.items _ _;
+  theirs = unknown_theirs c.in-Ok.opened.lanes.items;
   there = tt;
   blocks = tt;
   holds = tt;

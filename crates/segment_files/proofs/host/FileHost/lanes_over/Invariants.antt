@@ -2,7 +2,7 @@ use Rattle.std.proofs.Common.{◌≡◌, length}
 use Rattle.std.specs.Prelude.{All, sum_by}
 use Rattle.segment_store.specs.Contents.{no_marks}
 use Rattle.segment_store.specs.History.{unsynced_in}
-use Rattle.segment_files.proofs.host.FileHost.open.Given as goal
+use Rattle.segment_files.proofs.host.FileHost.lanes_over.Given as goal
 
 abbrev pub invariant-loop-i : goal.invariant-loop-i
 invariant-loop-i g l = record {

@@ -1,0 +1,172 @@
+//! Lanes over the files of several relations.
+use crate::growth_tests::{had, put_file};
+use block_tag::{Fork, RelNo, Tag};
+use log_device::Failed;
+use page_layout::Page;
+use segment_files::{CatalogFile, FileHost, FileLane};
+use segment_store::{BlockLane, Host, HostError, LogOpen};
+use std::alloc::Global;
+use std::fs;
+use std::os::unix::fs::FileExt;
+use std::process::Abort;
+use std::rt::Files;
+use std::test::Fail;
+
+fn main_fork(rel: u32, path: &str) -> CatalogFile<'_> {
+    CatalogFile {
+        rel: RelNo(rel),
+        fork: Fork::Main,
+        path,
+    }
+}
+
+fn tag(rel: u32, fork: Fork, block: u32) -> Tag {
+    Tag {
+        rel: RelNo(rel),
+        fork,
+        block,
+    }
+}
+
+/// Writes a page of this byte to a block of a main fork.
+fn write_block<R: Files>(
+    lane: &mut FileLane<'_, R>,
+    page: &mut Page,
+    (rel, block, byte): (u32, u32, u8),
+) -> Result<(), Failed>
+where
+    R::File: FileExt,
+{
+    page.fill(&[byte; 8192]);
+    lane.write(tag(rel, Fork::Main, block), page)
+}
+
+/// The first byte of a block.
+fn read_block<R: Files>(lane: &mut FileLane<'_, R>, page: &mut Page, tag: Tag) -> Result<u8, Failed>
+where
+    R::File: FileExt,
+{
+    lane.read(tag, page)?;
+    Ok(page.bytes().first().copied().unwrap_or(0))
+}
+
+/// Writes to the third new segment of each of two relations, and again to that of the first.
+fn grow_both<R: Files>(lane: &mut FileLane<'_, R>, page: &mut Page) -> [Result<(), Failed>; 4]
+where
+    R::File: FileExt,
+{
+    [
+        write_block(lane, page, (0, 6, 5)),
+        write_block(lane, page, (1, 7, 6)),
+        write_block(lane, page, (0, 7, 7)),
+        lane.sync(),
+    ]
+}
+
+/// Reads what was written, blocks beside it, and a block of another relation and of another fork.
+fn read_both<R: Files>(lane: &mut FileLane<'_, R>, page: &mut Page) -> [Result<u8, Failed>; 7]
+where
+    R::File: FileExt,
+{
+    [
+        read_block(lane, page, tag(0, Fork::Main, 2)),
+        read_block(lane, page, tag(0, Fork::Main, 6)),
+        read_block(lane, page, tag(1, Fork::Main, 7)),
+        read_block(lane, page, tag(0, Fork::Main, 7)),
+        read_block(lane, page, tag(1, Fork::Main, 6)),
+        read_block(lane, page, tag(2, Fork::Main, 0)),
+        read_block(lane, page, tag(1, Fork::Fsm, 0)),
+    ]
+}
+
+/// One lane grows both relations; then each lane reads them.
+fn use_lanes<R: Files>(
+    rt: &impl Abort,
+    alloc: Global,
+    lanes: &mut [FileLane<'_, R>],
+) -> Result<(), Fail>
+where
+    R::File: FileExt,
+{
+    let mut page = Page::zeroed(alloc)?;
+    if let Some(lane) = lanes.first_mut() {
+        assert_eq!(rt; grow_both(lane, &mut page), [Ok(()); 4]);
+    }
+    for lane in lanes {
+        let answers = [Ok(3), Ok(5), Ok(6), Ok(7), Ok(0), Err(Failed), Err(Failed)];
+        assert_eq!(rt; read_both(lane, &mut page), answers);
+    }
+    Ok(())
+}
+
+/// What the files have in the end.
+const GROWN: [(&str, [(u8, usize); 2]); 8] = [
+    ("rows", [(1, 8192), (2, 8192)]),
+    ("rows.1", [(3, 8192), (0, 8192)]),
+    ("rows.2", [(0, 8192), (0, 8192)]),
+    ("rows.3", [(5, 8192), (7, 8192)]),
+    ("index", [(4, 8192), (0, 8192)]),
+    ("index.1", [(0, 8192), (0, 8192)]),
+    ("index.2", [(0, 8192), (0, 8192)]),
+    ("index.3", [(0, 8192), (6, 8192)]),
+];
+
+/// Neither is opened as a log, to write one or to read one.
+#[test]
+fn two_relations_grow_apart(rt: HostRuntime) -> Result<(), Fail> {
+    let alloc = rt.alloc();
+    put_file(&rt, "rows", &[(1, 8192), (2, 8192)])?;
+    put_file(&rt, "rows.1", &[(3, 8192)])?;
+    put_file(&rt, "index", &[(4, 8192)])?;
+    let mut host = FileHost::new(&rt, alloc);
+    let entries = [main_fork(0, "rows"), main_fork(1, "index")];
+    let mut opened = host.relations(alloc, &entries, 2, 3)?;
+    assert_eq!(rt; opened.blocks.as_slice(), [3, 1].as_slice());
+    assert_eq!(rt; host.log(alloc, "index").err(), Some(LogOpen::Failed));
+    assert_eq!(rt; host.bytes(alloc, "index").err(), Some(HostError::Failed));
+    use_lanes(&rt, alloc, &mut opened.lanes)?;
+    host.give_back(opened.lanes, None, None);
+    assert_eq!(rt; (host.read_faults(), host.write_faults()), (7, 0));
+    for (path, runs) in &GROWN {
+        assert!(rt; had(&rt, path, runs)?, "{path}");
+    }
+    Ok(())
+}
+
+/// How the opening of these is refused, if it is.
+fn refusal(
+    alloc: Global,
+    host: &mut FileHost<HostRuntime>,
+    entries: &[CatalogFile<'_>],
+) -> Option<HostError> {
+    host.relations(alloc, entries, 2, 1).err()
+}
+
+/// Two relations, or two forks, don't share a file: neither by its path nor by a link, nor as a segment
+/// that isn't there yet.
+#[test]
+fn entries_have_their_own_files(rt: HostRuntime) -> Result<(), Fail> {
+    let alloc = rt.alloc();
+    put_file(&rt, "own", &[(1, 8192)])?;
+    fs::hard_link(&rt, "own", "linked")?;
+    let mut host = FileHost::new(&rt, alloc);
+    let own = main_fork(0, "own");
+    let others = [
+        main_fork(1, "own"),
+        main_fork(1, "linked"),
+        main_fork(1, "own.1"),
+        main_fork(0, "other"),
+    ];
+    for other in others {
+        let refused = refusal(alloc, &mut host, &[own, other]);
+        assert_eq!(rt; refused, Some(HostError::Failed), "{}", other.path);
+    }
+    let missing = refusal(alloc, &mut host, &[own, main_fork(1, "other")]);
+    assert_eq!(rt;
+        (missing, host.read_faults()),
+        (Some(HostError::Missing), 4)
+    );
+    fs::remove_file(&rt, "own")?;
+    fs::remove_file(&rt, "linked")?;
+    Ok(())
+}
