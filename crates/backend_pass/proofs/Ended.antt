@@ -12,11 +12,12 @@ use Rattle.pin_core.specs.declared.view.Call.{Call}
 use Rattle.pin_core.specs.declared.view.LaneHold.{LaneHold}
 use Rattle.pin_core.specs.declared.view.LogHold.{LogHold}
 use Rattle.pin_core.specs.declared.view.FailedCalls.{FailedCalls}
+use Rattle.pin_core.specs.declared.view.TornRecord.{TornRecord}
 use Rattle.pin_core.specs.declared.view.View.{View}
 use Rattle.pin_core.specs.State.{emptied_view, joined_view, kept_checkpoint, lane_hold, no_lane, sum_of_met}
 use Rattle.pin_core.specs.Steps.{HoldsNothing}
 use Rattle.pin_core.specs.Tallies.{flag_weight}
-use Rattle.history_core.specs.Log.{IsFront, end_from, log_bytes, writes_in}
+use Rattle.history_core.specs.Log.{Change, IsFront, end_from, log_bytes, writes_in}
 use Rattle.history_core.specs.Rest.{NoneAppended}
 use Rattle.history_core.specs.State.{State, failed}
 use Rattle.history_core.specs.Causes.{AllQuiet, mark_weight}
@@ -24,7 +25,9 @@ use Rattle.history_core.specs.Counts.{all_met, count_weigh, failed_reads, failed
 use Rattle.history_core.specs.Device.{HasRisen, is_failed}
 use Rattle.history_core.specs.History.{IsHistory}
 use Rattle.history_core.specs.Laws.{Laws}
+use Rattle.history_core.specs.TornRecords.{IsOfPage, NotesTorn}
 use Rattle.history_core.specs.Swept.{has_swept}
+use Rattle.history_core.proofs.Calls.{at_both}
 use Rattle.history_core.proofs.History.{ends_in_history}
 use Rattle.history_core.proofs.Histories.{loaded_flushed}
 use Rattle.history_core.proofs.Promises.{seen_durable, sweeps}
@@ -37,7 +40,7 @@ use Rattle.held_pins.specs.Rests.{OnlyTokens}
 use Rattle.held_pins.proofs.Resting.{rests_hold_nothing}
 use Rattle.backend_pass.specs.Passes.{PassState}
 use Rattle.backend_pass.specs.Managers.{AreFronted, IsFirstAt, first_in, others_in}
-use Rattle.backend_pass.specs.Closing.{ClosesAll, ClosesPass, EachPass, NothingPut, NothingWritten, PutNothing, TookEach, calls_of_passes, joined_views, met_by_passes}
+use Rattle.backend_pass.specs.Closing.{ClosesAll, ClosesPass, EachPass, NothingPut, NothingWritten, PutNothing, PassTore, TookEach, calls_of_passes, joined_views, met_by_passes, torn_of_passes}
 use Rattle.backend_pass.proofs.Fronts.{at_last}
 use Rattle.backend_pass.proofs.Joining.{Joins, at_later, first_here, first_past, joined_hold_nothing, joins, others_here, others_past}
 
@@ -115,6 +118,14 @@ fronted_at : (base : ℕ) (ps : List PassState) (i : ℕ) (p : PassState) → Ar
 fronted_at base [] i p a e = absurd (some-ne-none p (sym e))
 fronted_at base (x ∷ xs) zero p a e = subst (λ (y : PassState). IsFront base y.view.calls y.view.front) (some-injective x p e) a.0
 fronted_at base (x ∷ xs) (suc i) p a e = fronted_at base xs i p a.1 e
+
+-- one of the passes has what all have of torn records
+torn_in : (ps : List PassState) (k : ℕ) (x : TornRecord) → get_elem? (torn_of_passes ps) k ≡ some x → (i j : ℕ) × (p : PassState) × (get_elem? ps i ≡ some p) × (get_elem? p.view.torn j ≡ some x)
+torn_in [] k x e = absurd (some-ne-none x (sym e))
+torn_in (p ∷ ps) k x e = ⊎_elim
+    (λ (t : get_elem? p.view.torn k ≡ some x). (0, k, p, refl, t))
+    (λ (t : (j : ℕ) × (get_elem? (torn_of_passes ps) j ≡ some x)). let r = torn_in ps t.0 x t.1 in (suc r.0, r.1, r.2, r.3, r.4))
+    (at_both p.view.torn (torn_of_passes ps) k x e)
 
 -- the writes of all
 pub writes-both : (xs ys : List Call) → writes_in (xs ++ ys) ≡ writes_in xs + writes_in ys
@@ -237,6 +248,16 @@ module _ (s : State) (h : Laws s) (w : View) (there : get_elem? s.pool.core.view
   pub holds_bytes : w.log.appended ≡ None → s.device.down ≡ None → s.device.bytes ≡ log_bytes s.names s.log
   holds_bytes none up = whole s h.invariant (none_appended none) up
 
+  -- what follows the log's bytes on a log that is down begins a record that w tore
+  pub tore : (rests : h.rest.behind.rest ≢ []) → s.device.down ≢ None → (k : ℕ) × (x : TornRecord) × (get_elem? w.torn k ≡ some x) × IsOfPage (h.rest.behind.begins rests).entry.change x.tag x.page
+  tore rests down = of_view (h.rest.behind.torn rests down)
+    where
+      of_view : NotesTorn s.pool.core.views (h.rest.behind.begins rests).entry.change → (k : ℕ) × (x : TornRecord) × (get_elem? w.torn k ≡ some x) × IsOfPage (h.rest.behind.begins rests).entry.change x.tag x.page
+      of_view (i, k, u, x, at, is, of) = ⊎_elim
+          (λ (e : w ≡ u). (k, x, subst (λ (y : View). get_elem? y.torn k ≡ some x) (sym e) is, of))
+          (λ (e : u ≡ emptied_view). absurd (some-ne-none x (sym (subst (λ (y : View). get_elem? y.torn k ≡ some x) e is))))
+          (is_one i u at)
+
   -- where w has no mark no write failed, and there was no output
   quiet_where_unmarked : w.dirtied_or_synced ≡ false → AllQuiet s
   quiet_where_unmarked e = h.marks (total-alone mark_weight s.pool.core.views 0 w there (λ j u n at. ap mark_weight (others j u n at)) ∙ ap flag_weight e)
@@ -284,6 +305,7 @@ module _ {L G : Type 0} where
     mark = c.mark;
     device = c.device;
     bytes = λ up. holds_bytes s h w c.first c.others (ap (λ (l : LogHold). l.appended) (j.log ∙ r.quiet.log)) (c.device.down ∙ up);
+    torn = λ rests down. torn rests (λ up. down (sym c.device.down ∙ up));
     history = subst (IsHistory s.known s.origin s.log) (j.calls ∙ ap (λ (u : View). u.calls ++ calls_of_passes (others_in ps)) (sym first)) (history s h w c.first c.others);
     each = each;
     reads_rose = λ more. reads_rose s h w c.first c.others (subst (λ (m : FailedCalls). 0 < m.reads) met more);
@@ -327,6 +349,15 @@ module _ {L G : Type 0} where
           (λ (t : p.view ≡ first_in ps). closes_first s h w c.first c.others p (others_in ps) (front i p e) (subst (λ (x : View). Joins x w (others_in ps)) (sym (t ∙ first)) j))
           (λ (t : (n : ℕ) × (get_elem? (others_in ps) n ≡ some p)). closes_other s h w c.first c.others p (front i p e) (subst (TookIn p.view) (sym is) (took_in v (others_in ps) t.0 p t.1)))
           (first_or_other ps k i p at e)
+
+      of_pass : (k : ℕ) (x : TornRecord) → get_elem? (v.torn ++ torn_of_passes (others_in ps)) k ≡ some x → (i n : ℕ) × (p : PassState) × (get_elem? ps i ≡ some p) × (get_elem? p.view.torn n ≡ some x)
+      of_pass n x e = ⊎_elim
+          (λ (t : get_elem? v.torn n ≡ some x). let f = first_there ps k at in (k, n, f.0, f.1, subst (λ (y : View). get_elem? y.torn n ≡ some x) (sym (f.2 ∙ first)) t))
+          (λ (t : (m : ℕ) × (get_elem? (torn_of_passes (others_in ps)) m ≡ some x)). let r = torn_in (others_in ps) t.0 x t.1 in let o = other_there ps k r.0 r.2 at r.3 in (o.0, r.1, r.2, o.1, r.4))
+          (at_both v.torn (torn_of_passes (others_in ps)) n x e)
+
+      torn : (rests : h.rest.behind.rest ≢ []) → s.device.down ≢ None → PassTore ps (h.rest.behind.begins rests).entry.change
+      torn rests down = let t = tore s h w c.first c.others rests down in let r = of_pass t.0 t.1 (subst (λ (l : List TornRecord). get_elem? l t.0 ≡ some t.1) j.torn t.2) in (r.0, r.1, r.2, t.1, r.3, r.4, t.3)
 
       output : (i : ℕ) (p : PassState) → get_elem? ps i ≡ some p → p.view.had_output ≡ true → w.had_output ≡ true
       output i p e = ⊎_elim

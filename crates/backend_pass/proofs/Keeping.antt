@@ -22,7 +22,7 @@ pub calls_on : (p q r : PassState) → KeepsCalls p q → KeepsCalls q r → Kee
 calls_on p q r a b = record { calls = b.calls ∙ a.calls; front = b.front ∙ a.front; place_loads = b.place_loads ∙ a.place_loads }
 
 pub callers_none : (p : PassState) → KeepsCallers p p
-callers_none p = record { keeps = pass_none p; tokens = refl; locks = λ f. refl; census = refl; calls = record { calls = refl; front = refl; place_loads = refl }; sought = record { hint = refl; turns = refl; stores = refl; queue = refl; ticks = refl } }
+callers_none p = record { keeps = pass_none p; tokens = refl; locks = λ f. refl; census = refl; calls = record { calls = refl; front = refl; place_loads = refl }; torn = refl; sought = record { hint = refl; turns = refl; stores = refl; queue = refl; ticks = refl } }
 
 pub callers_on : (p q r : PassState) → KeepsCallers p q → KeepsCallers q r → KeepsCallers p r
 callers_on p q r a b = record {
@@ -31,5 +31,6 @@ callers_on p q r a b = record {
   locks = λ f. b.locks f ∙ a.locks f;
   census = b.census ∙ a.census;
   calls = calls_on p q r a.calls b.calls;
+  torn = b.torn ∙ a.torn;
   sought = record { hint = b.sought.hint ∙ a.sought.hint; turns = b.sought.turns ∙ a.sought.turns; stores = b.sought.stores ∙ a.sought.stores; queue = b.sought.queue ∙ a.sought.queue; ticks = b.sought.ticks ∙ a.sought.ticks };
 }

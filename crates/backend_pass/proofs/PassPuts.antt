@@ -24,7 +24,7 @@ use Rattle.backend_pass.specs.declared.manager.Manager.{Manager}
 use Rattle.backend_pass.specs.declared.met.Shown.{Shown}
 use Rattle.backend_pass.specs.Managers.{Belongs}
 use Rattle.buffer_frames.specs.Outside.{shown_count}
-use Rattle.backend_pass.specs.Passes.{IsNumbered, IsShown, PassState, SamePass, shown_unput, PassOwn, own_of}
+use Rattle.backend_pass.specs.Passes.{IsNumbered, IsShown, PassState, SameButTorn, shown_unput, PassOwn, own_of}
 use Rattle.buffer_frames.specs.Puts.{IsDoneOrFull, PutAnswer, PutsAt, met_put}
 use Rattle.backend_pass.proofs.BlockReads.{shown_met}
 use Rattle.backend_pass.proofs.Flushed.{shown_logged}
@@ -58,7 +58,7 @@ shown_not_put v w s (LogFull end) front met n = shown_met v w s front met n
 shown_not_put v w s (LogDown at) front met n = shown_met v w s front met n
 shown_not_put v w s LogFault front met n = shown_logged v w s front met n
 
-pub same_put : (f : ℕ) (p q : PassState) → q.table ≡ p.table → q.id ≡ p.id → own_of q ≡ own_of p → PutsAt f p.view q.view → SamePass p q
+pub same_put : (f : ℕ) (p q : PassState) → q.table ≡ p.table → q.id ≡ p.id → own_of q ≡ own_of p → PutsAt f p.view q.view → SameButTorn p q
 same_put f p q table id census k = let e = k.kept in record {
   keeps = record {
     table = table;

@@ -61,6 +61,7 @@ same_read p q table id census k = let e = k.kept in record {
     advances = k.rises;
   };
   upto = ap (λ (x : View). x.upto) e;
+  torn = ap (λ (x : View). x.torn) e;
 }
 
 module _ {L G : Type 0} (contents : L → Option Pages) (m : Manager L G) where

@@ -45,6 +45,7 @@ callers_kept p q table id tokens census hint e rises locks = record {
   locks = locks;
   census = ap (λ (x : CensusList × QueueState). x.0) census;
   calls = calls_kept p q e;
+  torn = ap (λ (x : View). x.torn) e;
   sought = record { hint = hint; turns = ap (λ (x : View). x.turns) e; stores = ap (λ (x : View). x.hints) e; queue = ap (λ (x : CensusList × QueueState). x.1) census; ticks = ap (λ (x : View). x.ticks) e };
 }
 
@@ -60,6 +61,7 @@ rises_begun upto v w e = subst (OnlyRises v) (sym e) (rises_by v (view_of begin_
 
 pub callers_begun : (upto : ℕ) (p q : PassState) → q.table ≡ p.table → q.id ≡ p.id → q.tokens ≡ p.tokens → beside_of q ≡ beside_of p → q.hint ≡ p.hint → q.view ≡ view_of begin_checkpoint upto p.view → SameLocks p.view q.view → KeepsCallers p q
 callers_begun upto p q table id tokens census hint e locks = record {
+  torn = ap (λ (x : View). x.torn) e;
   sought = record { hint = hint; turns = ap (λ (x : View). x.turns) e; stores = ap (λ (x : View). x.hints) e; queue = ap (λ (x : CensusList × QueueState). x.1) census; ticks = ap (λ (x : View). x.ticks) e };
   keeps = record {
     table = table;
@@ -113,6 +115,7 @@ kept_synced lane done v w e = ap kept_by_calls e
 
 pub callers_synced : (lane : ℕ) (done : Bool) (p q : PassState) → q.table ≡ p.table → q.id ≡ p.id → q.tokens ≡ p.tokens → beside_of q ≡ beside_of p → q.hint ≡ p.hint → work_of q.view ≡ synced_work lane done p.view → OnlyRises p.view q.view → SameLocks p.view q.view → KeepsCallers p q
 callers_synced lane done p q table id tokens census hint e rises locks = record {
+  torn = ap (λ (x : View). x.torn) e;
   sought = record { hint = hint; turns = ap (λ (x : View). x.turns) e; stores = ap (λ (x : View). x.hints) e; queue = ap (λ (x : CensusList × QueueState). x.1) census; ticks = ap (λ (x : View). x.ticks) e };
   keeps = record {
     table = table;
@@ -131,7 +134,7 @@ callers_synced lane done p q table id tokens census hint e rises locks = record 
 }
 
 pub same_synced : (lane : ℕ) (done : Bool) (p q : PassState) → q.table ≡ p.table → q.id ≡ p.id → q.tokens ≡ p.tokens → beside_of q ≡ beside_of p → q.hint ≡ p.hint → work_of q.view ≡ synced_work lane done p.view → OnlyRises p.view q.view → SameLocks p.view q.view → SamePass p q
-same_synced lane done p q table id tokens census hint e rises locks = record { keeps = (callers_synced lane done p q table id tokens census hint e rises locks).keeps; upto = ap (λ (x : View). x.upto) e }
+same_synced lane done p q table id tokens census hint e rises locks = record { keeps = (callers_synced lane done p q table id tokens census hint e rises locks).keeps; upto = ap (λ (x : View). x.upto) e; torn = ap (λ (x : View). x.torn) e }
 
 module _ {L G : Type 0} (contents : L → Option Pages) (t : FrameTable L G) where
   pub sync_complete : (only : SyncOnly) (f : ℕ) (p q : PassState) (r : Result Synced FlushError) → SyncsFrame contents t only f p.view q.view (frame_answer r) → q.view.met ≡ met_flushing (frame_answer r) p.view.met → NothingFails contents t p q → IsOk r

@@ -93,6 +93,7 @@ same_none p q table id census e = record {
     advances = subst (λ (w : View). OnlyRises p.view w) (sym e) (rises_none p.view);
   };
   upto = ap (λ (x : View). x.upto) e;
+  torn = ap (λ (x : View). x.torn) e;
 }
 
 pub same_touched : (p q : PassState) (f : ℕ) → q.table ≡ p.table → q.id ≡ p.id → beside_of q ≡ beside_of p → Touches f p.view q.view → SamePass p q
@@ -108,6 +109,7 @@ same_touched p q f table id census k = let e = k.self in record {
     advances = rises_touched f p.view q.view k;
   };
   upto = ap (λ (x : View). x.upto) e;
+  torn = ap (λ (x : View). x.torn) e;
 }
 
 -- The tokens u are of frames that are held in t, for the same blocks

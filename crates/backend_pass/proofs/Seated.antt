@@ -7,15 +7,25 @@ use Rattle.table_rule.specs.declared.value.Value.{Value}
 use Rattle.frame_table.specs.Seats.{SameSeat}
 use Rattle.held_pins.specs.Rests.{OnlyTokens}
 use Rattle.held_pins.specs.Tokens.{Tokens}
-use Rattle.backend_pass.specs.Passes.{PassState, SamePass, view_in}
+use Rattle.backend_pass.specs.Passes.{PassState, SameButTorn, SamePass, view_in}
 use Rattle.backend_pass.specs.Seats.{HasSeat, SameBadge}
 use Rattle.backend_pass.proofs.Keeping.{pass_on}
 
 pub same_on : (p q r : PassState) → SamePass p q → SamePass q r → SamePass p r
-same_on p q r a b = record { keeps = pass_on p q r a.keeps b.keeps; upto = b.upto ∙ a.upto }
+same_on p q r a b = record { keeps = pass_on p q r a.keeps b.keeps; upto = b.upto ∙ a.upto; torn = b.torn ∙ a.torn }
 
 pub same_from : (a p q : PassState) → p ≡ a → SamePass p q → SamePass a q
 same_from a p q e same = subst (λ (x : PassState). SamePass x q) e same
+
+-- it is the same one but for the records that it failed to append
+pub but_torn : (p q : PassState) → SamePass p q → SameButTorn p q
+but_torn p q s = record { keeps = s.keeps; upto = s.upto }
+
+pub torn_on : (p q r : PassState) → SameButTorn p q → SameButTorn q r → SameButTorn p r
+torn_on p q r a b = record { keeps = pass_on p q r a.keeps b.keeps; upto = b.upto ∙ a.upto }
+
+pub put_from : (a p q : PassState) → p ≡ a → SameButTorn p q → SameButTorn a q
+put_from a p q e same = subst (λ (x : PassState). SameButTorn x q) e same
 
 -- what holds of views holds of those that are they
 pub moved : (P : View → View → Type 0) (a b v w : View) → a ≡ v → b ≡ w → P v w → P a b

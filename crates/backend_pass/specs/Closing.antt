@@ -5,14 +5,16 @@ use mathlib.Core.Option.{some}
 use lib.ListN.{get_elem?}
 use Rattle.pin_core.specs.declared.view.Call.{Call}
 use Rattle.pin_core.specs.declared.view.FailedCalls.{FailedCalls}
+use Rattle.pin_core.specs.declared.view.TornRecord.{TornRecord}
 use Rattle.pin_core.specs.declared.view.View.{View}
 use Rattle.pin_core.specs.State.{emptied_view, joined_view, lane_hold, sum_of_met}
 use Rattle.pin_core.specs.Steps.{HoldsNothing}
-use Rattle.history_core.specs.Log.{IsFront, log_bytes, writes_in}
+use Rattle.history_core.specs.Log.{Change, IsFront, log_bytes, writes_in}
 use Rattle.history_core.specs.State.{State, stored_upto, synced_upto, failed}
 use Rattle.history_core.specs.Device.{HasRisen}
 use Rattle.history_core.specs.History.{IsHistory}
 use Rattle.history_core.specs.Laws.{Laws}
+use Rattle.history_core.specs.TornRecords.{IsOfPage}
 use Rattle.history_core.specs.Promises.{AreDurable, AreStored, AreSynced}
 use Rattle.block_tag.specs.declared.tag.Tag.{Tag}
 use Rattle.table_rule.specs.declared.opening.Opening.{Opening}
@@ -29,6 +31,15 @@ calls_of_passes (p ∷ ps) = p.view.calls ++ calls_of_passes ps
 
 abbrev pub calls_in_order : List PassState → List Call
 calls_in_order ps = (first_in ps).calls ++ calls_of_passes (others_in ps)
+
+-- the records that they failed to append, one pass after the other
+abbrev pub torn_of_passes : List PassState → List TornRecord
+torn_of_passes [] = []
+torn_of_passes (p ∷ ps) = p.view.torn ++ torn_of_passes ps
+
+-- One of them failed to append the record of the change
+abbrev pub PassTore : List PassState → Change → Type 0
+PassTore ps c = (i k : ℕ) × (p : PassState) × (x : TornRecord) × (get_elem? ps i ≡ some p) × (get_elem? p.view.torn k ≡ some x) × IsOfPage c x.tag x.page
 
 -- the faults that they met, in all
 abbrev pub met_by_passes : List PassState → FailedCalls
@@ -120,6 +131,8 @@ module _ {L G : Type 0} where
     pub device : IsLog d log mark state.device
     -- where it isn't, it holds the log's bytes and nothing else
     pub bytes : mark ≡ None → state.device.bytes ≡ log_bytes state.names state.log
+    -- where it is, what follows the log's bytes begins a record that one of the passes failed to append
+    pub torn : (some : laws.rest.behind.rest ≢ []) → mark ≢ None → PassTore ps (laws.rest.behind.begins some).entry.change
     pub history : IsHistory state.known state.origin state.log (calls_in_order ps)
     pub each : EachPass (ClosesPass state) ps
     -- faults were met exactly where a device's count of them rose

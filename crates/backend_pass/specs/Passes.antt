@@ -75,10 +75,16 @@ pub record KeepsPass (p q : PassState) : Type 0 where
   pub kept : q.view.joined_checkpoints ≡ p.view.joined_checkpoints
   pub advances : OnlyRises p.view q.view
 
--- and its checkpoint began where it had begun
+-- and its checkpoint began where it had begun; it may have failed to append records
+pub record SameButTorn (p q : PassState) : Type 0 where
+  pub keeps : KeepsPass p q
+  pub upto : q.view.upto ≡ p.view.upto
+
+-- or it failed to append none
 pub record SamePass (p q : PassState) : Type 0 where
   pub keeps : KeepsPass p q
   pub upto : q.view.upto ≡ p.view.upto
+  pub torn : q.view.torn ≡ p.view.torn
 
 -- What it read and put, and its front, are as they were
 pub record KeepsCalls (p q : PassState) : Type 0 where
@@ -94,13 +100,14 @@ pub record KeepsSought (p q : PassState) : Type 0 where
   pub queue : q.queue ≡ p.queue
   pub ticks : q.view.ticks ≡ p.view.ticks
 
--- What its callers have of it is as it was: their tokens and content locks, the census, and what the pass read and put; and it looked up no block
+-- What its callers have of it is as it was: their tokens and content locks, the census, what the pass read and put, and what it failed to append; and it looked up no block
 pub record KeepsCallers (p q : PassState) : Type 0 where
   pub keeps : KeepsPass p q
   pub tokens : q.tokens ≡ p.tokens
   pub locks : SameLocks p.view q.view
   pub census : q.census ≡ p.census
   pub calls : KeepsCalls p q
+  pub torn : q.view.torn ≡ p.view.torn
   pub sought : KeepsSought p q
 
 -- whether it has marked a frame dirty or synced a lane

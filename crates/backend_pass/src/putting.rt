@@ -1,11 +1,12 @@
 //! A pass puts a page.
 ghost use Rattle.std.specs.Prelude.{◌≡◌, ◌<◌, None, Some, false, true};
-ghost use Rattle.block_tag.specs.Names.{names_block};
+ghost use Rattle.block_tag.specs.Names.{names_block, packed_tag};
 ghost use Rattle.page_layout.specs.Soundness.{is_new_page, is_sound_page};
 ghost use Rattle.pin_core.specs.declared.view.Content.TheVariants as content;
 ghost use Rattle.pin_core.specs.State.{link};
 ghost use Rattle.table_rule.specs.Blocks.{has_block};
 ghost use Rattle.frame_table.specs.Seats.{frames_of, relations_of};
+ghost use Rattle.wal_flush.specs.Inserts.{AddsTorn};
 ghost use Rattle.held_pins.specs.Rests.{OnlyTokens};
 ghost use Rattle.held_pins.specs.Tokens.{IsPinnedFor};
 ghost use Rattle.buffer_frames.specs.Working.{Made};
@@ -70,6 +71,7 @@ fn put_seated<L: BlockLane, G: LogDevice, R: Wait>(
     ensures answer { PutAnswer (relations_of table.now) frame tag page.old (view_in badge.old.views) (view_in badge.new.views) result }
     ensures calls { Made (put_calls result) (view_in badge.old.views) (view_in badge.new.views) }
     ensures met { (view_in badge.new.views).met ≡ met_put result (view_in badge.old.views).met }
+    ensures torn { AddsTorn (packed_tag tag) page.old result (view_in badge.old.views).torn (view_in badge.new.views).torn }
 {
     let mut seat = take_seat::<L, G>(badge);
     let answer = put_locked(table, rt, &mut seat, held, frame, tag, page);
@@ -82,11 +84,13 @@ impl Pass {
     ghost use Rattle.page_layout.specs.Soundness.{is_new_page, is_sound_page};
     ghost use Rattle.pin_core.specs.declared.view.Content.TheVariants as content;
     ghost use Rattle.pin_core.specs.State.{link};
+    ghost use Rattle.block_tag.specs.Names.{packed_tag};
     ghost use Rattle.frame_table.specs.Seats.{relations_of};
+    ghost use Rattle.wal_flush.specs.Inserts.{AddsTorn};
     ghost use Rattle.held_pins.specs.Tokens.{IsPinnedFor};
     ghost use Rattle.buffer_frames.specs.Working.{Made};
     ghost use Rattle.backend_pass.specs.Managers.{Belongs};
-    ghost use Rattle.backend_pass.specs.Passes.{KeepsCalls, KeepsLocks, KeepsSought, SamePass};
+    ghost use Rattle.backend_pass.specs.Passes.{KeepsCalls, KeepsLocks, KeepsSought, SameButTorn};
     ghost use Rattle.buffer_frames.specs.Puts.{IsDoneOrFull, PutAnswer, met_put, put_calls};
 
     /// Makes the given page, which is sound and not new, the page of a frame whose content lock the caller has exclusively: marks the frame dirty (`MarkBufferDirty`), inserts the page into the log (`XLogInsert`), and copies it into the frame with its position there. Returns that position. After a refusal the frame's page is as it was.
@@ -103,7 +107,7 @@ impl Pass {
         requires sound { is_sound_page page.now ≡ true }
         requires used { is_new_page page.now ≡ false }
         ensures belongs { Belongs L.contents manager.now self.new }
-        ensures same { SamePass self.old self.new }
+        ensures same { SameButTorn self.old self.new }
         ensures sought { KeepsSought self.old self.new }
         ensures token { exclusive.new ≡ exclusive.old }
         ensures tokens { self.new.tokens ≡ self.old.tokens }
@@ -116,6 +120,7 @@ impl Pass {
         ensures answer { PutAnswer (relations_of manager.now.table) exclusive.old.pinned.frame exclusive.old.pinned.tag page.now self.old.view self.new.view result }
         ensures devices { Made (put_calls result) self.old.view self.new.view }
         ensures met { self.new.view.met ≡ met_put result self.old.view.met }
+        ensures torn { AddsTorn (packed_tag exclusive.old.pinned.tag) page.now result self.old.view.torn self.new.view.torn }
         ensures refused { IfErr result (λ _. KeepsCalls self.old self.new) }
         ensures place_loads { self.new.view.place_loads ≡ self.old.view.place_loads }
 

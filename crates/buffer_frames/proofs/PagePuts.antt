@@ -10,6 +10,7 @@ use Rattle.pin_core.specs.declared.view.Call.TheVariants.{Write}
 use Rattle.pin_core.specs.declared.view.Content.TheVariants.{Exclusive}
 use Rattle.pin_core.specs.declared.view.DeviceCall.TheVariants.{LogAppend}
 use Rattle.pin_core.specs.declared.view.Link.{Link}
+use Rattle.pin_core.specs.declared.view.TornRecord.{TornRecord}
 use Rattle.pin_core.specs.declared.view.View.{View}
 use Rattle.pin_core.specs.State.{Page, idle, link}
 use Rattle.page_core.specs.Kinds as kinds
@@ -23,7 +24,7 @@ use Rattle.frame_table.specs.PageWork.{applied_link, by_input, overwriting, page
 use Rattle.frame_table.specs.Seats.{Looked, MarksDirty, OnlyRises, SameMarks, Touches, ViewMarks}
 use Rattle.wal_flush.specs.declared.inserts.InsertError.{InsertError}
 use Rattle.wal_flush.specs.declared.inserts.InsertError.TheVariants.{LogFull, LogDown, LogFault}
-use Rattle.wal_flush.specs.Inserts.{CanInsert, InsertRefused, Inserts, InsertSeesEnd, inserted_view, refused_view}
+use Rattle.wal_flush.specs.Inserts.{AddsTorn, CanInsert, InsertRefused, Inserts, InsertSeesEnd, inserted_view, refused_view}
 use Rattle.wal_flush.specs.Latched.{as_counted}
 use Rattle.held_pins.specs.Rests.{HasNoDevice, LinkRests, LinksRest}
 use Rattle.held_pins.specs.Tokens.{HeldFrame, IsPinnedFor, Tokens, held_at}
@@ -182,6 +183,9 @@ module _ (f : ℕ) (t : Tokens) (v u : View) (m : MarkedFrameDirty f v u) where
       pub met_all : w.met ≡ v.met
       met_all = ap (λ (y : View). y.met) touches.self ∙ ap (λ (y : View). y.met) e ∙ ap (λ (y : View). y.met) m.touches.self
 
+      pub torn_put : x.torn ≡ u.torn → w.torn ≡ v.torn
+      torn_put same = ap (λ (y : View). y.torn) touches.self ∙ same ∙ ap (λ (y : View). y.torn) m.touches.self
+
       pub puts_done : (page : Page) → p ≡ with_lsn lsn page → AppliesImage f p x w → DidPut relations f tag page lsn v w
       puts_done page is applies = record {
         work = subst (λ (q : Page). PutsPage relations f tag q lsn v w) is record { marked = u; entered = x; marks = m.did; inserts = did; applies = applies };
@@ -207,6 +211,9 @@ module _ (f : ℕ) (t : Tokens) (v u : View) (m : MarkedFrameDirty f v u) where
 
     pub puts_none : PutsAt f v w
     puts_none = puts_on f v u w (puts_touched f v u m.touches) (puts_refused why f u w e rises)
+
+    pub torn_not_put : (tag : ℕ) (page : Page) → AddsTorn tag page (Err why) u.torn w.torn → AddsTorn tag page (Err why) v.torn w.torn
+    torn_not_put tag page = subst (λ (l : List TornRecord). AddsTorn tag page (Err why) l w.torn) (ap (λ (y : View). y.torn) m.touches.self)
 
     pub put_refused : (relations : List RelEntry) (tag : Tag) (p : Page) → InsertRefused relations f tag p u w why → InsertSeesEnd why u w → PutRefused relations f tag p why v w
     put_refused relations tag p r s = let k = refused_keeps why u w e in record {

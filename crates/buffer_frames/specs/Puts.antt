@@ -23,9 +23,9 @@ use Rattle.frame_table.specs.Seats.{OnlyRises}
 use Rattle.held_pins.specs.Rests.{kept_by_calls}
 use Rattle.buffer_frames.specs.Working.{met_log}
 
--- What a put keeps of a view: what calls keep, but its mark, what it read and put, and its front
+-- What a put keeps of a view: what calls keep, but its mark, what it read and put, its front, and the records that it failed to append
 abbrev pub kept_by_puts : View → View
-kept_by_puts v = record (kept_by_calls v) { calls = []; front = 0; dirtied_or_synced = false }
+kept_by_puts v = record (kept_by_calls v) { calls = []; front = 0; dirtied_or_synced = false; torn = [] }
 
 -- Such work at the frame f: the view has at other frames, and at the partitions, what it had
 pub record PutsAt (f : ℕ) (v w : View) : Type 0 where

@@ -1,12 +1,13 @@
 //! A page is put into a frame.
 ghost use Rattle.std.specs.Prelude.{◌≡◌, ◌<◌, None, Some, false, true};
-ghost use Rattle.block_tag.specs.Names.{names_block};
+ghost use Rattle.block_tag.specs.Names.{names_block, packed_tag};
 ghost use Rattle.page_layout.specs.Soundness.{is_new_page, is_sound_page};
 ghost use Rattle.pin_core.specs.declared.view.Content.TheVariants as content;
 ghost use Rattle.pin_core.specs.State.{link};
 ghost use Rattle.table_rule.specs.Blocks.{has_block};
 ghost use Rattle.frame_table.specs.PageWork.{applied_link};
 ghost use Rattle.frame_table.specs.Seats.{SameMarks, SameSeat, Touches, frames_of, relations_of};
+ghost use Rattle.wal_flush.specs.Inserts.{AddsTorn};
 ghost use Rattle.held_pins.specs.Rests.{LinksRest, Stands};
 ghost use Rattle.held_pins.specs.Tokens.{IsPinnedFor};
 ghost use Rattle.buffer_frames.specs.Puts.{AppliesImage, PutAnswer, PutsAt, met_put, put_calls};
@@ -76,6 +77,7 @@ pub fn put_locked<L: BlockLane, G: LogDevice, R: Wait>(
     ensures answer { PutAnswer (relations_of table.now) frame tag page.old seat.old.me.0 seat.new.me.0 result }
     ensures calls { Made (put_calls result) seat.old.me.0 seat.new.me.0 }
     ensures met { seat.new.me.0.met ≡ met_put result seat.old.me.0.met }
+    ensures torn { AddsTorn (packed_tag tag) page.old result seat.old.me.0.torn seat.new.me.0.torn }
 {
     table.mark_dirty(rt, seat, frame);
     match insert(table, rt, seat, frame, tag, page) {

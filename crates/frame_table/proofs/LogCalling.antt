@@ -67,9 +67,9 @@ module _ {G : Type 0} (bytes : G → Option (List ℕ)) (synced faults calls : G
   home_after_append f tag p piece end (Err e) up loaded call down may = came (marked_failed y.call went.taken.down v.log.end y.down end (failed_call f tag p piece y.call call) (went.down ∙ up) loaded down) (failed_append relations f tag p piece y.call v call may)
 
   -- after a sync
-  pub home_after_sync : (end : ℕ) (result : Result (Unit {0}) Failed) → x.down ≡ None → v.log.end ≡ Some end → MatchResult result (λ _. y.call ≡ log_call.Synced) (λ _. y.call ≡ log_call.SyncFailed) → MatchResult result (λ _. y.down ≡ None) (λ _. y.down ≡ Some end) → MayComeHome bytes synced faults calls relations y v
-  home_after_sync end (Ok done) up loaded call down = came (marked_done y.call went.taken.down v.log.end y.down (ap has_failed call) (went.down ∙ up) down) (subst (λ (c : LogCall). MayCall relations c v) (sym call) tt)
-  home_after_sync end (Err e) up loaded call down = came (marked_failed y.call went.taken.down v.log.end y.down end (ap has_failed call) (went.down ∙ up) loaded down) (subst (λ (c : LogCall). MayCall relations c v) (sym call) tt)
+  pub home_after_sync : (end : ℕ) (result : Result (Unit {0}) Failed) → x.down ≡ None → v.log.end ≡ Some end → MatchResult result (λ _. y.call ≡ log_call.Synced) (λ _. y.call ≡ log_call.SyncFailed) → MatchResult result (λ _. y.down ≡ None) (λ _. y.down ≡ Some end) → v.log.appended ≡ None → MayComeHome bytes synced faults calls relations y v
+  home_after_sync end (Ok done) up loaded call down none = came (marked_done y.call went.taken.down v.log.end y.down (ap has_failed call) (went.down ∙ up) down) (subst (λ (c : LogCall). MayCall relations c v) (sym call) none)
+  home_after_sync end (Err e) up loaded call down none = came (marked_failed y.call went.taken.down v.log.end y.down end (ap has_failed call) (went.down ∙ up) loaded down) (subst (λ (c : LogCall). MayCall relations c v) (sym call) none)
 
 -- a page may be entered still where the view has the same at frames, and the same end loaded
 pub enters_still : (f : ℕ) (tag : Tag) (p : Page) (start : ℕ) (v w : View) → w.links ≡ v.links → w.log.end ≡ v.log.end → MayBecomeEntry f tag p start v → MayBecomeEntry f tag p start w

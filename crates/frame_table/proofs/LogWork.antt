@@ -16,6 +16,7 @@ use Rattle.pin_core.specs.declared.view.LogChange.TheVariants as change
 use Rattle.pin_core.specs.declared.view.LogHold.{LogHold}
 use Rattle.pin_core.specs.declared.view.FailedCalls.{FailedCalls}
 use Rattle.pin_core.specs.declared.view.TakenLog.{TakenLog}
+use Rattle.pin_core.specs.declared.view.TornRecord.{TornRecord}
 use Rattle.pin_core.specs.declared.view.View.{View}
 use Rattle.pin_core.specs.State.{Page, idle, hold, no_partition, no_lane, sum_of_met}
 use Rattle.history_core.specs.Device.{LogKind, log_out, append, fail_append, sync_log, fail_sync, log_back, see_down, LogAllowed, CanCallLog, device_after, log_hold_after, view_logged, log_met_by, is_failed}
@@ -44,7 +45,7 @@ use Rattle.table_rule.specs.declared.value.Value.TheVariants as value
 use Rattle.table_rule.specs.Layout.{latch_place, slot_of, log_slot}
 use Rattle.table_rule.specs.LogCalls.{LogDid}
 use Rattle.table_rule.specs.Shows.{is_out, is_taken, IsHome, Devices, Gives, GivesLog, IsLog, HasValue, RuleHolds, KeepsOpening}
-use Rattle.frame_table.specs.LogWork.{DidLog, DidTwo, GoesOut, out_steps, view_out, IsPart, ComesHome, home_hold, log_device_calls, view_home, MayCall, MarksLogDown, IsLogOut, IsTakenLog, MayComeHome, log_went, log_came}
+use Rattle.frame_table.specs.LogWork.{DidLog, DidTwo, GoesOut, out_steps, view_out, IsPart, ComesHome, home_hold, log_device_calls, torn_home, view_home, MayCall, MarksLogDown, IsLogOut, IsTakenLog, MayComeHome, log_went, log_came}
 use Rattle.frame_table.proofs.LogDevices.{rises, log_before, log_appended, log_torn, log_synced, log_unsynced, log_marked, Torn}
 use Rattle.frame_table.proofs.Entering.{end_is, can_log, is_entry}
 use Rattle.frame_table.proofs.Frames.{set_twice}
@@ -273,27 +274,27 @@ module _ {L G : Type 0} (d : Devices L G) (o : Opening L G) (slots id : ℕ) (me
           (log_marked d x.device may.taken.down x.down dev (sym (mark.kept refl)) (log_synced d may.before x.device may.taken.down h.state.device was did)) (λ w z. z)
       of_call log_call.SyncFailed did mark asks = let k : LogKind = fail_sync may.taken.synced (d.log_faults x.device) in let dev : Device = device_after k h.state.end h.state.device in
           two log_call.SyncFailed k true refl
-          (record { call = can_call (mark.up refl); rises = counted did.counted; later = (let e = as_taken.synced in omega arith); within = (let e = as_taken.synced in let low = (h.laws.invariant.device.columns 0 (lit< tt)).synced in omega arith) }) tt
+          (record { call = can_call (mark.up refl); rises = counted did.counted; entered = asks; later = (let e = as_taken.synced in omega arith); within = (let e = as_taken.synced in let low = (h.laws.invariant.device.columns 0 (lit< tt)).synced in omega arith) }) tt
           (returns true dev (log_hold_after k me.0.log) refl (λ e. refl) (λ e. refl))
           (log_marked d x.device (Some h.state.end) x.down dev (sym (mark.marked refl ∙ ended me.0.log.end refl (mark.loaded refl)))
           (subst (λ (n : ℕ). IsLog d x.device (Some h.state.end) (record h.state.device { synced = n; faults = d.log_faults x.device; down = Some h.state.end })) as_taken.synced (log_unsynced d may.before x.device may.taken.down h.state.end h.state.device was did))) (λ w z. z)
 
 -- the view once the log is back
-home_as : (noted sees : Bool) (hold : LogHold) (calls : List DeviceCall) (v : View)
-    → record v { log = hold; device_calls = (v.device_calls ++ calls) ++ []; met = sum_of_met (sum_of_met v.met (record { reads = 0; writes = 0; logs = 0 })) (log_met_by (log_back noted)); saw_down = (v.saw_down || sees) || false; steps = v.steps + 1 + 1 }
-    ≡ record v { log = hold; device_calls = v.device_calls ++ calls; met = sum_of_met v.met (log_met_by (log_back noted)); saw_down = v.saw_down || sees; steps = v.steps + 2 }
-home_as noted sees hold calls v = let more : v.steps + 1 + 1 ≡ v.steps + 2 = omega arith in
-    λ i. record v { log = hold; device_calls = append-nil (v.device_calls ++ calls) i; met = sum_of_met (met_none v.met i) (log_met_by (log_back noted)); saw_down = or-false (v.saw_down || sees) i; steps = more i }
+home_as : (noted sees : Bool) (hold : LogHold) (torn : List TornRecord) (calls : List DeviceCall) (v : View)
+    → record v { log = hold; torn = torn; device_calls = (v.device_calls ++ calls) ++ []; met = sum_of_met (sum_of_met v.met (record { reads = 0; writes = 0; logs = 0 })) (log_met_by (log_back noted)); saw_down = (v.saw_down || sees) || false; steps = v.steps + 1 + 1 }
+    ≡ record v { log = hold; torn = torn; device_calls = v.device_calls ++ calls; met = sum_of_met v.met (log_met_by (log_back noted)); saw_down = v.saw_down || sees; steps = v.steps + 2 }
+home_as noted sees hold torn calls v = let more : v.steps + 1 + 1 ≡ v.steps + 2 = omega arith in
+    λ i. record v { log = hold; torn = torn; device_calls = append-nil (v.device_calls ++ calls) i; met = sum_of_met (met_none v.met i) (log_met_by (log_back noted)); saw_down = or-false (v.saw_down || sees) i; steps = more i }
 
 two_view : (j k : LogKind) (v w : View) → DidTwo j k v w → w ≡ view_logged k (view_logged j v)
 two_view j k v w b = b.second.after ∙ ap (view_logged k) b.first.after
 
 pub home_view : (taken : TakenLog) (bytes : Option (List ℕ)) (faults : ℕ) (call : LogCall) (v w : View) → ComesHome taken bytes faults call v w → w ≡ view_home call v
 home_view taken bytes faults log_call.Untouched v w b = b.after
-home_view taken bytes faults (log_call.Appended f tag page piece) v w b = two_view (append f (packed_tag tag) page.value piece.value.items) (log_back false) v w b ∙ home_as false false (home_hold (log_call.Appended f tag page piece) v.log) (log_device_calls (log_call.Appended f tag page piece)) v
-home_view taken bytes faults (log_call.AppendFailed f tag page piece) v w (part, is_part, b) = two_view (fail_append f (packed_tag tag) page.value part faults) (log_back true) v w b ∙ home_as true true (home_hold (log_call.AppendFailed f tag page piece) v.log) (log_device_calls (log_call.AppendFailed f tag page piece)) v
-home_view taken bytes faults log_call.Synced v w b = two_view sync_log (log_back false) v w b ∙ home_as false false (home_hold log_call.Synced v.log) (log_device_calls log_call.Synced) v
-home_view taken bytes faults log_call.SyncFailed v w b = two_view (fail_sync taken.synced faults) (log_back true) v w b ∙ home_as true true (home_hold log_call.SyncFailed v.log) (log_device_calls log_call.SyncFailed) v
+home_view taken bytes faults (log_call.Appended f tag page piece) v w b = two_view (append f (packed_tag tag) page.value piece.value.items) (log_back false) v w b ∙ home_as false false (home_hold (log_call.Appended f tag page piece) v.log) v.torn (log_device_calls (log_call.Appended f tag page piece)) v
+home_view taken bytes faults (log_call.AppendFailed f tag page piece) v w (part, is_part, b) = two_view (fail_append f (packed_tag tag) page.value part faults) (log_back true) v w b ∙ home_as true true (home_hold (log_call.AppendFailed f tag page piece) v.log) (torn_home (log_call.AppendFailed f tag page piece) v.torn) (log_device_calls (log_call.AppendFailed f tag page piece)) v
+home_view taken bytes faults log_call.Synced v w b = two_view sync_log (log_back false) v w b ∙ home_as false false (home_hold log_call.Synced v.log) v.torn (log_device_calls log_call.Synced) v
+home_view taken bytes faults log_call.SyncFailed v w b = two_view (fail_sync taken.synced faults) (log_back true) v w b ∙ home_as true true (home_hold log_call.SyncFailed v.log) v.torn (log_device_calls log_call.SyncFailed) v
 
 -- a log that goes out has no call noted
 unnoted_before : (k : LogKind) (v u : View) → DidLog k v u → v.log.out ≡ None → v.log.change ≡ change.Untouched

@@ -11,6 +11,7 @@ use Rattle.pin_core.specs.declared.view.LogHold.{LogHold}
 use Rattle.pin_core.specs.declared.view.TakenLog.{TakenLog}
 use Rattle.pin_core.specs.declared.view.DeviceCall.{DeviceCall}
 use Rattle.pin_core.specs.declared.view.DeviceCall.TheVariants.{LogAppend, LogSync}
+use Rattle.pin_core.specs.declared.view.TornRecord.{TornRecord}
 use Rattle.pin_core.specs.declared.view.View.{View}
 use Rattle.pin_core.specs.State.{Page, sum_of_met}
 use Rattle.history_core.specs.Log.{record_size}
@@ -87,6 +88,11 @@ log_device_calls (log_call.AppendFailed f tag page piece) = LogAppend false ∷ 
 log_device_calls log_call.Synced = LogSync true ∷ []
 log_device_calls log_call.SyncFailed = LogSync false ∷ []
 
+-- the records that it failed to append, then
+abbrev pub torn_home : LogCall → List TornRecord → List TornRecord
+torn_home (log_call.AppendFailed f tag page piece) xs = xs ++ record { tag = packed_tag tag; page = page.value } ∷ []
+torn_home _ xs = xs
+
 -- and the steps
 abbrev pub home_steps : LogCall → ℕ
 home_steps log_call.Untouched = 1
@@ -96,6 +102,7 @@ home_steps _ = 2
 abbrev pub view_home : LogCall → View → View
 view_home call v = record v {
   log = home_hold call v.log;
+  torn = torn_home call v.torn;
   device_calls = v.device_calls ++ log_device_calls call;
   met = sum_of_met v.met (log_met_by (log_back (has_failed call)));
   saw_down = v.saw_down || has_failed call;
@@ -110,11 +117,13 @@ pub record MayAppend (relations : List RelEntry) (f : ℕ) (tag : Tag) (p : Page
   pub entered : v.log.appended ≡ None
   pub unsynced : v.log.synced ≡ false
 
--- where this call was to be made: a sync needs nothing of it
+-- where this call was to be made: under this latch no record was appended before a sync
 abbrev pub MayCall : List RelEntry → LogCall → View → Type 0
 MayCall relations (log_call.Appended f tag page piece) v = MayAppend relations f tag page.value piece.value.items v
 MayCall relations (log_call.AppendFailed f tag page piece) v = MayAppend relations f tag page.value piece.value.items v
-MayCall relations _ v = Unit {0}
+MayCall relations log_call.Synced v = v.log.appended ≡ None
+MayCall relations log_call.SyncFailed v = v.log.appended ≡ None
+MayCall relations log_call.Untouched v = Unit {0}
 
 -- whether a call was made
 abbrev pub is_called : LogCall → Bool

@@ -17,6 +17,7 @@ pub mod Counts
 pub mod LogCounting
 pub mod Counting
 pub mod Opening
+pub mod TornRecords
 pub mod Rest
 pub mod Sample
 pub mod Miss

@@ -52,7 +52,7 @@ noted_set views i v w there keeps tag (j, k, u, at, is) = dite (ℕ_discrete j i
     (λ (e : j ≡ i). let same : v ≡ u = some-injective v u (sym there ∙ subst (λ (z : ℕ). get_elem? views z ≡ some u) e at) in let x = keeps k tag (subst (λ (y : View). get_elem? y.unentered k ≡ some tag) (sym same) is) in (i, x.0, w, set_here views i v w there, x.1))
     (λ (o : j ≢ i). (j, k, u, set_else views i j w o ∙ at, is))
 
-at_right : {A : Type 0} (l m : List A) (k : ℕ) (a : A) → get_elem? m k ≡ some a → (j : ℕ) × (get_elem? (l ++ m) j ≡ some a)
+pub at_right : {A : Type 0} (l m : List A) (k : ℕ) (a : A) → get_elem? m k ≡ some a → (j : ℕ) × (get_elem? (l ++ m) j ≡ some a)
 at_right [] m k a e = (k, e)
 at_right (x ∷ l) m k a e = let z = at_right l m k a e in (suc z.0, z.1)
 

@@ -7,6 +7,7 @@ use Rattle.pin_core.specs.declared.view.LogHold.{LogHold}
 use Rattle.pin_core.specs.declared.view.DeviceCall.{DeviceCall}
 use Rattle.pin_core.specs.declared.view.DeviceCall.TheVariants.{LogAppend, LogSync}
 use Rattle.pin_core.specs.declared.view.FailedCalls.{FailedCalls}
+use Rattle.pin_core.specs.declared.view.TornRecord.{TornRecord}
 use Rattle.pin_core.specs.declared.view.View.{View}
 use Rattle.pin_core.specs.State.{Page, sum_of_met}
 use Rattle.pin_core.specs.Tallies.{flag_weight, some_weight}
@@ -76,10 +77,11 @@ pub record CanFailAppend (bytes : List ℕ) (n : ℕ) (d : Device) (h : LogHold)
   pub unsynced : h.synced ≡ false
   pub part : length bytes ≤ record_size
 
--- the bytes that are durable stay so
+-- the bytes that are durable stay so; a record that was appended is part of the log by then
 pub record CanFailSync (synced n : ℕ) (d : Device) (h : LogHold) : Type 0 where
   pub call : CanCallLog d h
   pub rises : Rises d.faults n
+  pub entered : h.appended ≡ None
   pub later : d.synced ≤ synced
   pub within : synced ≤ length d.bytes
 
@@ -137,6 +139,11 @@ abbrev pub log_met_by : LogKind → FailedCalls
 log_met_by (log_back true) = record { reads = 0; writes = 0; logs = 1 }
 log_met_by _ = record { reads = 0; writes = 0; logs = 0 }
 
+-- it lists a record that it failed to append
+abbrev pub torn_by : LogKind → List TornRecord → List TornRecord
+torn_by (fail_append f tag p bytes n) xs = xs ++ record { tag = tag; page = p } ∷ []
+torn_by _ xs = xs
+
 -- the holder's own failure shows it that the log is down
 abbrev pub sees_down : LogKind → Bool
 sees_down (fail_append f tag p bytes n) = true
@@ -148,6 +155,7 @@ sees_down _ = false
 abbrev pub view_logged : LogKind → View → View
 view_logged k v = record v {
   log = log_hold_after k v.log;
+  torn = torn_by k v.torn;
   device_calls = v.device_calls ++ log_calls_by k;
   met = sum_of_met v.met (log_met_by k);
   saw_down = v.saw_down || sees_down k;

@@ -4,6 +4,7 @@ pub mod Words
 pub mod Lanes
 pub mod Device
 pub mod Steps
+pub mod TornRecords
 pub mod Rest
 pub mod Homes
 pub mod Invariant

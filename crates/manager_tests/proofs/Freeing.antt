@@ -17,7 +17,7 @@ use Rattle.backend_pass.specs.declared.manager.Manager.{Manager}
 use Rattle.backend_pass.specs.declared.pinned.Pinned.{Pinned}
 use Rattle.backend_pass.specs.Locks.{ChangesLock, HasLock}
 use Rattle.backend_pass.specs.Managers.{AreAll, AreNewPasses, Belongs, IsNewPass, first_in}
-use Rattle.backend_pass.specs.Passes.{KeepsCallers, KeepsLocks, PassState, SamePass, PassOwn}
+use Rattle.backend_pass.specs.Passes.{KeepsCallers, KeepsLocks, KeepsPass, PassState, SameButTorn, SamePass, PassOwn}
 use Rattle.grid.specs.Shape.{total}
 use Rattle.backend_pass.proofs.Joining.{first_here, first_past}
 use Rattle.backend_pass.proofs.Keeping.{pass_none}
@@ -115,13 +115,20 @@ module _ {L G : Type 0} (contents : L → Option Pages) (m : Manager L G) where
       }
 
   -- a call that keeps tokens and locks
-  pub only_on : (lock : Content) (pinned : Pinned) (i : ℕ) (p q : PassState) → HasOnly contents lock pinned m i p → Belongs contents m q → SamePass p q → q.tokens ≡ p.tokens → KeepsLocks p q → HasOnly contents lock pinned m i q
-  only_on lock pinned i p q o b s tokens locks = record {
-    is = record { belongs = b; number = s.keeps.number ∙ o.is.number; joined = s.keeps.joined ∙ o.is.joined; next = λ first. s.keeps.next ∙ o.is.next first; rest = λ first. ap (λ (x : PassOwn). x.queue.known.parts + 3) s.keeps.own ∙ o.is.rest first; part = λ other. ap (λ (x : PassOwn). x.queue.known.parts) s.keeps.own ∙ o.is.part other };
+  only_kept : (lock : Content) (pinned : Pinned) (i : ℕ) (p q : PassState) → HasOnly contents lock pinned m i p → Belongs contents m q → KeepsPass p q → q.tokens ≡ p.tokens → KeepsLocks p q → HasOnly contents lock pinned m i q
+  only_kept lock pinned i p q o b k tokens locks = record {
+    is = record { belongs = b; number = k.number ∙ o.is.number; joined = k.joined ∙ o.is.joined; next = λ first. k.next ∙ o.is.next first; rest = λ first. ap (λ (x : PassOwn). x.queue.known.parts + 3) k.own ∙ o.is.rest first; part = λ other. ap (λ (x : PassOwn). x.queue.known.parts) k.own ∙ o.is.part other };
     token = subst (IsPinnedFor pinned.tag pinned.frame) (sym tokens) o.token;
     last = ap (tokens_less pinned.frame) tokens ∙ o.last;
     locked = locks pinned.frame ∙ o.locked;
   }
+
+  pub only_on : (lock : Content) (pinned : Pinned) (i : ℕ) (p q : PassState) → HasOnly contents lock pinned m i p → Belongs contents m q → SamePass p q → q.tokens ≡ p.tokens → KeepsLocks p q → HasOnly contents lock pinned m i q
+  only_on lock pinned i p q o b s tokens locks = only_kept lock pinned i p q o b s.keeps tokens locks
+
+  -- a put
+  pub only_put : (lock : Content) (pinned : Pinned) (i : ℕ) (p q : PassState) → HasOnly contents lock pinned m i p → Belongs contents m q → SameButTorn p q → q.tokens ≡ p.tokens → KeepsLocks p q → HasOnly contents lock pinned m i q
+  only_put lock pinned i p q o b s tokens locks = only_kept lock pinned i p q o b s.keeps tokens locks
 
   -- a call that changes the lock of the frame alone
   pub only_relocked : (lock : Content) (pinned given : Pinned) (i : ℕ) (p q : PassState) {before : Content} → HasOnly contents before pinned m i p → given ≡ pinned → Belongs contents m q → SamePass p q → q.tokens ≡ p.tokens → ChangesLock lock pinned.frame p q → HasOnly contents lock given m i q
@@ -158,7 +165,7 @@ module _ {L G : Type 0} (contents : L → Option Pages) (m : Manager L G) where
 
   -- a pass that nothing was done with
   pub kept_returns : (p : PassState) → Belongs contents m p → Returns contents m p p
-  kept_returns p b = record { belongs = b; same = record { keeps = pass_none p; upto = refl }; tokens = refl; locks = λ f. refl }
+  kept_returns p b = record { belongs = b; same = record { keeps = pass_none p; upto = refl; torn = refl }; tokens = refl; locks = λ f. refl }
 
   -- a pin and its release
   pub released_returns : (pinned : Pinned) (p u q : PassState) → SamePass p u → KeepsLocks p u → tokens_less pinned.frame u.tokens ≡ p.tokens → Belongs contents m q → SamePass u q → q.tokens ≡ tokens_less pinned.frame u.tokens → KeepsLocks u q → Returns contents m p q

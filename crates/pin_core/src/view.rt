@@ -320,6 +320,12 @@ pub struct JoinedCheckpoint {
     pub swept: [u64; 0],
 }
 
+/// The record of a page that an append failed to add: the block, by its tag, and the page.
+pub struct TornRecord {
+    pub tag: u64,
+    pub page: [u8; 0],
+}
+
 /// What one backend knows and has done.
 pub struct View {
     /// The backend's number.
@@ -347,6 +353,8 @@ pub struct View {
     pub end_seen: u64,
     /// The blocks whose frame was marked dirty under an exclusive lock that was given up with no entry made, by their tags.
     pub unentered: [u64; 0],
+    /// The records that the backend failed to append, in order: the log's device has at most the first bytes of each.
+    pub torn: [TornRecord; 0],
     /// The pages read and written, in order.
     pub calls: [Call; 0],
     /// The largest place of the calls; where the log begins, where there are none.

@@ -12,9 +12,9 @@ use Rattle.table_rule.specs.declared.turn.Turn.TheVariants.{Log}
 use Rattle.frame_table.specs.Entering.{entered_link}
 use Rattle.frame_table.specs.Latches.{DidTurn}
 use Rattle.wal_flush.specs.declared.inserts.InsertError.{InsertError}
-use Rattle.wal_flush.specs.Latched.{KeepsWork, Opens, UnderLatch, as_counted}
-use Rattle.wal_flush.specs.Inserts.{EnterRefused, Enters, InsertRefused, Inserts, InsertSeesEnd, inserted_view, refused_view}
-use Rattle.wal_flush.proofs.Views.{insert_view, inserted_link, other_links, refused_sees, refused_work, unentered_view}
+use Rattle.wal_flush.specs.Latched.{KeepsWork, Opens, UnderLatch, as_counted, with_torn}
+use Rattle.wal_flush.specs.Inserts.{AddsTorn, EnterRefused, Enters, InsertRefused, Inserts, InsertSeesEnd, inserted_view, refused_view}
+use Rattle.wal_flush.proofs.Views.{insert_view, inserted_link, inserted_torn, other_links, refused_sees, refused_torn, refused_work, unentered_view}
 
 module _ (relations : List RelEntry) (f : ℕ) (tag : Tag) (end : ℕ) (v loaded worked w : View) (opens : Opens end v loaded) (leaves : DidTurn false Log worked w) (result : Result ℕ InsertError) where
   latched : (Work : View → View → Type 0) → Work loaded worked → UnderLatch end Work v w
@@ -66,8 +66,13 @@ module _ (relations : List RelEntry) (f : ℕ) (tag : Tag) (end : ℕ) (v loaded
         of_result (Ok lsn) none = none
         of_result (Err why) work = unentered_view relations f tag p end why v w (latched (EnterRefused relations f tag p end why) work) free
 
+-- the records that the view failed to append
+pub adds_torn : (relations : List RelEntry) (f : ℕ) (tag : Tag) (end : ℕ) (v loaded worked w : View) → Opens end v loaded → DidTurn false Log worked w → (result : Result ℕ InsertError) (p q : Page) → IfOk result (λ _. Enters relations f tag end p loaded worked) → IfErr result (λ why. EnterRefused relations f tag q end why loaded worked) → AddsTorn (packed_tag tag) q result v.torn w.torn
+adds_torn relations f tag end v loaded worked w opens leaves (Ok lsn) p q work none = inserted_torn relations f tag end p v w (record { loaded = loaded; worked = worked; opens = opens; work = work; leaves = leaves })
+adds_torn relations f tag end v loaded worked w opens leaves (Err why) p q none work = refused_torn relations f tag q end why v w (record { loaded = loaded; worked = worked; opens = opens; work = work; leaves = leaves })
+
 -- and then the view's work is as it was
-pub work_stays : (v w : View) (result : Result ℕ InsertError) → IfErr result (λ why. w ≡ as_counted (refused_view why v) w) → IfErr result (λ _. KeepsWork v w)
+pub work_stays : (v w : View) (result : Result ℕ InsertError) → IfErr result (λ why. w ≡ as_counted (refused_view why v) w) → IfErr result (λ _. KeepsWork (with_torn w.torn v) w)
 work_stays v w (Ok lsn) none = none
 work_stays v w (Err why) e = refused_work why v w e
 

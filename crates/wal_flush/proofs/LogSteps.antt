@@ -9,7 +9,7 @@ use Rattle.pin_core.specs.declared.view.FailedCalls.{FailedCalls}
 use Rattle.pin_core.specs.declared.view.TakenLog.{TakenLog}
 use Rattle.pin_core.specs.declared.view.View.{View}
 use Rattle.pin_core.specs.State.{Page, no_log, sum_of_met}
-use Rattle.history_core.specs.Device.{LogKind, take_log, leave_log, log_out, append, fail_append, sync_log, fail_sync, log_back, see_down, log_calls_by, log_met_by, sees_down, log_hold_after, view_logged}
+use Rattle.history_core.specs.Device.{LogKind, take_log, leave_log, log_out, append, fail_append, sync_log, fail_sync, log_back, see_down, log_calls_by, log_met_by, sees_down, torn_by, log_hold_after, view_logged}
 use Rattle.history_core.specs.Steps.{has_loaded}
 use Rattle.table_rule.specs.declared.turn.Turn.TheVariants.{Log}
 use Rattle.frame_table.specs.WordSteps.{DidWord, load_end}
@@ -20,10 +20,10 @@ use Rattle.wal_flush.specs.Latched.{FindsDown, GoesOutUp, Opens, downed, faulted
 
 -- a step that counts no call of the log and no fault, and one that counts these
 abbrev pub quiet : LogKind → View → View
-quiet k v = record v { log = log_hold_after k v.log; steps = v.steps + 1 }
+quiet k v = record v { log = log_hold_after k v.log; torn = torn_by k v.torn; steps = v.steps + 1 }
 
 abbrev pub counting : LogKind → List DeviceCall → FailedCalls → Bool → View → View
-counting k calls met down v = record v { log = log_hold_after k v.log; device_calls = calls; met = met; saw_down = down; steps = v.steps + 1 }
+counting k calls met down v = record v { log = log_hold_after k v.log; torn = torn_by k v.torn; device_calls = calls; met = met; saw_down = down; steps = v.steps + 1 }
 
 counts : (k : LogKind) (v : View) (calls : List DeviceCall) (met : FailedCalls) (down : Bool) → v.device_calls ++ log_calls_by k ≡ calls → sum_of_met v.met (log_met_by k) ≡ met → (v.saw_down || sees_down k) ≡ down → view_logged k v ≡ counting k calls met down v
 counts k v calls met down c m d = λ i. record (quiet k v) { device_calls = c i; met = m i; saw_down = d i }
@@ -71,9 +71,9 @@ module _ (v out : View) (went : GoesOutUp v out) where
       ∙ counts k (quiet (log_out went.taken) v) (v.device_calls ++ call ∷ []) v.met true (ap (λ (l : List DeviceCall). v.device_calls ++ l) c) (ap (sum_of_met v.met) m ∙ met_none v.met) (ap (λ (b : Bool). v.saw_down || b) s ∙ or-true v.saw_down))
 
   pub unappended_view : (f tag : ℕ) (p : Page) (part : List ℕ) (n : ℕ) (w : View) → DidTwo (fail_append f tag p part n) (log_back true) out w
-      → w ≡ record (faulted v) { log = record v.log { out = None; change = Untouched }; device_calls = v.device_calls ++ LogAppend false ∷ []; steps = w.steps }
+      → w ≡ record (faulted v) { log = record v.log { out = None; change = Untouched }; torn = v.torn ++ record { tag = tag; page = p } ∷ []; device_calls = v.device_calls ++ LogAppend false ∷ []; steps = w.steps }
   unappended_view f tag p part n w d = let e = failed_view (fail_append f tag p part n) (LogAppend false) w refl refl refl d in
-      e ∙ (λ i. record (faulted v) { log = record v.log { out = None; change = Untouched }; device_calls = v.device_calls ++ LogAppend false ∷ []; steps = (sym (ap (λ (x : View). x.steps) e)) i })
+      e ∙ (λ i. record (faulted v) { log = record v.log { out = None; change = Untouched }; torn = v.torn ++ record { tag = tag; page = p } ∷ []; device_calls = v.device_calls ++ LogAppend false ∷ []; steps = (sym (ap (λ (x : View). x.steps) e)) i })
 
   pub unsynced_view : (synced n : ℕ) (w : View) → DidTwo (fail_sync synced n) (log_back true) out w
       → w ≡ record (faulted v) { log = record v.log { out = None; change = Untouched; appended = None }; device_calls = v.device_calls ++ LogSync false ∷ []; steps = w.steps }

@@ -1,5 +1,5 @@
 -- What inserts and flushes make of a view.
-use Rattle.std.proofs.Common.{◌≡◌, ◌≢◌, ℕ, ◌+◌, ◌<◌, ◌≤◌, Bool, true, false, List, [], ◌∷◌, ◌++◌, Option, None, length, get_or, subst, get_or-set_same, get_or-set_other, refl, sym, ap, ◌∙◌, arith}
+use Rattle.std.proofs.Common.{◌≡◌, ◌≢◌, ℕ, ◌+◌, ◌<◌, ◌≤◌, Bool, true, false, List, [], ◌∷◌, ◌++◌, Option, None, Err, length, get_or, subst, get_or-set_same, get_or-set_other, refl, sym, ap, ◌∙◌, arith}
 use Rattle.block_tag.specs.declared.tag.Tag.{Tag}
 use Rattle.block_tag.specs.declared.catalogue.RelEntry.{RelEntry}
 use Rattle.block_tag.specs.Names.{packed_tag}
@@ -26,8 +26,8 @@ use Rattle.wal_flush.specs.declared.flushes.FlushedBy.{FlushedBy}
 use Rattle.wal_flush.specs.declared.flushes.FlushedBy.TheVariants.{NoSync, OneSync}
 use Rattle.wal_flush.specs.declared.flushes.FlushLog.{FlushLog}
 use Rattle.wal_flush.specs.declared.flushes.FlushLog.TheVariants as flush_log
-use Rattle.wal_flush.specs.Latched.{FindsDown, KeepsWork, kept_of, UnderLatch, as_counted, downed, faulted}
-use Rattle.wal_flush.specs.Inserts.{EnterRefused, Enters, InsertRefused, inserted_view, refused_view}
+use Rattle.wal_flush.specs.Latched.{FindsDown, KeepsWork, kept_of, UnderLatch, as_counted, downed, faulted, with_torn}
+use Rattle.wal_flush.specs.Inserts.{AddsTorn, EnterRefused, Enters, InsertRefused, inserted_view, refused_view}
 use Rattle.wal_flush.specs.Inserts as inserting
 use Rattle.wal_flush.specs.Flushes as flushing
 use Rattle.wal_flush.specs.Flushes.{FindsFlushed, FlushRefused, Flushed, already, meanwhile, by_sync, Flushes, HolderRefused, LoadsBelow, still, again, SeesFlushed, SeesUnflushed, StillUnflushed, SyncRefused, SyncsLog, Tries, WasFlushed, as_looked, flushed_view, unflushed_view}
@@ -78,9 +78,25 @@ unentered_view relations f tag p end (insert_error.LogDown at) v w u free = let 
     let big : View = quiet leave_log (found (opened end v)) in
     counted_as (downed v) w big (around end (EnterRefused relations f tag p end (insert_error.LogDown at)) v w u found (down_view at u.loaded u.worked u.work.2)) (λ i. record big { log = (left_hold v v.log.appended none refl) i })
 unentered_view relations f tag p end insert_error.LogFault v w u free = let none = free_log v u.opens.held u.opens.takes free in let b = u.work.1 in
-    let failed : View → View = λ x. record (faulted x) { log = record x.log { out = None; change = Untouched }; device_calls = x.device_calls ++ LogAppend false ∷ []; steps = u.worked.steps } in
+    let failed : View → View = λ x. record (faulted x) { log = record x.log { out = None; change = Untouched }; torn = x.torn ++ record { tag = packed_tag tag; page = with_lsn (end + record_size) p } ∷ []; device_calls = x.device_calls ++ LogAppend false ∷ []; steps = u.worked.steps } in
     let big : View = quiet leave_log (failed (opened end v)) in
     counted_as (refused_view insert_error.LogFault v) w big (around end (EnterRefused relations f tag p end insert_error.LogFault) v w u failed (unappended_view u.loaded b.out b.went f (packed_tag tag) (with_lsn (end + record_size) p) b.part b.faults u.worked b.fails)) (λ i. record big { log = (left_hold v v.log.appended none refl) i })
+
+-- an entry that was made adds nothing to the records that the view failed to append, and a failed append adds its own
+pub inserted_torn : (relations : List RelEntry) (f : ℕ) (tag : Tag) (start : ℕ) (p : Page) (v w : View) → UnderLatch start (Enters relations f tag start p) v w → w.torn ≡ v.torn
+inserted_torn relations f tag start p v w u = let a = u.work.appends in ap (λ (x : View). x.torn) (leaves_view u.worked w u.leaves) ∙ ap (λ (x : View). x.torn) u.work.after
+    ∙ ap (λ (x : View). x.torn) (appended_view u.loaded a.out a.went f (packed_tag tag) p a.bytes u.work.home a.did) ∙ ap (λ (x : View). x.torn) (opens_view start v u.loaded u.opens)
+
+pub refused_torn : (relations : List RelEntry) (f : ℕ) (tag : Tag) (p : Page) (end : ℕ) (why : InsertError) (v w : View) → UnderLatch end (EnterRefused relations f tag p end why) v w → AddsTorn (packed_tag tag) p (Err why) v.torn w.torn
+refused_torn relations f tag p end (insert_error.LogFull at) v w u = ap (λ (x : View). x.torn) (leaves_view u.worked w u.leaves) ∙ ap (λ (x : View). x.torn) u.work.2 ∙ ap (λ (x : View). x.torn) (opens_view end v u.loaded u.opens)
+refused_torn relations f tag p end (insert_error.LogDown at) v w u = ap (λ (x : View). x.torn) (leaves_view u.worked w u.leaves) ∙ ap (λ (x : View). x.torn) (down_view at u.loaded u.worked u.work.2) ∙ ap (λ (x : View). x.torn) (opens_view end v u.loaded u.opens)
+refused_torn relations f tag p end insert_error.LogFault v w u = let b = u.work.1 in (
+  end + record_size,
+  u.work.0,
+  ap (λ (x : View). x.torn) (leaves_view u.worked w u.leaves)
+      ∙ ap (λ (x : View). x.torn) (unappended_view u.loaded b.out b.went f (packed_tag tag) (with_lsn (end + record_size) p) b.part b.faults u.worked b.fails)
+      ∙ ap (λ (x : View). x.torn ++ record { tag = packed_tag tag; page = with_lsn (end + record_size) p } ∷ []) (opens_view end v u.loaded u.opens),
+)
 
 -- Flushes
 looked_as : (t w x : View) → w ≡ x → x ≡ as_looked t x → w ≡ as_looked t w
@@ -131,7 +147,7 @@ looks_view lsn v w still = refl
 looks_view lsn v w (again {u = u} before s) = saw s.found u w s.did ∙ ap (λ (x : View). as_looked x w) (looks_view lsn v u before)
 
 -- what was counted under the latch, between looks
-unlooked : (t w : View) → w ≡ as_counted t w → w ≡ as_looked t w
+unlooked : (t w : View) → w ≡ as_counted t w → w ≡ as_looked (with_torn w.torn t) w
 unlooked t w e = e ∙ (λ i. record (as_counted t w) { flushed = sym (ap (λ (x : View). x.flushed) e) i; raised_to = sym (ap (λ (x : View). x.raised_to) e) i })
 
 still_free : (found : ℕ) (v w : View) → DidWord load_flushed v w found → v.log.held ≡ false → w.log.held ≡ false
@@ -184,10 +200,10 @@ unflushed_work (flush_log.LogShort l at) v w e = counted_work v w v.device_calls
 unflushed_work (flush_log.LogDown at) v w e = counted_work v w v.device_calls v.met true e
 unflushed_work flush_log.LogFault v w e = counted_work v w (v.device_calls ++ LogSync false ∷ []) (record v.met { logs = v.met.logs + 1 }) true e
 
-pub refused_work : (why : InsertError) (v w : View) → w ≡ as_counted (refused_view why v) w → KeepsWork v w
-refused_work (insert_error.LogFull at) v w e = counted_work v w v.device_calls v.met v.saw_down (unlooked v w e)
-refused_work (insert_error.LogDown at) v w e = counted_work v w v.device_calls v.met true (unlooked (downed v) w e)
-refused_work insert_error.LogFault v w e = counted_work v w (v.device_calls ++ LogAppend false ∷ []) (record v.met { logs = v.met.logs + 1 }) true (unlooked (refused_view insert_error.LogFault v) w e)
+pub refused_work : (why : InsertError) (v w : View) → w ≡ as_counted (refused_view why v) w → KeepsWork (with_torn w.torn v) w
+refused_work (insert_error.LogFull at) v w e = counted_work (with_torn w.torn v) w v.device_calls v.met v.saw_down (unlooked v w e)
+refused_work (insert_error.LogDown at) v w e = counted_work (with_torn w.torn v) w v.device_calls v.met true (unlooked (downed v) w e)
+refused_work insert_error.LogFault v w e = counted_work (with_torn w.torn v) w (v.device_calls ++ LogAppend false ∷ []) (record v.met { logs = v.met.logs + 1 }) true (unlooked (refused_view insert_error.LogFault v) w e)
 
 -- the log's end that was loaded under the latch was seen
 seen_after : (end : ℕ) (Work : View → View → Type 0) (v w : View) (u : UnderLatch end Work v w) → u.loaded.end_seen ≤ u.worked.end_seen → end ≤ w.end_seen

@@ -1,5 +1,5 @@
 -- A page is inserted into the log, or why not.
-use Rattle.std.specs.Prelude.{◌≡◌, ℕ, ◌+◌, ◌<◌, ◌≤◌, true, false, List, [], ◌∷◌, ◌++◌, slice_set, Some, None}
+use Rattle.std.specs.Prelude.{◌≡◌, ℕ, ◌+◌, ◌<◌, ◌≤◌, true, false, List, [], ◌∷◌, ◌++◌, slice_set, Result, Err, Some, None}
 use Rattle.block_tag.specs.declared.tag.Tag.{Tag}
 use Rattle.block_tag.specs.declared.catalogue.RelEntry.{RelEntry}
 use Rattle.block_tag.specs.Names.{names_block, packed_tag}
@@ -8,6 +8,7 @@ use Rattle.page_layout.specs.Soundness.{is_new_page, is_sound_page}
 use Rattle.pin_core.specs.declared.view.Call.TheVariants.{Write}
 use Rattle.pin_core.specs.declared.view.Content.TheVariants.{Exclusive}
 use Rattle.pin_core.specs.declared.view.DeviceCall.TheVariants.{LogAppend}
+use Rattle.pin_core.specs.declared.view.TornRecord.{TornRecord}
 use Rattle.pin_core.specs.declared.view.View.{View}
 use Rattle.pin_core.specs.State.{Page, link}
 use Rattle.page_core.specs.Steps.{HasNoneUnapplied}
@@ -82,6 +83,11 @@ pub record Inserts (relations : List RelEntry) (f : ℕ) (tag : Tag) (p : Page) 
   pub ends : lsn ≡ start + record_size
   pub room : lsn ≤ last_position
   pub work : UnderLatch start (Enters relations f tag start p) v w
+
+-- What an insert of the page with this answer adds to the records that the view failed to append: after a failed append the page's, as its entry would have made it
+abbrev pub AddsTorn : ℕ → Page → Result ℕ InsertError → List TornRecord → List TornRecord → Type 0
+AddsTorn tag page (Err LogFault) old new = (lsn : ℕ) × (lsn ≤ last_position) × (new ≡ old ++ record { tag = tag; page = with_lsn lsn page } ∷ [])
+AddsTorn tag page _ old new = new ≡ old
 
 -- the log end that a refusal names was seen, and is at or past all that the view had seen of it
 abbrev pub InsertSeesEnd : InsertError → View → View → Type 0

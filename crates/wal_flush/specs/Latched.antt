@@ -1,7 +1,8 @@
 -- What is done under the log's latch.
-use Rattle.std.specs.Prelude.{◌≡◌, ℕ, ◌+◌, true, false, [], Some, None}
+use Rattle.std.specs.Prelude.{◌≡◌, ℕ, ◌+◌, true, false, List, [], Some, None}
 use Rattle.pin_core.specs.declared.view.LogHold.{LogHold}
 use Rattle.pin_core.specs.declared.view.TakenLog.{TakenLog}
+use Rattle.pin_core.specs.declared.view.TornRecord.{TornRecord}
 use Rattle.pin_core.specs.declared.view.View.{View}
 use Rattle.pin_core.specs.State.{no_log}
 use Rattle.history_core.specs.Device.{log_out, log_back, see_down}
@@ -42,9 +43,13 @@ pub record FindsDown (at : ℕ) (v w : View) : Type 0 where
   pub went : DidTwo (log_out taken) see_down v out
   pub back : DidLog (log_back false) out w
 
--- the view v, with the steps and loads that w counts, and the log end that w has seen
+-- the view v, with the steps and loads that w counts, the log end that w has seen, and the records that it failed to append
 abbrev pub as_counted : View → View → View
-as_counted v w = record v { steps = w.steps; loads = w.loads; end_seen = w.end_seen }
+as_counted v w = record v { steps = w.steps; loads = w.loads; end_seen = w.end_seen; torn = w.torn }
+
+-- with these records that it failed to append
+abbrev pub with_torn : List TornRecord → View → View
+with_torn xs v = record v { torn = xs }
 
 -- a view that saw the log down, and one that counts a fault of it more
 abbrev pub downed : View → View

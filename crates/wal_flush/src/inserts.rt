@@ -10,8 +10,8 @@ ghost use Rattle.table_rule.specs.Blocks.{has_block};
 ghost use Rattle.frame_table.specs.Entering.{MayStoreEnd, entered_link};
 ghost use Rattle.frame_table.specs.Seats.{CanTurn, IsSeat, OnlyRises, SameSeat, relations_of};
 ghost use Rattle.frame_table.specs.Latches.{MayLeave};
-ghost use Rattle.wal_flush.specs.Latched.{KeepsWork, as_counted, opened_log};
-ghost use Rattle.wal_flush.specs.Inserts.{Appends, CanInsert, EnterRefused, Enters, InsertRefused, Inserts, InsertSeesEnd, inserted_view, refused_view};
+ghost use Rattle.wal_flush.specs.Latched.{KeepsWork, as_counted, opened_log, with_torn};
+ghost use Rattle.wal_flush.specs.Inserts.{AddsTorn, Appends, CanInsert, EnterRefused, Enters, InsertRefused, Inserts, InsertSeesEnd, inserted_view, refused_view};
 
 use crate::outings::{take_end, take_log};
 use atomic_table::Seat;
@@ -156,7 +156,8 @@ pub fn insert<L: BlockLane, G: LogDevice, R: Wait>(
     ensures view { IfOk result (λ lsn. seat.new.me.0 ≡ as_counted (inserted_view frame (packed_tag tag) page.new lsn seat.old.me.0) seat.new.me.0) }
     ensures entered { IfOk result (λ _. link seat.new.me.0 frame ≡ entered_link page.new (link seat.old.me.0 frame)) }
     ensures others { IfOk result (λ _. (g : ℕ) → g ≢ frame → link seat.new.me.0 g ≡ link seat.old.me.0 g) }
-    ensures work { IfErr result (λ _. KeepsWork seat.old.me.0 seat.new.me.0) }
+    ensures work { IfErr result (λ _. KeepsWork (with_torn seat.new.me.0.torn seat.old.me.0) seat.new.me.0) }
+    ensures torn { AddsTorn (packed_tag tag) page.old result seat.old.me.0.torn seat.new.me.0.torn }
     ensures left { IfErr result (λ why. seat.new.me.0 ≡ as_counted (refused_view why seat.old.me.0) seat.new.me.0) }
     ensures did { IfOk result (λ lsn. Inserts (relations_of table.now) frame tag page.new lsn seat.old.me.0 seat.new.me.0) }
     ensures seen { IfErr result (λ why. InsertSeesEnd why seat.old.me.0 seat.new.me.0) }

@@ -5,6 +5,8 @@ use Rattle.pin_core.specs.State.{link}
 use Rattle.frame_table.specs.Seats.{relations_of}
 use Rattle.held_pins.specs.Rests.{HasNoDevice, HasNoLatch, LinksRest}
 use Rattle.held_pins.proofs.Keeping.{latches_same}
+use Rattle.block_tag.specs.Names.{packed_tag}
+use Rattle.wal_flush.specs.Inserts.{AddsTorn}
 use Rattle.buffer_frames.specs.Working.{Made}
 use Rattle.backend_pass.specs.Passes.{view_in}
 use Rattle.buffer_frames.specs.Puts.{PutAnswer, PutsAt, met_put, put_calls}
@@ -69,3 +71,8 @@ pub returns-clause-met : goal.returns-clause-met
 returns-clause-met g c =
     let before = c.take_seat-seat.ensures.view in
     moved (λ v w. w.met ≡ met_put c.put_locked-answer.result v.met) (view_in c.args.badge.now.views) (view_in c.return_seat.new.badge.views) c.take_seat-seat.result.me.0 c.put_locked-answer.new.seat.me.0 before c.return_seat.ensures.view c.put_locked-answer.ensures.met
+
+pub returns-clause-torn : goal.returns-clause-torn
+returns-clause-torn g c =
+    let before = c.take_seat-seat.ensures.view in
+    moved (λ v w. AddsTorn (packed_tag c.args.tag) c.args.page.now c.put_locked-answer.result v.torn w.torn) (view_in c.args.badge.now.views) (view_in c.return_seat.new.badge.views) c.take_seat-seat.result.me.0 c.put_locked-answer.new.seat.me.0 before c.return_seat.ensures.view c.put_locked-answer.ensures.torn

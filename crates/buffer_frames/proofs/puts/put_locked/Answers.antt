@@ -1,9 +1,10 @@
 use Rattle.std.proofs.Common.{◌∙◌, ap}
+use Rattle.block_tag.specs.Names.{packed_tag}
 use Rattle.pin_core.specs.declared.view.Link.{Link}
 use Rattle.pin_core.specs.declared.view.View.{View}
 use Rattle.held_pins.proofs.Keeping.{stands_on}
 use Rattle.frame_table.proofs.SameSeats.{same_seat_on}
-use Rattle.buffer_frames.proofs.PagePuts.{MarkedFrameDirty, calls_put, calls_not_put, can_insert, device_inserted, device_put, device_refused, marked_put, marked_refused, met_all, met_not_put, put_refused, puts_all, puts_done, puts_none, rests_put, rests_refused, right_put, right_refused}
+use Rattle.buffer_frames.proofs.PagePuts.{MarkedFrameDirty, calls_put, calls_not_put, can_insert, device_inserted, device_put, device_refused, marked_put, marked_refused, met_all, met_not_put, put_refused, puts_all, puts_done, puts_none, rests_put, rests_refused, right_put, right_refused, torn_not_put, torn_put}
 use Rattle.buffer_frames.proofs.puts.put_locked.Goals as goal
 
 pub insert-requires-clause-seat : goal.insert-requires-clause-seat
@@ -175,3 +176,18 @@ returns-in-Err-clause-met g c =
     let m : MarkedFrameDirty c.args.frame c.args.seat.now.me.0 c.mark_dirty.new.seat.me.0 = record { touches = d.touches; marks = d.marks; dirtied = d.dirtied; did = d.did } in
     let e = c.in-Err.ensures in
     met_not_put c.args.frame _ _ _ _ d.touches e.left
+
+pub returns-in-Ok-clause-torn : goal.returns-in-Ok-clause-torn
+returns-in-Ok-clause-torn g c =
+    let d = c.mark_dirty.ensures in
+    let m : MarkedFrameDirty c.args.frame c.args.seat.now.me.0 c.mark_dirty.new.seat.me.0 = record { touches = d.touches; marks = d.marks; dirtied = d.dirtied; did = d.did } in
+    let e = c.in-Ok.ensures in
+    let a = c.apply.ensures in
+    torn_put c.args.frame c.args._held.now _ _ m _ _ c.args.tag _ _ e.view e.rises e.did e.entered e.others _ a.touches a.marks a.applied e.torn
+
+pub returns-in-Err-clause-torn : goal.returns-in-Err-clause-torn
+returns-in-Err-clause-torn g c =
+    let d = c.mark_dirty.ensures in
+    let m : MarkedFrameDirty c.args.frame c.args.seat.now.me.0 c.mark_dirty.new.seat.me.0 = record { touches = d.touches; marks = d.marks; dirtied = d.dirtied; did = d.did } in
+    let e = c.in-Err.ensures in
+    torn_not_put c.args.frame c.args._held.now _ _ m _ _ e.left e.rises (packed_tag c.args.tag) c.args.page.now e.torn

@@ -1,4 +1,4 @@
-use Rattle.wal_flush.proofs.Inserting.{did_insert, view_inserted, link_inserted, others_stay, refused_insert, seen_refused, view_refused, work_stays}
+use Rattle.wal_flush.proofs.Inserting.{adds_torn, did_insert, view_inserted, link_inserted, others_stay, refused_insert, seen_refused, view_refused, work_stays}
 use Rattle.wal_flush.proofs.Rising.{insert_rises}
 use Rattle.wal_flush.proofs.inserts.insert.Goals as goal
 
@@ -7,6 +7,9 @@ returns-clause-view g c = let e = c.enter-result.ensures in view_inserted _ _ _ 
 
 pub returns-clause-entered : goal.returns-clause-entered
 returns-clause-entered g c = link_inserted _ _ _ _ _ _ _ _ c.take_end-end.ensures.did c.leave_turn.ensures.did _ _ c.enter-result.ensures.entered c.requires.free
+
+pub returns-clause-torn : goal.returns-clause-torn
+returns-clause-torn g c = let e = c.enter-result.ensures in adds_torn _ _ _ _ _ _ _ _ c.take_end-end.ensures.did c.leave_turn.ensures.did _ _ _ e.entered e.cause
 
 pub returns-clause-left : goal.returns-clause-left
 returns-clause-left g c = view_refused _ _ _ _ _ _ _ _ c.take_end-end.ensures.did c.leave_turn.ensures.did _ _ c.enter-result.ensures.cause c.requires.free

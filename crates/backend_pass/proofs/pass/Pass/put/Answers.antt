@@ -1,5 +1,6 @@
 use Rattle.std.proofs.Common.{◌≡◌, ◌≢◌, ◌∙◌, ℕ, true, false, Ok, Err, ap, refl, sym, subst}
 use Rattle.crossbeam_utils.specs.Padded.{padded_value}
+use Rattle.block_tag.specs.Names.{packed_tag}
 use Rattle.page_layout.specs.Soundness.{is_new_page, is_sound_page}
 use Rattle.pin_core.specs.declared.view.Content.TheVariants.{Exclusive}
 use Rattle.pin_core.specs.State.{Page, link}
@@ -8,6 +9,7 @@ use Rattle.held_pins.specs.Rests.{SameLocks}
 use Rattle.held_pins.specs.Tokens.{IsPinnedFor}
 use Rattle.backend_pass.specs.declared.met.Shown.{Shown}
 use Rattle.pin_core.specs.declared.view.View.{View}
+use Rattle.wal_flush.specs.Inserts.{AddsTorn}
 use Rattle.buffer_frames.specs.Outside.{shown_count}
 use Rattle.backend_pass.specs.Managers.{Belongs}
 use Rattle.backend_pass.specs.Passes.{IsNumbered, IsShown, PassState, view_in}
@@ -15,7 +17,7 @@ use Rattle.buffer_frames.specs.Puts.{PutAnswer}
 use Rattle.backend_pass.specs.Passes.{shown_unput}
 use Rattle.backend_pass.proofs.Flushed.{block_of_token, frame_of_token}
 use Rattle.backend_pass.proofs.PassPuts.{belongs_put, front_put, locks_put, numbered_put, put_complete, same_put, shown_not_put, shown_put}
-use Rattle.backend_pass.proofs.Seated.{same_from}
+use Rattle.backend_pass.proofs.Seated.{put_from}
 use Rattle.backend_pass.proofs.pass.Pass.put.Goals as goal
 
 pub show_block-requires : goal.show_block-requires
@@ -74,7 +76,7 @@ returns-in-Ok-clause-belongs g c =
 pub returns-in-Ok-clause-same : goal.returns-in-Ok-clause-same
 returns-in-Ok-clause-same g c =
     let e = c.in-Ok.ensures in
-    same_from _ _ _ c.self.view_is (same_put c.args.exclusive.now.pinned.frame _ _ e.badge.table e.badge.id refl e.puts)
+    put_from _ _ _ c.self.view_is (same_put c.args.exclusive.now.pinned.frame _ _ e.badge.table e.badge.id refl e.puts)
 
 pub returns-in-Ok-clause-locks : goal.returns-in-Ok-clause-locks
 returns-in-Ok-clause-locks g c =
@@ -101,7 +103,7 @@ returns-in-Err-clause-belongs g c =
 pub returns-in-Err-clause-same : goal.returns-in-Err-clause-same
 returns-in-Err-clause-same g c =
     let e = c.in-Err.ensures in
-    same_from _ _ _ c.self.view_is (same_put c.args.exclusive.now.pinned.frame _ _ e.badge.table e.badge.id refl e.puts)
+    put_from _ _ _ c.self.view_is (same_put c.args.exclusive.now.pinned.frame _ _ e.badge.table e.badge.id refl e.puts)
 
 pub returns-in-Err-clause-locks : goal.returns-in-Err-clause-locks
 returns-in-Err-clause-locks g c =
@@ -124,3 +126,15 @@ returns-in-Ok-clause-others g c = subst (λ (p : PassState). (f : ℕ) → f ≢
 
 pub returns-in-Err-clause-others : goal.returns-in-Err-clause-others
 returns-in-Err-clause-others g c = subst (λ (p : PassState). (f : ℕ) → f ≢ c.args.exclusive.now.pinned.frame → link (view_in c.put_seated.new.badge.views) f ≡ link p.view f) c.self.view_is c.in-Err.ensures.puts.others
+
+pub returns-in-Ok-clause-torn : goal.returns-in-Ok-clause-torn
+returns-in-Ok-clause-torn g c =
+    let e = c.in-Ok.ensures in
+    subst (λ (q : Page). AddsTorn (packed_tag c.args.exclusive.now.pinned.tag) q (Ok c.in-Ok.lsn) c.args.self.now.view.torn (view_in c.put_seated.new.badge.views).torn) c.copy_from.ensures
+    (subst (λ (p : PassState). AddsTorn (packed_tag c.args.exclusive.now.pinned.tag) c.copy_from.new.self (Ok c.in-Ok.lsn) p.view.torn (view_in c.put_seated.new.badge.views).torn) c.self.view_is e.torn)
+
+pub returns-in-Err-clause-torn : goal.returns-in-Err-clause-torn
+returns-in-Err-clause-torn g c =
+    let e = c.in-Err.ensures in
+    subst (λ (q : Page). AddsTorn (packed_tag c.args.exclusive.now.pinned.tag) q (Err c.in-Err.why) c.args.self.now.view.torn (view_in c.put_seated.new.badge.views).torn) c.copy_from.ensures
+    (subst (λ (p : PassState). AddsTorn (packed_tag c.args.exclusive.now.pinned.tag) c.copy_from.new.self (Err c.in-Err.why) p.view.torn (view_in c.put_seated.new.badge.views).torn) c.self.view_is e.torn)
