@@ -21,12 +21,13 @@ use Rattle.backend_pass.specs.declared.manager.Manager.{Manager}
 use Rattle.backend_pass.specs.Managers.{AreAll, AreNewPasses, IsNewPass, first_in}
 use Rattle.clock_sweep.specs.FreeLists.{IsFreeList}
 use Rattle.clock_sweep.proofs.FreeLists.{list_same}
-use Rattle.backend_pass.specs.Passes.{PassOwn, PassState, SamePass}
+use Rattle.backend_pass.specs.Passes.{PassOwn, PassState, SameButTorn}
 use Rattle.backend_pass.proofs.Listed.{listed_each, parts_each}
 use Rattle.backend_pass.specs.Closing.{EachPass, HasNoMark, PutNothing, met_by_passes}
 use Rattle.backend_pass.specs.Reading.{met_read_refused}
 use Rattle.backend_pass.proofs.Joining.{first_here, fronted_each, spent_each}
 use Rattle.backend_pass.proofs.Ended.{writes-both}
+use Rattle.backend_pass.proofs.Seated.{but_torn}
 use Rattle.page_jobs.specs.declared.ending.JobError.TheVariants.{OutFault, ReadFault}
 use Rattle.page_jobs.specs.Printed.{BlockRead, copied, unsound}
 use Rattle.page_jobs.specs.Chunks.{Claimed, blocks_in_all}
@@ -185,6 +186,9 @@ module _ {L G : Type 0} (contents : L → Option Pages) (m : Manager L G) (fork 
   pub new_put_nothing : (n : ℕ) (ps : List PassState) → AreNewPasses contents m n ps → EachPass PutNothing ps
   new_put_nothing n ps new i p at = ap (λ (v : View). writes_in v.calls) (new.each i p at).view ∙ puts_nothing
 
+  pub new_tore_nothing : (n : ℕ) (ps : List PassState) → AreNewPasses contents m n ps → EachPass (λ p. p.view.torn ≡ []) ps
+  new_tore_nothing n ps new i p at = ap (λ (v : View). v.torn) (new.each i p at).view
+
   -- The pass number i of n, which has done nothing but reads
   record HasOnlyRead (n i : ℕ) (q : PassState) : Type 0 where
     given : IsGiven n i q
@@ -192,7 +196,7 @@ module _ {L G : Type 0} (contents : L → Option Pages) (m : Manager L G) (fork 
     puts : writes_in q.view.calls ≡ 0
 
   -- and after it worked
-  pub worked_given : (n i : ℕ) (p q : PassState) → IsGiven n i p → SamePass p q → IsFront (base_of m.table) q.view.calls q.view.front → q.tokens ≡ no_tokens → IsGiven n i q
+  pub worked_given : (n i : ℕ) (p q : PassState) → IsGiven n i p → SameButTorn p q → IsFront (base_of m.table) q.view.calls q.view.front → q.tokens ≡ no_tokens → IsGiven n i q
   worked_given n i p q h same front spent = record {
     table = same.keeps.table ∙ h.table;
     spent = spent;
@@ -236,7 +240,7 @@ module _ {L G : Type 0} (contents : L → Option Pages) (m : Manager L G) (fork 
 
     worked : (i : ℕ) (c : Claimed BlockRead) (p q : PassState) → HasOnlyRead n i p → ReadsChunks contents m 0 fork c p q → HasOnlyRead n i q
     worked i c p q h r = record {
-      given = worked_given n i p q h.given r.stays.same r.stays.belongs.front r.spent;
+      given = worked_given n i p q h.given (but_torn p q r.stays.same) r.stays.belongs.front r.spent;
       mark = r.stays.mark ∙ h.mark;
       puts = let blocks = blocks_in_all (blocks_in m 0 fork) c.chunks in
           let both = writes-both p.view.calls (calls_of_reads p.view.number 0 fork blocks c.items) in
@@ -247,7 +251,7 @@ module _ {L G : Type 0} (contents : L → Option Pages) (m : Manager L G) (fork 
 
     stood_by : (i : ℕ) (p q : PassState) → HasOnlyRead n i p → WorksBeside contents m p q → HasOnlyRead n i q
     stood_by i p q h w = record {
-      given = worked_given n i p q h.given w.same w.belongs.front (w.callers.tokens ∙ h.given.spent);
+      given = worked_given n i p q h.given (but_torn p q w.same) w.belongs.front (w.callers.tokens ∙ h.given.spent);
       mark = w.mark ∙ h.mark;
       puts = ap writes_in w.callers.calls.calls ∙ h.puts;
     }

@@ -28,6 +28,7 @@ use Rattle.frame_table.proofs.Rising.{rises_on}
 use Rattle.held_pins.specs.Tokens.{IsPinnedFor, Tokens, no_tokens, tokens_less}
 use Rattle.wal_flush.specs.declared.inserts.InsertError.{InsertError}
 use Rattle.wal_flush.specs.declared.inserts.InsertError.TheVariants.{LogFull, LogDown, LogFault}
+use Rattle.wal_flush.specs.Inserts.{AddsTorn}
 use Rattle.cleanup_lock.specs.Cleanup.{GrantsCleanup}
 use Rattle.buffer_frames.specs.PageReads.{ReadsPage}
 use Rattle.buffer_frames.specs.Puts.{DidPut, PutRefused, RefusalShows, met_put}
@@ -37,9 +38,9 @@ use Rattle.backend_pass.specs.declared.pinned.Pinned.{Pinned}
 use Rattle.backend_pass.specs.declared.tokens.Exclusive.{Exclusive}
 use Rattle.backend_pass.specs.Locks.{ChangesLock, HasLock, IsTagged}
 use Rattle.backend_pass.specs.Managers.{Belongs}
-use Rattle.backend_pass.specs.Passes.{KeepsCalls, KeepsLocks, KeepsMark, PassState, SamePass}
+use Rattle.backend_pass.specs.Passes.{KeepsCalls, KeepsLocks, KeepsMark, PassState, SameButTorn, SamePass}
 use Rattle.backend_pass.specs.Reading.{met_read_refused}
-use Rattle.backend_pass.proofs.Seated.{same_on}
+use Rattle.backend_pass.proofs.Seated.{but_torn, same_on, torn_on}
 use Rattle.backend_pass.proofs.Keeping.{calls_on}
 use Rattle.page_jobs.specs.declared.ending.JobError.{JobError}
 use Rattle.page_jobs.specs.Parts.{blocks_in}
@@ -47,6 +48,7 @@ use Rattle.page_jobs.specs.Reads.{FindsUnsound, PinsOne, RefusesBlock, Stays, fa
 use Rattle.page_jobs.specs.Rewrites.{IfRead, IsEnded, Outcome, unsound, kept, refused, changed, outcome_block, outcome_calls, calls_for, rule_of, result_of}
 use Rattle.page_jobs.specs.Rewriting.{FollowsRule, GoesOn, HoldsUntil, KeepsOtherLocks, LastReads, LocksOne, PutFails, RewritesBlock, RewritesBlocks, RewritesHeld, RewritesLocked, UnderCleanup, fault_of_put}
 use Rattle.page_jobs.proofs.Staying.{stays_on}
+use Rattle.page_jobs.proofs.TornBlocks.{torn_from, torn_none, torn_refused, torn_until}
 
 pub told_new : (page : Page) → is_sound_page page ≡ true → is_new_page page ≡ true → page_rewrite_of page ≡ New
 unfolding page_rewrite_of
@@ -145,8 +147,9 @@ module _ {L G : Type 0} (contents : L → Option Pages) (m : Manager L G) where
       let qs = quiet_on q r s (quiet_pins tag q r pinned one) rs in
       let frame : e.pinned.frame ≡ pinned.frame = ap (λ (x : Pinned). x.frame) same in
       record {
-        goes = record { belongs = rs.belongs; same = same_on p q s st.same qs.same; front = let a = k.front in let b = qs.calls.front in omega arith };
+        goes = record { belongs = rs.belongs; same = but_torn p s (same_on p q s st.same qs.same); front = let a = k.front in let b = qs.calls.front in omega arith };
         mark = mark ∙ one.stays.mark ∙ st.mark;
+        torn = (same_on p q s st.same qs.same).torn;
         calls = calls_on p q s k qs.calls;
         met = qs.met ∙ met;
         tag_is = ap (λ (x : Pinned). x.tag) same ∙ one.tag_is;
@@ -162,7 +165,7 @@ module _ {L G : Type 0} (contents : L → Option Pages) (m : Manager L G) where
       }
 
   goes_read : (tag : Tag) (page : Page) (place : ℕ) (p q : PassState) → Belongs contents m q → SamePass p q → ReadsPage contents m.table tag page place p.view q.view → GoesOn contents m p q
-  goes_read tag page place p q b same reads = record { belongs = b; same = same; front = let x = reads.front in let y = reads.later in omega arith }
+  goes_read tag page place p q b same reads = record { belongs = b; same = but_torn p q same; front = let x = reads.front in let y = reads.later in omega arith }
 
   -- a page that the rule doesn't change
   pub kept_page : (tag : Tag) (page : Page) (place : ℕ) (what : PageRewrite) (p q : PassState) → Belongs contents m q → SamePass p q → KeepsMark p q → KeepsLocks p q → q.tokens ≡ p.tokens → q.view.met ≡ p.view.met → ReadsPage contents m.table tag page place p.view q.view
@@ -177,17 +180,18 @@ module _ {L G : Type 0} (contents : L → Option Pages) (m : Manager L G) where
       calls = reads.calls;
       follows = (refl, reads.sound, ap is_changed_outcome told ∙ unchanged);
       mark = λ unput. mark;
+      torn = torn_none (rule_of tag.rel.0 tag.fork) (kept tag.block p.view.number page place ∷ []) p.view.torn q.view.torn same.torn;
       done = (sym told, refl, met);
       cause = tt;
     };
   }
 
   -- one that it changes, and that was put
-  pub changed_page : (tag : Tag) (frame : ℕ) (page after : Page) (place lsn : ℕ) (what : PageRewrite) (p q r : PassState) → Belongs contents m r → SamePass p q → SamePass q r → KeepsLocks p q → KeepsLocks q r → q.tokens ≡ p.tokens → r.tokens ≡ q.tokens
-      → q.view.met ≡ p.view.met → r.view.met ≡ q.view.met → ReadsPage contents m.table tag page place p.view q.view → DidPut (relations_of m.table) frame tag after lsn q.view r.view → after ≡ rewritten_page page
+  pub changed_page : (tag : Tag) (frame : ℕ) (page after : Page) (place lsn : ℕ) (what : PageRewrite) (p q r : PassState) → Belongs contents m r → SamePass p q → SameButTorn q r → KeepsLocks p q → KeepsLocks q r → q.tokens ≡ p.tokens → r.tokens ≡ q.tokens
+      → q.view.met ≡ p.view.met → r.view.met ≡ q.view.met → ReadsPage contents m.table tag page place p.view q.view → DidPut (relations_of m.table) frame tag after lsn q.view r.view → AddsTorn (packed_tag tag) after (Ok lsn) q.view.torn r.view.torn → after ≡ rewritten_page page
       → page_rewrite_of page ≡ what → is_changed_outcome what ≡ true → RewritesLocked contents m tag p r (Ok what)
-  changed_page tag frame page after place lsn what p q r b same same' locks locks' tokens tokens' met met' reads did image told is_changed = record {
-    goes = record { belongs = b; same = same_on p q r same same'; front = let x = reads.front in let y = reads.later in let z = did.front in let w = did.later in omega arith };
+  changed_page tag frame page after place lsn what p q r b same same' locks locks' tokens tokens' met met' reads did torn image told is_changed = record {
+    goes = record { belongs = b; same = torn_on p q r (but_torn p q same) same'; front = let x = reads.front in let y = reads.later in let z = did.front in let w = did.later in omega arith };
     tokens = tokens' ∙ tokens;
     locks = λ f. locks' f ∙ locks f;
     page = record {
@@ -199,6 +203,7 @@ module _ {L G : Type 0} (contents : L → Option Pages) (m : Manager L G) where
           ∙ ap (λ (l : List Call). l ++ Write p.view.number (packed_tag tag) (with_lsn lsn (rewritten_page page)) lsn true ∷ []) reads.calls
           ∙ append_assoc p.view.calls (Read p.view.number (packed_tag tag) page place ∷ []) (Write p.view.number (packed_tag tag) (with_lsn lsn (rewritten_page page)) lsn true ∷ []);
       follows = (refl, reads.sound, ap is_changed_outcome told ∙ is_changed, (let x = reads.front in let w = did.later in omega arith));
+      torn = torn_none (rule_of tag.rel.0 tag.fork) (changed tag.block p.view.number page place lsn ∷ []) p.view.torn r.view.torn (torn ∙ same.torn);
       mark = λ unput. absurd (let no : false ≡ true = unput in cc);
       done = (sym told, refl, met' ∙ met);
       cause = tt;
@@ -206,11 +211,11 @@ module _ {L G : Type 0} (contents : L → Option Pages) (m : Manager L G) where
   }
 
   -- one that it changes, whose put was refused
-  pub refused_page : (tag : Tag) (frame : ℕ) (page after : Page) (place : ℕ) (what : PageRewrite) (why : InsertError) (p q r : PassState) → Belongs contents m r → SamePass p q → SamePass q r → KeepsLocks p q → KeepsLocks q r → q.tokens ≡ p.tokens → r.tokens ≡ q.tokens
-      → q.view.met ≡ p.view.met → r.view.met ≡ met_put (Err why) q.view.met → ReadsPage contents m.table tag page place p.view q.view → KeepsCalls q r → PutRefused (relations_of m.table) frame tag after why q.view r.view
+  pub refused_page : (tag : Tag) (frame : ℕ) (page after : Page) (place : ℕ) (what : PageRewrite) (why : InsertError) (p q r : PassState) → Belongs contents m r → SamePass p q → SameButTorn q r → KeepsLocks p q → KeepsLocks q r → q.tokens ≡ p.tokens → r.tokens ≡ q.tokens
+      → q.view.met ≡ p.view.met → r.view.met ≡ met_put (Err why) q.view.met → ReadsPage contents m.table tag page place p.view q.view → KeepsCalls q r → PutRefused (relations_of m.table) frame tag after why q.view r.view → AddsTorn (packed_tag tag) after (Err why) q.view.torn r.view.torn → after ≡ rewritten_page page
       → page_rewrite_of page ≡ what → is_changed_outcome what ≡ true → RewritesLocked contents m tag p r (Err why)
-  refused_page tag frame page after place what why p q r b same same' locks locks' tokens tokens' met met' reads keeps unput told is_changed = record {
-    goes = record { belongs = b; same = same_on p q r same same'; front = let x = reads.front in let y = reads.later in let z = keeps.front in omega arith };
+  refused_page tag frame page after place what why p q r b same same' locks locks' tokens tokens' met met' reads keeps unput torn image told is_changed = record {
+    goes = record { belongs = b; same = torn_on p q r (but_torn p q same) same'; front = let x = reads.front in let y = reads.later in let z = keeps.front in omega arith };
     tokens = tokens' ∙ tokens;
     locks = λ f. locks' f ∙ locks f;
     page = record {
@@ -218,6 +223,7 @@ module _ {L G : Type 0} (contents : L → Option Pages) (m : Manager L G) where
       block = refl;
       calls = keeps.calls ∙ reads.calls;
       follows = (refl, reads.sound, ap is_changed_outcome told ∙ is_changed);
+      torn = torn_from (rule_of tag.rel.0 tag.fork) (refused tag.block p.view.number page place ∷ []) p.view.torn q.view.torn r.view.torn same.torn (torn_refused tag p.view.number place page after why q.view.torn r.view.torn image torn);
       mark = λ unput. absurd (let no : false ≡ true = unput in cc);
       done = tt;
       cause = record {
@@ -256,7 +262,7 @@ module _ {L G : Type 0} (contents : L → Option Pages) (m : Manager L G) where
   -- and then the lock of this frame and the pin were given up
   pub held : (tag : Tag) (frame : ℕ) (p q r : PassState) (answer : Result PageRewrite InsertError) → RewritesLocked contents m tag p q answer → HasLock content.Exclusive frame p → Quiet q r → KeepsMark q r → HasLock content.Unlocked frame r → KeepsOtherLocks frame q r → r.tokens ≡ no_tokens → r.view.saw_down ≡ q.view.saw_down → r.view.device_calls ≡ q.view.device_calls → RewritesHeld contents m tag frame p r answer
   held tag frame p q r answer x locked k mark unlocked others spent down devices = record {
-    goes = record { belongs = k.belongs; same = same_on p q r x.goes.same k.same; front = let a = x.goes.front in let b = k.calls.front in omega arith };
+    goes = record { belongs = k.belongs; same = torn_on p q r x.goes.same (but_torn q r k.same); front = let a = x.goes.front in let b = k.calls.front in omega arith };
     tokens = spent;
     unlocked = unlocked;
     others = λ g other. others g other ∙ x.locks g;
@@ -267,6 +273,7 @@ module _ {L G : Type 0} (contents : L → Option Pages) (m : Manager L G) where
       calls = k.calls.calls ∙ x.page.calls;
       follows = x.page.follows;
       mark = λ unput. mark ∙ x.page.mark unput;
+      torn = torn_until (rule_of tag.rel.0 tag.fork) (x.page.outcome ∷ []) p.view.torn q.view.torn r.view.torn k.same.torn x.page.torn;
       done = on_ok_value (λ what. (what ≡ result_of x.page.outcome) × IsEnded x.page.outcome × (q.view.met ≡ p.view.met)) (λ what. (what ≡ result_of x.page.outcome) × IsEnded x.page.outcome × (r.view.met ≡ p.view.met)) answer (λ what d. (d.0, d.1, k.met ∙ d.2)) x.page.done;
       cause = IfErr-weaker answer (PutFails contents m tag p q) (PutFails contents m tag p r) (λ why f. fails_later tag p q r why k down devices f) x.page.cause;
     };
@@ -297,10 +304,11 @@ module _ {L G : Type 0} (contents : L → Option Pages) (m : Manager L G) where
 
     blocks_after : (answer : Result PageRewrite InsertError) (x : RewritesHeld contents m tag e.pinned.frame q r answer) → RewritesBlocks contents m tag.rel.0 tag.fork (tag.block ∷ []) (x.page.outcome ∷ []) p r
     blocks_after answer x = record {
-      goes = record { belongs = x.goes.belongs; same = same_on p q r one.goes.same x.goes.same; front = let a = one.goes.front in let b = x.goes.front in omega arith };
+      goes = record { belongs = x.goes.belongs; same = torn_on p q r one.goes.same x.goes.same; front = let a = one.goes.front in let b = x.goes.front in omega arith };
       spent = x.tokens;
       locks = locks_after x.unlocked x.others;
       mark = λ unput. x.page.mark unput.0 ∙ one.mark;
+      torn = torn_from (rule_of tag.rel.0 tag.fork) (x.page.outcome ∷ []) p.view.torn q.view.torn r.view.torn one.torn x.page.torn;
       calls = calls_after x.page.outcome x.page.calls;
       order = (x.page.block, tt);
       follow = (subst (λ (n : ℕ). FollowsRule contents m tag.rel.0 tag.fork n x.page.outcome) one.goes.same.keeps.number x.page.follows, tt);
@@ -348,10 +356,11 @@ module _ {L G : Type 0} (contents : L → Option Pages) (m : Manager L G) where
   block_unread tag p q why e inside x fault = record {
     outcomes = [];
     course = record {
-      goes = record { belongs = x.stays.belongs; same = x.stays.same; front = x.stays.front };
+      goes = record { belongs = x.stays.belongs; same = but_torn p q x.stays.same; front = x.stays.front };
       spent = x.spent;
       locks = x.stays.locks;
       mark = λ unput. x.stays.mark;
+      torn = torn_none (rule_of tag.rel.0 tag.fork) [] p.view.torn q.view.torn x.stays.same.torn;
       calls = x.calls ∙ sym (append-nil p.view.calls);
       order = tt;
       follow = tt;
@@ -367,10 +376,11 @@ module _ {L G : Type 0} (contents : L → Option Pages) (m : Manager L G) where
   block_unsound tag p q x = record {
     outcomes = unsound tag.block ∷ [];
     course = record {
-      goes = record { belongs = x.stays.belongs; same = x.stays.same; front = x.stays.front };
+      goes = record { belongs = x.stays.belongs; same = but_torn p q x.stays.same; front = x.stays.front };
       spent = x.spent;
       locks = x.stays.locks;
       mark = λ unput. x.stays.mark;
+      torn = torn_none (rule_of tag.rel.0 tag.fork) (unsound tag.block ∷ []) p.view.torn q.view.torn x.stays.same.torn;
       calls = x.calls ∙ sym (append-nil p.view.calls);
       order = (refl, tt);
       follow = (x.unsound, tt);

@@ -23,6 +23,7 @@ pub mod Backends
 pub mod Counted
 pub mod Starting
 pub mod Surveys
+mod TornBlocks
 mod BlockRewrites
 mod RewriteTotals
 mod RewrittenBlocks

@@ -7,6 +7,7 @@ use Rattle.segment_store.specs.Contents.{Pages}
 use Rattle.backend_pass.specs.declared.manager.Manager.{Manager}
 use Rattle.backend_pass.specs.Managers.{AreAll, AreNewPasses}
 use Rattle.backend_pass.specs.Passes.{PassState}
+use Rattle.backend_pass.proofs.Seated.{but_torn}
 use Rattle.page_jobs.specs.Beside.{StaysBeside, WorksBeside}
 use Rattle.page_jobs.specs.Jobs.{workers_in}
 use Rattle.page_jobs.specs.RewriteJobs.{RewriteParts}
@@ -18,7 +19,7 @@ module _ {L G : Type 0} (contents : L → Option Pages) (m : Manager L G) (fork 
     pub each_given : (i : ℕ) (q : PassState) → get_elem? qs i ≡ some q → IsGiven contents m fork n i q
     each_given i q at = let c = came_back contents m ps qs last i q at in
         let fresh = new.each i c.before c.at in ⊎_elim
-        (λ (w : WorksBeside contents m c.before q). worked_given contents m fork n i c.before q (new_is_given contents m fork n i c.before fresh) w.same w.belongs.front (w.callers.tokens ∙ fresh.tokens))
+        (λ (w : WorksBeside contents m c.before q). worked_given contents m fork n i c.before q (new_is_given contents m fork n i c.before fresh) (but_torn c.before q w.same) w.belongs.front (w.callers.tokens ∙ fresh.tokens))
         (λ (t : (get_elem? (workers_in ps) i ≡ some c.before) × (get_elem? (workers_in qs) i ≡ some q)).
         let below = inside (workers_in ps) i c.before t.0 in
         let long = parts.listed in

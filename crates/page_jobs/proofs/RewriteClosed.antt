@@ -118,6 +118,13 @@ module _ {r : Rule} {n : ℕ} {known : ℕ → Bool} {origin : ℕ → Option Pa
   no_entry : (j : ℕ) (o : Outcome) → get_elem? (all_done ps) j ≡ some o → outcome_weight o ≡ 0 → HasEntry log (r.tag (outcome_block o)) → ⊥
   no_entry j o at none x = let y = outcome_of x.index j x.entry o x.entered.there at x.entered.of in absurd (let z = ap outcome_weight y.1 in omega arith)
 
+  -- where a put was refused the page that was read is the page at the start, and the block has no entry
+  pub refused_read : (j b i : ℕ) (q : Page) (p : ℕ) → get_elem? (all_done ps) j ≡ some (refused b i q p) → known (r.tag b) ≡ true → q ≡ page_at_start origin (r.tag b)
+  refused_read j b i q p at = let o = refused b i q p in read_page j o at q p (legal_done j o at 0 (Read i (r.tag b) q p) refl) (λ c k t z x e. absurd (cc))
+
+  pub refused_new : (j b i : ℕ) (q : Page) (p : ℕ) → get_elem? (all_done ps) j ≡ some (refused b i q p) → HasEntry log (r.tag b) → ⊥
+  refused_new j b i q p at = no_entry j (refused b i q p) at refl
+
 -- Where all blocks are done
 module _ {r : Rule} {n : ℕ} {known : ℕ → Bool} {origin : ℕ → Option Page} {log : Log} {calls : List Call} {ps : List BackendCalls} (h : IsHistory known origin log calls) (w : RewritesAll r n known origin calls ps) (told : (b : ℕ) → b < n → known (r.tag b) ≡ true) where
   pub kept_read : (j b i : ℕ) (q : Page) (p : ℕ) → get_elem? (all_done ps) j ≡ some (kept b i q p) → q ≡ page_at_start origin (r.tag b)

@@ -1,5 +1,5 @@
 -- What the devices hold that a manager gives back after a rewrite.
-use Rattle.std.proofs.Common.{◌≡◌, ℕ, zero, suc, ◌%◌, ◌<◌, ◌≤◌, ◌⊎◌, Bool, true, false, List, [], ◌∷◌, ◌++◌, Option, Some, unwrap_or, refl, sym, ap, ◌∙◌, subst, ⊎_elim, inl, inr, arith}
+use Rattle.std.proofs.Common.{◌≡◌, ◌≢◌, ℕ, zero, suc, ◌%◌, ◌<◌, ◌≤◌, ◌⊎◌, Bool, true, false, List, [], ◌∷◌, ◌++◌, Option, Some, None, unwrap_or, refl, sym, ap, ◌∙◌, subst, ⊎_elim, inl, inr, arith}
 use Rattle.std.specs.Prelude.{is_some, nat_lt}
 use Rattle.std.proofs.lemmas.Bool.{lt-ltb}
 use mathlib.Core.Option.{some, some-injective, some-ne-none}
@@ -11,13 +11,19 @@ use Rattle.page_layout.specs.declared.outcomes.PageRewrite.{PageRewrite}
 use Rattle.page_layout.specs.declared.outcomes.PageRewrite.TheVariants.{Invalid}
 use Rattle.page_layout.specs.declared.outcomes.RewriteTotals.{RewriteTotals}
 use Rattle.page_layout.specs.Outcomes.{is_changed_outcome, page_rewrite_of, rewrite_totals_of, totals_of_outcomes}
+use Rattle.page_layout.specs.Rewritten.{rewritten_page}
+use Rattle.page_layout.specs.Fields.{lsn_of, with_lsn}
 use Rattle.page_layout.specs.Soundness.{is_sound_page}
+use Rattle.page_layout.proofs.Positions.{lsn_of-with_lsn}
 use Rattle.segment_store.specs.Contents.{Pages}
 use Rattle.pin_core.specs.declared.view.Call.{Call}
+use Rattle.pin_core.specs.declared.view.TornRecord.{TornRecord}
 use Rattle.pin_core.specs.declared.view.View.{View}
 use Rattle.pin_core.specs.State.{Page}
-use Rattle.history_core.specs.Log.{Entry, image, tag_in, end_of, place_of, writes_in}
-use Rattle.history_core.specs.State.{stored, failed}
+use Rattle.history_core.specs.Log.{Change, Entry, IsChange, MayMake, image, ranges, resize, tag_in, end_of, place_of, writes_in}
+use Rattle.history_core.specs.Rest.{BeginsRecord}
+use Rattle.history_core.specs.State.{last_position, stored, failed}
+use Rattle.history_core.specs.TornRecords.{IsOfPage}
 use Rattle.grid.specs.Shape.{total}
 use Rattle.chunk_claims.specs.Claims.{sum_below}
 use Rattle.grid.proofs.Sums.{total-both}
@@ -29,7 +35,7 @@ use Rattle.table_rule.proofs.Tags.{packed_is}
 use Rattle.frame_table.specs.Seats.{lanes_in, opened_of, relations_of}
 use Rattle.buffer_frames.specs.Loading.{WasUnsoundAtOpening}
 use Rattle.backend_pass.specs.declared.manager.Manager.{Manager}
-use Rattle.backend_pass.specs.Closing.{ClosesAll, EachPass, calls_in_order, calls_of_passes}
+use Rattle.backend_pass.specs.Closing.{ClosesAll, EachPass, PassTore, calls_in_order, calls_of_passes}
 use Rattle.backend_pass.specs.Managers.{first_in, is_first, others_in}
 use Rattle.backend_pass.specs.Passes.{PassState}
 use Rattle.backend_pass.proofs.Joining.{first_here, first_past, others_here, others_past}
@@ -38,13 +44,13 @@ use Rattle.page_jobs.specs.Chunks.{Claimed, CoversAll, blocks_in_all, items_in_a
 use Rattle.page_jobs.specs.Ending.{totals_of_rewrite}
 use Rattle.page_jobs.specs.Jobs.{IsOrigin, workers_in}
 use Rattle.page_jobs.specs.Parts.{blocks_in}
-use Rattle.page_jobs.specs.Rewrites.{AreOf, Outcome, Rule, unsound, kept, refused, changed, outcome_block, outcome_totals, rule_of, result_of}
+use Rattle.page_jobs.specs.Rewrites.{AreOf, Outcome, Rule, TornOf, unsound, kept, refused, changed, outcome_block, outcome_totals, rule_of, result_of}
 use Rattle.page_jobs.specs.RewriteCloses.{ClosesEither, ClosesRewritten, HasEntryPage, HoldEither, HoldRewritten, IsInLanes, RewritesAlone, RewritesAndStores}
-use Rattle.page_jobs.specs.RewriteEnds.{HasRewrites, IsAfter, IsFair, IsPageEntry, page_at_start, IsResult, WroteNothing, BackendCalls, Rewrites, RewritesAll, all_done, block_weight, times}
+use Rattle.page_jobs.specs.RewriteEnds.{BeginsRewrite, HasRewrites, IsAfter, IsFair, IsPageEntry, page_at_start, IsResult, WroteNothing, BackendCalls, Rewrites, RewritesAll, all_done, block_weight, times}
 use Rattle.page_jobs.specs.RewriteJobs.{RewriteParts}
 use Rattle.page_jobs.specs.Rewriting.{FollowsRule}
 use Rattle.page_jobs.proofs.Measures.{RewriteAddsUp, block_below, outcomes_all, outcomes_by, outcomes_once, rewrite_page_weight, rewrite_pages_by, rewrite_totals_by, times_below, times_one}
-use Rattle.page_jobs.proofs.RewriteClosed.{changed_read, has_rewrites, kept_read}
+use Rattle.page_jobs.proofs.RewriteClosed.{changed_read, has_rewrites, kept_read, refused_new, refused_read}
 use Rattle.page_jobs.proofs.RewriteCounts.{Each}
 use Rattle.page_jobs.proofs.RewriteCourse.{Parted, all_parted}
 use Rattle.page_jobs.proofs.RewriteLanes.{finishes, lanes_hold_either}
@@ -68,6 +74,14 @@ image_tag a b p q e = cc
 
 image_page : (a b : ℕ) (p q : Page) → image a p ≡ image b q → p ≡ q
 image_page a b p q e = cc
+
+-- the image of a page with a position, in an entry that ends at the position `end`, which is the page's
+torn_image : (c : Change) (end tag lsn : ℕ) (p : Page) → IsChange end c → MayMake false c → lsn ≤ last_position → IsOfPage c tag (with_lsn lsn p) → (lsn ≡ end) × (c ≡ image tag (with_lsn end p))
+torn_image (image t q) end tag lsn p valid may low (same, is) =
+    let ends : lsn ≡ end = sym (lsn_of-with_lsn lsn p (omega arith)) ∙ ap lsn_of (sym is) ∙ valid.ends in
+    (ends, ap (λ (n : ℕ). image n q) same ∙ ap (image tag) is ∙ ap (λ (n : ℕ). image tag (with_lsn n p)) ends)
+torn_image (ranges t spans) end tag lsn p valid may low of = absurd (cc)
+torn_image (resize fork old new) end tag lsn p valid may low of = absurd valid
 
 lane_below : (h n : ℕ) → 0 < n → h % n < n
 lane_below h n more = omega (arith, more)
@@ -245,15 +259,54 @@ module _ {L G : Type 0} (d : Devices L G) (m : Manager L G) (rel : ℕ) (fork : 
       ended = λ k u at. let y = ordered.among k u at in t.ended w y.0 u y.1;
     }
 
+    -- what a failure left begins the record of a rewrite of a block that has no entry
+    begins_rewrite : (rests : c.laws.rest.behind.rest ≢ []) → c.mark ≢ None → BeginsRewrite rule (blocks_in m rel fork) c.state c.laws.rest.behind.rest
+    begins_rewrite rests down = of_pass (c.torn rests down)
+      where
+        b : BeginsRecord c.state.ranges c.state.names c.state.end c.laws.rest.behind.rest
+        b = c.laws.rest.behind.begins rests
+
+        of_record : (x : TornRecord) → IsOfPage b.entry.change x.tag x.page → TornOf rule (all_done t.parts) x → BeginsRewrite rule (blocks_in m rel fork) c.state c.laws.rest.behind.rest
+        of_record x of (k, block, backend, place, lsn, page, at, low, is) =
+            let y = ordered.onto k (refused block backend page place) at in
+            let below = below_in_turn y.0 (refused block backend page place) y.1 in
+            let read = refused_read c.history rewrites y.0 block backend page place y.1 in
+            let entered = torn_image b.entry.change (end_of b.entry) (rule.tag block) lsn (rewritten_page page) b.valid (subst (λ (may : Bool). MayMake may b.entry.change) c.opened.ranges b.allowed) low (subst (λ (z : TornRecord). IsOfPage b.entry.change z.tag z.page) is of) in
+            record {
+              entry = b.entry;
+              starts = b.starts;
+              room = subst (λ (n : ℕ). n ≤ last_position) entered.0 low;
+              rewrite = record {
+                block = block;
+                below = below;
+                page = rule.rewritten page (end_of b.entry);
+                entered = entered.1;
+                made = λ known. ap (λ (q : Page). rule.rewritten q (end_of b.entry)) (read known);
+                changes = λ known. ap rule.changes (sym (read known)) ∙ rewrites.fair y.0 (refused block backend page place) y.1;
+              };
+              new = refused_new c.history rewrites y.0 block backend page place y.1;
+              more = b.more;
+              begins = b.begins;
+            }
+
+        of_pass : PassTore zs b.entry.change → BeginsRewrite rule (blocks_in m rel fork) c.state c.laws.rest.behind.rest
+        of_pass (i, k, z, x, at, torn, of) = of_record x of (t.torn i k z x at torn)
+
+  any_parted : Parted d.contents m rel fork ⊥ zs x.parts.claimed
+  any_parted = all_parted d.contents m rel fork ⊥ ps qs zs x.parts.claimed x x.parts.listed (λ w p q e at after of. ((x.parts.each w p q e at after of).blocks, λ no. absurd no))
+
+  any_once : (g : ℕ → ℕ) → total (λ (u : Outcome). g (outcome_block u)) (items_in_all x.parts.claimed) ≤ sum_below (blocks_in m rel fork) g
+  any_once = claimed_weigh d.contents m rel fork (workers_in ps) (workers_in qs) x.parts
+
+  any_left : c.laws.rest.behind.rest ≢ [] → c.mark ≢ None → BeginsRewrite rule (blocks_in m rel fork) c.state c.laws.rest.behind.rest
+  any_left = begins_rewrite ⊥ x.parts.claimed any_parted any_once
+
   any_end : HasRewrites rule (blocks_in m rel fork) c.state.known c.state.origin c.state.log
-  any_end =
-      let parts = x.parts in
-      has_rewrites c.history (rewrites ⊥ parts.claimed
-      (all_parted d.contents m rel fork ⊥ ps qs zs parts.claimed x parts.listed (λ w p q e at after of. ((parts.each w p q e at after of).blocks, λ no. absurd no)))
-      (claimed_weigh d.contents m rel fork (workers_in ps) (workers_in qs) parts))
+  any_end = has_rewrites c.history (rewrites ⊥ x.parts.claimed any_parted any_once)
 
 pub closes_either : {L G : Type 0} (d : Devices L G) (m : Manager L G) → ClosesEither d m
-closes_either d m rel fork ps qs zs lanes log x c = let has = any_end d m rel fork ps qs zs lanes log c x in (has, hold_either d m.table.table.shared.key zs lanes log c (rule_of rel fork) (blocks_in m rel fork) has)
+closes_either d m rel fork ps qs zs lanes log x c = let has = any_end d m rel fork ps qs zs lanes log c x in
+    (has, hold_either d m.table.table.shared.key zs lanes log c (rule_of rel fork) (blocks_in m rel fork) has, any_left d m rel fork ps qs zs lanes log c x)
 
 module _ {L G : Type 0} (d : Devices L G) (m : Manager L G) (rel : ℕ) (fork : Fork) (ps qs zs : List PassState) (totals : Totals) (upto : ℕ) (lanes : List L) (log : G) (c : ClosesAll d m.table.table.shared.key zs lanes log) (y : RewritesAndStores d.contents m rel fork ps qs zs totals upto) where
   abbrev claimed : List (Claimed Outcome)

@@ -19,7 +19,7 @@ use Rattle.backend_pass.specs.declared.manager.Manager.{Manager}
 use Rattle.backend_pass.specs.Managers.{Belongs}
 use Rattle.backend_pass.specs.Passes.{PassState}
 use Rattle.backend_pass.specs.Reading.{met_read_refused}
-use Rattle.backend_pass.proofs.Seated.{same_on}
+use Rattle.backend_pass.proofs.Seated.{but_torn, torn_on}
 use Rattle.page_jobs.specs.declared.ending.JobError.{JobError}
 use Rattle.page_jobs.specs.declared.ending.JobError.TheVariants.{Memory}
 use Rattle.page_jobs.specs.Reads.{HasNoTokens}
@@ -28,6 +28,7 @@ use Rattle.page_jobs.specs.Rewriting.{AllUnderCleanup, CountsRewrites, EndsRewri
 use Rattle.page_jobs.proofs.BlockRewrites.{reads_since}
 use Rattle.page_jobs.proofs.RewriteSums.{rewrites_joined, rewrites_none, with_outcome-is}
 use Rattle.page_jobs.proofs.Staying.{stays_none}
+use Rattle.page_jobs.proofs.TornBlocks.{torn_both, torn_none}
 
 each_append : (P : Outcome → Type 0) (os us : List Outcome) → EachOutcome P os → EachOutcome P us → EachOutcome P (os ++ us)
 each_append P [] us a b = b
@@ -96,10 +97,10 @@ under_on r number u v w earlier later calls (o ∷ os) us a b = (
 
 module _ {L G : Type 0} (contents : L → Option Pages) (m : Manager L G) (rel : ℕ) (fork : Fork) where
   goes_none : (p : PassState) → Belongs contents m p → GoesOn contents m p p
-  goes_none p b = record { belongs = b; same = (stays_none contents m p b).same; front = omega arith }
+  goes_none p b = record { belongs = b; same = but_torn p p (stays_none contents m p b).same; front = omega arith }
 
   goes_on : (p q r : PassState) → GoesOn contents m p q → GoesOn contents m q r → GoesOn contents m p r
-  goes_on p q r a b = record { belongs = b.belongs; same = same_on p q r a.same b.same; front = let x = a.front in let y = b.front in omega arith }
+  goes_on p q r a b = record { belongs = b.belongs; same = torn_on p q r a.same b.same; front = let x = a.front in let y = b.front in omega arith }
 
   -- no block was dealt with
   pub blocks_none : (bs : List ℕ) (p : PassState) → HasNoTokens contents m p → RewritesBlocks contents m rel fork bs [] p p
@@ -108,6 +109,7 @@ module _ {L G : Type 0} (contents : L → Option Pages) (m : Manager L G) (rel :
     spent = free.spent;
     locks = λ f. refl;
     mark = λ unput. refl;
+    torn = torn_none (rule_of rel fork) [] p.view.torn p.view.torn refl;
     calls = sym (append-nil p.view.calls);
     order = tt;
     follow = tt;
@@ -168,6 +170,7 @@ module _ {L G : Type 0} (contents : L → Option Pages) (m : Manager L G) (rel :
     spent = b.spent;
     locks = λ f. b.locks f ∙ a.locks f;
     mark = λ unput. let both = each_split IsUnput os us unput in b.mark both.1 ∙ a.mark both.0;
+    torn = torn_both (rule_of rel fork) os us p.view.torn q.view.torn r.view.torn a.torn b.torn;
     calls = b.calls
         ∙ ap (λ (l : List Call). l ++ calls_for (rule_of rel fork) us) a.calls
         ∙ append_assoc p.view.calls (calls_for (rule_of rel fork) os) (calls_for (rule_of rel fork) us)
@@ -204,7 +207,7 @@ module _ {L G : Type 0} (contents : L → Option Pages) (m : Manager L G) (rel :
   rewrites_on bs cs p q r t u v end a b = (rewrites_past bs cs p q r t u v end a b).0
 
   blocks_wider : (bs cs : List ℕ) (os : List Outcome) (p q : PassState) → RewritesBlocks contents m rel fork bs os p q → RewritesBlocks contents m rel fork (bs ++ cs) os p q
-  blocks_wider bs cs os p q a = record { goes = a.goes; spent = a.spent; locks = a.locks; mark = a.mark; calls = a.calls; order = of_more bs cs os a.order; follow = a.follow; stopped = a.stopped; locked = a.locked }
+  blocks_wider bs cs os p q a = record { goes = a.goes; spent = a.spent; locks = a.locks; mark = a.mark; torn = a.torn; calls = a.calls; order = of_more bs cs os a.order; follow = a.follow; stopped = a.stopped; locked = a.locked }
 
   -- where it ended at one of the first blocks it ended at one of all
   pub rewrites_wider : (bs cs : List ℕ) (p q : PassState) (t u : RewriteTotals) (e : JobError) → CountsRewrites contents m rel fork bs p q t u (Err e) → CountsRewrites contents m rel fork (bs ++ cs) p q t u (Err e)

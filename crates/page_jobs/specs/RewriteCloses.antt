@@ -1,5 +1,5 @@
 -- What the devices hold when a manager is closed after a rewrite.
-use Rattle.std.specs.Prelude.{◌≡◌, ◌⊎◌, ℕ, ◌+◌, ◌*◌, ◌<◌, ◌≤◌, true, false, List, ◌++◌, length, Option, Some, is_some}
+use Rattle.std.specs.Prelude.{◌≡◌, ◌≢◌, ◌⊎◌, ℕ, ◌+◌, ◌*◌, ◌<◌, ◌≤◌, true, false, List, [], ◌++◌, length, Option, Some, None, is_some}
 use mathlib.Core.Option.{some}
 use lib.ListN.{get_elem?}
 use Rattle.block_tag.specs.declared.tag.Fork.{Fork}
@@ -24,14 +24,19 @@ use Rattle.page_jobs.specs.Ending.{totals_of_rewrite}
 use Rattle.page_jobs.specs.Jobs.{IsOrigin, workers_in}
 use Rattle.page_jobs.specs.Parts.{blocks_in}
 use Rattle.page_jobs.specs.Rewrites.{Rule, rule_of}
-use Rattle.page_jobs.specs.RewriteEnds.{HasEntry, HasRewrites, IsPageEntry, IsRewritten}
+use Rattle.page_jobs.specs.RewriteEnds.{BeginsRewrite, HasEntry, HasRewrites, IsPageEntry, IsRewritten}
 use Rattle.page_jobs.specs.RewriteJobs.{EndsRewrite, RewriteParts, RewritesFork}
 
--- A pass has put no page since then
+-- a pass failed to append no record
+abbrev pub ToreNothing : PassState → Type 0
+ToreNothing p = p.view.torn ≡ []
+
+-- A pass has put no page since then, and failed to append none
 pub record PutsNoMore (q z : PassState) : Type 0 where
   pub more : List Call
   pub calls : z.view.calls ≡ q.view.calls ++ more
   pub reads : writes_in more ≡ 0
+  pub torn : z.view.torn ≡ q.view.torn
 
 -- The log has an entry of this block, whose page is what the rule made of this one, and durable; and that is the page that the block has now
 pub record HasEntryPage (r : Rule) (s : State) (packed : ℕ) (page : Page) (now : Option Page) : Type 0 where
@@ -41,12 +46,13 @@ pub record HasEntryPage (r : Rule) (s : State) (packed : ℕ) (page : Page) (now
   pub held : now ≡ Some (r.rewritten page (end_of made.entry))
 
 module _ {L G : Type 0} (contents : L → Option Pages) (m : Manager L G) (rel : ℕ) (fork : Fork) where
-  -- A rewrite made the passes qs of the passes ps, and they were these, in the same order, as the manager was closed: none had put a page before it, or put one after it
+  -- A rewrite made the passes qs of the passes ps, and they were these, in the same order, as the manager was closed: none had put a page before it, or put one after it, or failed to append one
   pub record RewritesAlone (ps qs zs : List PassState) : Type 0 where
     pub several : 1 < length ps
     pub parts : RewriteParts contents m rel fork (workers_in ps) (workers_in qs)
     pub beside : StaysBeside contents m ps qs
     pub before : EachPass PutNothing ps
+    pub untorn : EachPass ToreNothing ps
     pub counted : length zs ≡ length qs
     pub after : (i : ℕ) (q z : PassState) → get_elem? qs i ≡ some q → get_elem? zs i ≡ some z → PutsNoMore q z
     -- the manager was opened with as many lanes as it has, and has some
@@ -97,12 +103,13 @@ module _ {L G : Type 0} (d : Devices L G) (o : Opening L G) (lanes : List L) whe
     pub others : (packed : ℕ) (tag : Tag) (before after : Pages) (closed : L) (page : Page) → IsInLanes packed tag before after closed → before tag ≡ Some page → (HasEntry log packed → ⊥) → d.failed_writes closed tag ≡ false → after tag ≡ Some page
 
 module _ {L G : Type 0} (d : Devices L G) (m : Manager L G) where
-  -- After a rewrite with any end each entry of the log is what the rule made of a block's page at the opening, and a block has one at most; each lane has the one page or the other
+  -- After a rewrite with any end each entry of the log is what the rule made of a block's page at the opening, and a block has one at most; each lane has the one page or the other; and what a failure left after the log begins the record of such a page, of a block that has no entry
   abbrev pub ClosesEither : Type 0
   ClosesEither = (rel : ℕ) (fork : Fork) (ps qs zs : List PassState) (lanes : List L) (log : G) → RewritesAlone d.contents m rel fork ps qs zs
       → (c : ClosesAll d m.table.table.shared.key zs lanes log)
       → HasRewrites (rule_of rel fork) (blocks_in m rel fork) c.state.known c.state.origin c.state.log
       × HoldEither d m.table.table.shared.key lanes (rule_of rel fork) c.state
+      × (c.laws.rest.behind.rest ≢ [] → c.mark ≢ None → BeginsRewrite (rule_of rel fork) (blocks_in m rel fork) c.state c.laws.rest.behind.rest)
 
   -- After one of all blocks, and a checkpoint, the log has exactly the entries of the changed blocks, the totals are those of the pages at the opening, and the lanes have the rewritten relation
   abbrev pub ClosesRewritten : Type 0

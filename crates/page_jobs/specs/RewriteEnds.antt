@@ -6,11 +6,11 @@ use Rattle.grid.specs.Shape.{total}
 use Rattle.chunk_claims.specs.Claims.{sum_below}
 use Rattle.pin_core.specs.declared.view.Call.{Call}
 use Rattle.pin_core.specs.State.{Page}
-use Rattle.history_core.specs.Log.{Entry, IsEntryOf, Log, image, end_of, log_end, record_size, head_size, place_of, writes_in}
+use Rattle.history_core.specs.Log.{Entry, IsEntryOf, Log, image, end_of, log_end, record_bytes, record_size, head_size, place_of, writes_in}
 use Rattle.history_core.specs.History.{IsHistory}
 use Rattle.history_core.specs.Laws.{Laws}
 use Rattle.history_core.specs.Promises.{AreStored}
-use Rattle.history_core.specs.State.{State, stored, failed}
+use Rattle.history_core.specs.State.{State, last_position, stored, failed}
 use Rattle.page_jobs.specs.Rewrites.{Outcome, unsound, kept, refused, changed, Rule, outcome_block, calls_for, is_ended}
 
 -- the page that a block had at the start
@@ -90,6 +90,16 @@ pub record HasEntry (log : Log) (tag : ℕ) : Type 0 where
   pub index : ℕ
   pub entry : Entry
   pub entered : IsEntryOf log.entries tag index entry
+
+-- After the log's bytes are the first bytes of the record that would be next, which is what the rule makes of a block's page at the start; the block has no entry
+pub record BeginsRewrite (r : Rule) (n : ℕ) (s : State) (rest : List ℕ) : Type 0 where
+  pub entry : Entry
+  pub starts : entry.start ≡ s.end
+  pub room : end_of entry ≤ last_position
+  pub rewrite : IsRewrite r n s.known s.origin entry
+  pub new : HasEntry s.log (r.tag rewrite.block) → ⊥
+  pub more : List ℕ
+  pub begins : rest ++ more ≡ record_bytes s.names entry
 
 -- 1 for a block that the rule changes
 abbrev pub change_weight : Rule → (ℕ → Option Page) → ℕ → ℕ

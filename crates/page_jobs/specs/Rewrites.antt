@@ -1,5 +1,7 @@
 -- What a rewrite does with blocks, and the calls that it makes for them.
-use Rattle.std.specs.Prelude.{◌≡◌, ◌⊎◌, ℕ, Bool, true, false, List, [], ◌∷◌, ◌++◌, map}
+use Rattle.std.specs.Prelude.{◌≡◌, ◌⊎◌, ℕ, ◌≤◌, Bool, true, false, List, [], ◌∷◌, ◌++◌, map}
+use mathlib.Core.Option.{some}
+use lib.ListN.{get_elem?}
 use Rattle.block_tag.specs.declared.tag.Fork.{Fork}
 use Rattle.block_tag.specs.Names.{packed_tag, tag_of_parts}
 use Rattle.page_layout.specs.declared.outcomes.PageRewrite.{PageRewrite}
@@ -10,7 +12,9 @@ use Rattle.page_layout.specs.Outcomes.{is_changed_outcome, page_rewrite_of, tota
 use Rattle.page_layout.specs.Rewritten.{rewritten_page}
 use Rattle.pin_core.specs.declared.view.Call.{Call}
 use Rattle.pin_core.specs.declared.view.Call.TheVariants.{Read, Write}
+use Rattle.pin_core.specs.declared.view.TornRecord.{TornRecord}
 use Rattle.pin_core.specs.State.{Page}
+use Rattle.history_core.specs.State.{last_position}
 
 -- A rule for pages, and the packed tags of the blocks of a relation
 pub record Rule : Type 0 where
@@ -106,3 +110,13 @@ is_unput (changed b i p n m) = false
 
 abbrev pub IsUnput : Outcome → Type 0
 IsUnput o = is_unput o ≡ true
+
+-- the record is of a block whose put was refused, and of what the rule makes of the page that was read
+abbrev pub TornOf : Rule → List Outcome → TornRecord → Type 0
+TornOf r os x = (k b i n lsn : ℕ) × (p : Page) × (get_elem? os k ≡ some (refused b i p n)) × (lsn ≤ last_position) × (x ≡ record { tag = r.tag b; page = r.rewritten p lsn })
+
+-- To the records that a pass failed to append were added only such
+pub record TornBy (r : Rule) (os : List Outcome) (before after : List TornRecord) : Type 0 where
+  pub more : List TornRecord
+  pub added : after ≡ before ++ more
+  pub each : (k : ℕ) (x : TornRecord) → get_elem? more k ≡ some x → TornOf r os x

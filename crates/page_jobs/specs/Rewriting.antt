@@ -24,11 +24,11 @@ use Rattle.backend_pass.specs.declared.manager.Manager.{Manager}
 use Rattle.backend_pass.specs.declared.tokens.Exclusive.{Exclusive as Token}
 use Rattle.backend_pass.specs.Locks.{HasLock, IsTagged}
 use Rattle.backend_pass.specs.Managers.{Belongs}
-use Rattle.backend_pass.specs.Passes.{KeepsCalls, KeepsLocks, KeepsMark, PassState, SamePass}
+use Rattle.backend_pass.specs.Passes.{KeepsCalls, KeepsLocks, KeepsMark, PassState, SameButTorn}
 use Rattle.page_jobs.specs.declared.ending.JobError.{JobError}
 use Rattle.page_jobs.specs.declared.ending.JobError.TheVariants.{LogDown, LogFault, LogFull, Memory}
 use Rattle.page_jobs.specs.Parts.{MeetsFault, blocks_in}
-use Rattle.page_jobs.specs.Rewrites.{AreOf, EachOutcome, IfRead, IsEnded, IsUnput, Outcome, Rule, StopsAtFailure, unsound, kept, refused, changed, outcome_block, outcome_calls, calls_for, outcome_totals, rule_of, result_of}
+use Rattle.page_jobs.specs.Rewrites.{AreOf, EachOutcome, IfRead, IsEnded, IsUnput, Outcome, Rule, StopsAtFailure, TornBy, unsound, kept, refused, changed, outcome_block, outcome_calls, calls_for, outcome_totals, rule_of, result_of}
 
 -- what ends a job, by the refusal of a put
 abbrev pub fault_of_put : InsertError → JobError
@@ -74,13 +74,14 @@ module _ {L G : Type 0} (contents : L → Option Pages) (m : Manager L G) where
   -- What every call of a rewrite leaves of a pass: it is the same one, and its front isn't before the old one
   pub record GoesOn (p q : PassState) : Type 0 where
     pub belongs : Belongs contents m q
-    pub same : SamePass p q
+    pub same : SameButTorn p q
     pub front : p.view.front ≤ q.view.front
 
   -- The block's cleanup lock is held, with the only token that the pass has
   pub record LocksOne (tag : Tag) (p q : PassState) (e : Token) : Type 0 where
     pub goes : GoesOn p q
     pub mark : KeepsMark p q
+    pub torn : q.view.torn ≡ p.view.torn
     pub calls : KeepsCalls p q
     pub met : q.view.met ≡ p.view.met
     pub tag_is : e.pinned.tag ≡ tag
@@ -125,6 +126,7 @@ module _ {L G : Type 0} (contents : L → Option Pages) (m : Manager L G) where
     pub calls : q.view.calls ≡ p.view.calls ++ outcome_calls (rule_of tag.rel.0 tag.fork) outcome
     pub follows : FollowsRule tag.rel.0 tag.fork p.view.number outcome
     pub mark : IsUnput outcome → KeepsMark p q
+    pub torn : TornBy (rule_of tag.rel.0 tag.fork) (outcome ∷ []) p.view.torn q.view.torn
     pub done : IfOk r (λ what. (what ≡ result_of outcome) × IsEnded outcome × (q.view.met ≡ p.view.met))
     pub cause : IfErr r (PutFails tag p q)
 
@@ -157,12 +159,13 @@ module _ {L G : Type 0} (contents : L → Option Pages) (m : Manager L G) (rel :
   abbrev pub EndsRewriteFor : PassState → PassState → JobError → Type 0
   EndsRewriteFor p q e = ((e ≡ Memory) × (q.view.met ≡ p.view.met)) ⊎ (MeetsFault contents m rel fork p q e ⊎ PutIsRefused p q e)
 
-  -- These blocks were dealt with one after the other, or the first of them, with these outcomes, and none after one whose put was refused: the calls are those of the outcomes and no others, and each page was read, and put, under its cleanup lock. The pass is the same one, without tokens, with its content locks as they were, and with its mark as it was where nothing was put
+  -- These blocks were dealt with one after the other, or the first of them, with these outcomes, and none after one whose put was refused: the calls are those of the outcomes and no others, the records that it failed to append are of refused puts, and each page was read, and put, under its cleanup lock. The pass is the same one, without tokens, with its content locks as they were, and with its mark as it was where nothing was put
   pub record RewritesBlocks (blocks : List ℕ) (os : List Outcome) (p q : PassState) : Type 0 where
     pub goes : GoesOn contents m p q
     pub spent : q.tokens ≡ no_tokens
     pub locks : KeepsLocks p q
     pub mark : EachOutcome IsUnput os → KeepsMark p q
+    pub torn : TornBy (rule_of rel fork) os p.view.torn q.view.torn
     pub calls : q.view.calls ≡ p.view.calls ++ calls_for (rule_of rel fork) os
     pub order : AreOf blocks os
     pub follow : EachOutcome (FollowsRule contents m rel fork p.view.number) os

@@ -23,9 +23,10 @@ returns-in_err-_lsn-clause-rewrites g c =
     let new : is_new_page c.read_exclusive-place.new.page ≡ false = search rules in
     let told : page_rewrite_of c.read_exclusive-place.new.page ≡ Used c.rewritten-what.result = told_used c.read_exclusive-place.new.page r.reads.sound new ∙ ap Used (sym c.rewritten-what.ensures.outcome) in
     let is : is_changed_outcome (Used c.rewritten-what.result) ≡ true = ap (λ (w : Rewrite). is_changed_outcome (Used w)) c.in-Changed.is in
+    let image : c.rewritten-what.new.out ≡ rewritten_page c.read_exclusive-place.new.page = c.rewritten-what.ensures.rewritten (not_skipped (is_skipped c.read_exclusive-place.new.page) c.rewritten-what.result c.in-Changed.dead c.rewritten-what.ensures.skipped.1 c.in-Changed.is) in
     rw (p.1, p.2)
     (refused_page {L = g.row.L.Denot} {G = g.row.G.Denot} g.L.BlockLane.contents c.args.manager.now c.args.exclusive.now.pinned.tag c.args.exclusive.now.pinned.frame c.read_exclusive-place.new.page c.rewritten-what.new.out c.read_exclusive-place.result (Used c.rewritten-what.result) c.in_err-_lsn.field-0.0 c.args.pass.now c.read_exclusive-place.new.self c.put.new.self
-    x.belongs r.same x.same r.locks x.locks r.tokens x.tokens r.devices.met x.met r.reads x.refused x.answer told is)
+    x.belongs r.same x.same r.locks x.locks r.tokens x.tokens r.devices.met x.met r.reads x.refused x.answer x.torn image told is)
 
 pub returns-in_ok-_lsn-clause-rewrites : goal.returns-in_ok-_lsn-clause-rewrites
 returns-in_ok-_lsn-clause-rewrites g c =
@@ -36,7 +37,7 @@ returns-in_ok-_lsn-clause-rewrites g c =
     let is : is_changed_outcome (Used c.rewritten-what.result) ≡ true = ap (λ (w : Rewrite). is_changed_outcome (Used w)) c.in-Changed.is in
     let image : c.rewritten-what.new.out ≡ rewritten_page c.read_exclusive-place.new.page = c.rewritten-what.ensures.rewritten (not_skipped (is_skipped c.read_exclusive-place.new.page) c.rewritten-what.result c.in-Changed.dead c.rewritten-what.ensures.skipped.1 c.in-Changed.is) in
     changed_page {L = g.row.L.Denot} {G = g.row.G.Denot} g.L.BlockLane.contents c.args.manager.now c.args.exclusive.now.pinned.tag c.args.exclusive.now.pinned.frame c.read_exclusive-place.new.page c.rewritten-what.new.out c.read_exclusive-place.result c.in_ok-_lsn._lsn (Used c.rewritten-what.result) c.args.pass.now c.read_exclusive-place.new.self c.put.new.self
-    x.belongs r.same x.same r.locks x.locks r.tokens x.tokens r.devices.met x.met r.reads x.answer image told is
+    x.belongs r.same x.same r.locks x.locks r.tokens x.tokens r.devices.met x.met r.reads x.answer x.torn image told is
 
 pub returns-in_default : goal.returns-in_default
 returns-in_default g c =
