@@ -1,14 +1,15 @@
 -- Tags that calls mark.
-use Rattle.std.proofs.Common.{◌≡◌, ◌≢◌, ◌⊎◌, inl, inr, ℕ, ◌<◌, Bool, true, false, cond, List, [], ◌∷◌, ◌++◌, length, map, get_or, set, get_or-set_same, get_or-set_other, Some, sym, refl, ap, ◌∙◌, subst, ⊎_elim}
+use Rattle.std.proofs.Common.{◌≡◌, ◌≢◌, ◌⊎◌, inl, inr, ℕ, ◌<◌, Bool, true, false, cond, List, [], ◌∷◌, ◌++◌, length, map, get_or, set, get_or-set_same, get_or-set_other, Option, Some, sym, refl, ap, ◌∙◌, subst, ⊎_elim}
 use Rattle.std.proofs.lemmas.List.{get_or-map, length-map, map-set}
 use mathlib.Core.Logic.{dite}
 use native.Mathlib.Decide.{ℕ_discrete}
 use Rattle.block_tag.specs.Names.{names_block, packed_tag, tag_eq}
 use Rattle.block_tag.specs.declared.tag.Tag.{Tag}
-use Rattle.segment_store.specs.Contents.{Marks, no_marks, with_mark}
+use Rattle.segment_store.specs.Contents.{Marks, Pages, no_marks, with_mark}
+use Rattle.segment_store.specs.Lanes.{mark_in}
 use Rattle.history_core.specs.Log.{Entry, tag_in}
 use Rattle.history_core.proofs.Histories.{at_last}
-use Rattle.log_recovery.specs.Redo.{IsEnteredBlock, MarksFirst, MarksOnly}
+use Rattle.log_recovery.specs.Redo.{IsEnteredBlock, MarksFirst, MarksNone, MarksOnly, Redoes}
 use Rattle.log_recovery.proofs.Twice.{entered_longer, same_tag}
 
 -- none is marked
@@ -79,3 +80,10 @@ marks_more es e tag a b c named of x y = marks_then (IsEnteredBlock (es ++ e ∷
 -- a sync behind a redo
 pub marks_synced : (leads : List Entry → Type 0) (a b c : List Marks) → MarksFirst leads a b → MarksOnly (λ t. ⊥) b c → MarksFirst leads a c
 marks_synced leads a b c x y = record { entries = x.entries; first = x.first; only = marks_of_none (IsEnteredBlock x.entries) a b c x.only y }
+
+-- redo marks none
+pub redone_unmarked : {L : Type 0} (contents : L → Option Pages) (failed : L → Marks) (es : List Entry) (old new after : List L) → Redoes contents failed es old new → after ≡ new → MarksNone contents failed old after
+redone_unmarked {L} contents failed es old new after redoes same tag known marked =
+    let h = redoes.each tag in
+    let here : mark_in (map failed new) tag ≡ true = ap (λ (l : List L). mark_in (map failed l) tag) (sym same) ∙ marked in
+    sym (h.kept known (λ entered. let not = h.written known entered in let no : true ≡ false = sym here ∙ not in cc)) ∙ here

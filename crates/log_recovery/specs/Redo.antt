@@ -101,6 +101,11 @@ LeavesUnsynced relations source old new =
     MarksFirst (λ es. IfSome source (λ bytes. AreFirstOf relations bytes es)) old new
 
 module _ {L : Type 0} (contents : L → Option Pages) (failed : L → Marks) where
+  -- no tag was marked since, in a lane whose contents are known
+  abbrev pub MarksNone : List L → List L → Type 0
+  MarksNone old new = (tag : Tag) → is_some (lane_at (map contents old) tag) ≡ true
+      → mark_in (map failed new) tag ≡ true → mark_in (map failed old) tag ≡ true
+
   abbrev pub Redoes : List Entry → List L → List L → Type 0
   Redoes es old new =
       AreRedone es (map contents old) (map contents new) (map failed old) (map failed new)

@@ -1,10 +1,10 @@
 //! The recovery of lanes by a log.
-ghost use Rattle.std.specs.Prelude.{◌≡◌, ◌<◌, ◌≤◌, ◌⊎◌, All, IfOk, IfSome, IsErrOf, OnErr, OnOk, length, map};
+ghost use Rattle.std.specs.Prelude.{◌≡◌, ◌≢◌, ◌<◌, ◌≤◌, ◌⊎◌, All, IfErr, IfOk, IfSome, IsErrOf, OnErr, OnOk, length, map};
 ghost use Rattle.log_device.specs.Faults.{Rose};
 ghost use Rattle.segment_store.specs.Contents.{no_marks};
 ghost use Rattle.segment_store.specs.Lanes.{HoldTheirs};
 ghost use Rattle.log_recovery.specs.Records.{HasBadHead};
-ghost use Rattle.log_recovery.specs.Redo.{AnyRose, IsRecovered, LeavesPart, LeavesUnsynced, MarksOnly, NoneFell};
+ghost use Rattle.log_recovery.specs.Redo.{AnyRose, IsRecovered, LeavesPart, LeavesUnsynced, MarksNone, MarksOnly, NoneFell};
 ghost use Rattle.log_recovery.specs.Steps.{HasRedone};
 
 use crate::error::RecoverError;
@@ -59,6 +59,8 @@ fn redo_log<L: BlockLane, S: Source>(
     ensures part { OnErr result (LeavesPart L.contents L.failed_writes catalog.now
         (S.left source.old) lanes.old lanes.new) }
     ensures theirs { HoldTheirs (map L.contents lanes.old) → HoldTheirs (map L.contents lanes.new) }
+    ensures marked { IfErr result (λ error. error ≢ RecoverError.WriteFault
+        → MarksNone L.contents L.failed_writes lanes.old lanes.new) }
     ensures unsynced { LeavesUnsynced catalog.now (S.left source.old)
         (map L.unsynced lanes.old) (map L.unsynced lanes.new) }
     ensures bad { IsErrOf result RecoverError.BadLog → (lanes.new ≡ lanes.old)
@@ -103,6 +105,8 @@ pub fn recover<L: BlockLane, S: Source>(
     ensures synced { OnOk result (All (λ lane. L.unsynced lane ≡ no_marks) lanes.new) }
     ensures part { OnErr result (LeavesPart L.contents L.failed_writes catalog.now
         (S.left source.old) lanes.old lanes.new) }
+    ensures marked { IfErr result (λ error. error ≢ RecoverError.WriteFault
+        → MarksNone L.contents L.failed_writes lanes.old lanes.new) }
     ensures unsynced { LeavesUnsynced catalog.now (S.left source.old)
         (map L.unsynced lanes.old) (map L.unsynced lanes.new) }
     ensures placed { HoldTheirs (map L.contents lanes.new) }

@@ -1,10 +1,10 @@
 //! Redo: the pages of records are written to their blocks.
-ghost use Rattle.std.specs.Prelude.{◌≡◌, ◌+◌, ◌<◌, ◌≤◌, ◌⊎◌, ◌^◌, [], IfErr, IfOk, IfSome, IsErrOf, None, OnErr, OnOk, is_some, length, map, true};
+ghost use Rattle.std.specs.Prelude.{◌≡◌, ◌≢◌, ◌+◌, ◌<◌, ◌≤◌, ◌⊎◌, ◌^◌, [], IfErr, IfOk, IfSome, IsErrOf, None, OnErr, OnOk, is_some, length, map, true};
 ghost use Rattle.block_tag.specs.Names.{names_block};
 ghost use Rattle.log_device.specs.Faults.{HasCause, Rose};
 ghost use Rattle.log_device.specs.declared.device.Failed.{Failed};
 ghost use Rattle.segment_store.specs.Lanes.{HoldTheirs};
-ghost use Rattle.log_recovery.specs.Redo.{AnyRose, LeavesFirst, MarksFirst, MarksOnly, NoneFell, WritesTo};
+ghost use Rattle.log_recovery.specs.Redo.{AnyRose, LeavesFirst, MarksFirst, MarksNone, MarksOnly, NoneFell, WritesTo};
 ghost use Rattle.log_recovery.specs.Steps.{HasNoRecord, HaveRedone, IsNextImage, IsUpto, LeadIn, StepsOn};
 
 use crate::error::RecoverError;
@@ -149,6 +149,8 @@ pub(crate) fn redo_from<L: BlockLane, S: Source>(
     ensures part { OnErr result (LeavesFirst L.contents L.failed_writes
         (LeadIn catalog.now base (S.left source.old)) lanes.old lanes.new) }
     ensures theirs { HoldTheirs (map L.contents lanes.old) → HoldTheirs (map L.contents lanes.new) }
+    ensures marked { IfErr result (λ error. error ≢ RecoverError.WriteFault
+        → MarksNone L.contents L.failed_writes lanes.old lanes.new) }
     ensures unsynced { MarksFirst (LeadIn catalog.now base (S.left source.old))
         (map L.unsynced lanes.old) (map L.unsynced lanes.new) }
     ensures others { IsErrOf result RecoverError.BadLog → ⊥ }

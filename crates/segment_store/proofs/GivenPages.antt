@@ -32,7 +32,7 @@ first_whole bytes count within = λ k d below.
     ap (λ (l : List ℕ). length l) (get_or-map-range_with_len (block_at bytes) 0 count k k d (omega arith) (zero-add k)) ∙ block_whole bytes k (omega arith)
 
 -- the blocks of segments are whole
-pages_whole : (seg_blocks : ℕ) (segments : List (List ℕ)) → Whole (segment_pages seg_blocks segments)
+pub pages_whole : (seg_blocks : ℕ) (segments : List (List ℕ)) → Whole (segment_pages seg_blocks segments)
 pages_whole seg_blocks [] = λ k d below. absurd (omega arith)
 pages_whole seg_blocks (bytes ∷ segments) =
     let n = length bytes / 8192 in

@@ -1,4 +1,4 @@
-use Rattle.std.proofs.Common.{map}
+use Rattle.std.proofs.Common.{map, refl}
 use Rattle.log_recovery.proofs.Marking.{marks_synced}
 use Rattle.log_recovery.proofs.Running.{part_all}
 use Rattle.log_recovery.proofs.recovering.recover.Goals as goal
@@ -12,3 +12,6 @@ returns-in-Err-clause-unsynced g c = marks_synced _ (map g.L.BlockLane.unsynced 
 
 pub returns-clause-unsynced : goal.returns-clause-unsynced
 returns-clause-unsynced g c = marks_synced _ (map g.L.BlockLane.unsynced c.args.lanes.now) (map g.L.BlockLane.unsynced c.redo_log.new.lanes) (map g.L.BlockLane.unsynced c.sync_all.new.lanes) c.redo_log.ensures.unsynced c.sync_all.ensures.unsynced
+
+pub returns-in-Err-clause-marked : goal.returns-in-Err-clause-marked
+returns-in-Err-clause-marked g c = λ other. absurd (other refl)

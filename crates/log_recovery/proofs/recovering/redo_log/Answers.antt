@@ -42,3 +42,6 @@ returns-in-Ok-None-clause-unsynced g c = marks_none {L = g.row.L.Denot} g.L.Bloc
 
 pub returns-in-Err-clause-unsynced : goal.returns-in-Err-clause-unsynced
 returns-in-Err-clause-unsynced g c = marks_none {L = g.row.L.Denot} g.L.BlockLane.contents g.L.BlockLane.failed_writes c.args.catalog.now (g.S.Source.left c.args.source.now) (map g.L.BlockLane.unsynced c.args.lanes.now)
+
+pub returns-in-Err-clause-marked : goal.returns-in-Err-clause-marked
+returns-in-Err-clause-marked g c = λ other. λ tag known is. is

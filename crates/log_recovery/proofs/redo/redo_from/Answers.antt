@@ -3,6 +3,7 @@ use Rattle.std.proofs.lemmas.Option.{MatchOption-at_some}
 use Rattle.segment_store.specs.Lanes.{HoldTheirs}
 use Rattle.log_recovery.specs.Steps.{IsNextImage}
 use Rattle.log_recovery.specs.declared.error.RecoverError.TheVariants.{Memory, WriteFault}
+use Rattle.log_recovery.proofs.Marking.{redone_unmarked}
 use Rattle.log_recovery.proofs.Running.{all_done, all_full, marks_stopped, marks_torn, part_stopped, part_torn, theirs_torn, underway_more, underway_none}
 use Rattle.log_recovery.proofs.redo.redo_from.Goals as goal
 
@@ -88,3 +89,12 @@ returns-in-Err-clause-unsynced g c =
     c.args.catalog.now c.args.base (g.S.Source.left c.args.source.now) (g.S.Source.left c.loop-progress.source) (g.S.Source.left c.next_image.new.source) (g.S.Source.faults c.args.source.now) (g.S.Source.faults c.loop-progress.source)
     c.args.lanes.now c.loop-progress.lanes c.loop-progress.progress c.loop-progress.invariant
     c.redo_image.new.lanes c.in-Some.tag c.next_image.new.page next c.in-Ok.ensures.told c.redo_image.ensures.unsynced
+
+pub returns-in_default-clause-marked : goal.returns-in_default-clause-marked
+returns-in_default-clause-marked g c = λ other. redone_unmarked {L = g.row.L.Denot} g.L.BlockLane.contents g.L.BlockLane.failed_writes c.loop-progress.invariant.done c.args.lanes.now c.loop-progress.lanes c.loop-progress.lanes c.loop-progress.invariant.lanes refl
+
+pub returns-in-Err-clause-marked : goal.returns-in-Err-clause-marked
+returns-in-Err-clause-marked g c = λ other. ⊎_elim
+    (λ (e : c.in-Err.error ≡ Memory). redone_unmarked {L = g.row.L.Denot} g.L.BlockLane.contents g.L.BlockLane.failed_writes c.loop-progress.invariant.done c.args.lanes.now c.loop-progress.lanes c.redo_image.new.lanes c.loop-progress.invariant.lanes (c.in-Err.ensures.refused (ap Err e)))
+    (λ (e : c.in-Err.error ≡ WriteFault). absurd (other e))
+    c.in-Err.ensures.others
