@@ -1,11 +1,15 @@
 -- Counts of faults to which those of lanes and of a log are added.
-use Rattle.std.proofs.Common.{◌≡◌, ℕ, zero, suc, ◌%◌, ◌^◌, ◌<◌, ◌≤◌, List, [], ◌∷◌, get_or, length, map, set, refl, sym, ◌∙◌, ap, subst, arith}
+use Rattle.std.proofs.Common.{◌≡◌, ◌≢◌, ℕ, zero, suc, ◌%◌, ◌^◌, ◌<◌, ◌≤◌, List, [], ◌∷◌, get_or, length, map, set, refl, sym, ◌∙◌, ap, subst, arith}
 use Rattle.std.specs.Prelude.{sum_by}
 use Rattle.std.proofs.lemmas.List.{length-map}
 use Rattle.std.proofs.lemmas.List.Sums.{get_or-le-sum_by, sum_by-cons}
+use mathlib.Core.Logic.{dite}
+use native.Mathlib.Decide.{ℕ_discrete}
 use Rattle.block_tag.specs.declared.tag.Tag.{Tag}
 use Rattle.block_tag.specs.Names.{lane_number}
 use Rattle.log_device.specs.Faults.{Added, Rose}
+use Rattle.history_core.specs.Device.{HasRisen}
+use Rattle.history_core.specs.State.{last_count}
 use Rattle.page_jobs.specs.Survey.{RoseAt}
 
 module _ (old more new : ℕ) (added : Added old more new) where
@@ -26,6 +30,16 @@ rose_after a b c later rose = omega arith
 
 pub rose_from_none : (n : ℕ) → Rose 0 n → 0 < n
 rose_from_none n rose = omega arith
+
+-- a count that rose shows it, as far as its type goes
+pub risen_rose : (before now : ℕ) → HasRisen before now → Rose before now
+risen_rose before now risen = dite (ℕ_discrete now last_count)
+    (λ (last : now ≡ last_count). omega arith)
+    (λ (other : now ≢ last_count). let more = risen other in omega arith)
+
+-- a count that is the same is no smaller
+pub least_same : (before now : ℕ) → now ≡ before → before ≤ now
+least_same before now same = omega arith
 
 module _ {L : Type 0} (faults : L → ℕ) where
   pub sum_of_map : (ls : List L) → sum_by (λ (n : ℕ). n) (map faults ls) ≡ sum_by faults ls

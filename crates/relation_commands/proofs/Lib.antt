@@ -26,5 +26,7 @@ mod RedoEnds
 pub mod RecoverGiven
 mod RecoverCauses
 mod LostLogs
+mod WrittenImages
+mod ToldLogs
 mod RecoverRewrite
 mod RecoveredPages

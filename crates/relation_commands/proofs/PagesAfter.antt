@@ -45,7 +45,7 @@ length_without lsn page long =
     omega (arith, rest, all)
 
 -- a page that is changed is sound and not new, and isn't skipped
-record IsChangeable (page : Page) : Type 0 where
+pub record IsChangeable (page : Page) : Type 0 where
   pub sound : is_sound_page page ≡ true
   pub used : is_new_page page ≡ false
   pub kept : is_skipped page ≡ false
@@ -57,7 +57,7 @@ by_tests true false true rest changed = absurd (let no : false ≡ true = change
 by_tests true true skipped rest changed = absurd (let no : false ≡ true = changed in cc)
 by_tests false new skipped rest changed = absurd (let no : false ≡ true = changed in cc)
 
-changeable : (page : Page) → is_changed_outcome (page_rewrite_of page) ≡ true → IsChangeable page
+pub changeable : (page : Page) → is_changed_outcome (page_rewrite_of page) ≡ true → IsChangeable page
 unfolding page_rewrite_of rewrite_of
 changeable page changed =
     let tests = by_tests (is_sound_page page) (is_new_page page) (is_skipped page) _ changed in

@@ -17,7 +17,7 @@ use Rattle.page_jobs.specs.Beside.{WorksBeside}
 
 module _ {L G : Type 0} (contents : L → Option Pages) (m : Manager L G) where
   pub works_none : (p : PassState) → Belongs contents m p → WorksBeside contents m p p
-  works_none p belongs = record { belongs = belongs; same = record { keeps = pass_none p; upto = refl }; callers = callers_none p; mark = refl }
+  works_none p belongs = record { belongs = belongs; same = record { keeps = pass_none p; upto = refl; torn = refl }; callers = callers_none p; mark = refl }
 
   pub works_on : (p q r : PassState) → WorksBeside contents m p q → Belongs contents m r → SamePass q r → KeepsCallers q r → KeepsMark q r → WorksBeside contents m p r
   works_on p q r w belongs same callers mark = record {

@@ -54,6 +54,10 @@ module _ {L : Type 0} (faults : L → ℕ) where
       let sum = sum_of_map faults ms in
       omega (arith, there, some, sum)
 
+  -- then the host's count rises
+  pub host_rose : (ls ms : List L) (before now : ℕ) → length ms ≡ length ls → Added before (sum_by faults ms) now → AnyRose (map faults ls) (map faults ms) → Rose before now
+  host_rose ls ms before now counted added any = added_some before (sum_by faults ms) now added (any_rose_sum ls ms counted any)
+
 some_is : {A : Type 0} (P : A → Type 0) (o : Option A) → IsSomeAnd o P → IsSome o
 some_is P None is = absurd is
 some_is P (Some x) is = refl

@@ -13,13 +13,14 @@ use Rattle.block_tag.specs.declared.tag.Fork.{Fork}
 use Rattle.block_tag.specs.declared.tag.Fork.TheVariants.{Main}
 use Rattle.block_tag.specs.declared.tag.Tag.{Tag}
 use Rattle.block_tag.specs.Names.{lane_number, packed_tag}
+use Rattle.log_device.specs.Faults.{Rose}
 use Rattle.log_device.specs.MemoryLog.{StoredLog}
 use Rattle.segment_store.specs.declared.host.HostError.{HostError}
 use Rattle.segment_store.specs.declared.host.HostError.TheVariants as host
 use Rattle.segment_store.specs.declared.host.Opened.{Opened}
 use Rattle.segment_store.specs.Contents.{AreFullPages, HasRoom, Marks, Pages}
 use Rattle.segment_store.specs.Growth.{extended, last_held, paths_given, paths_grown}
-use Rattle.segment_store.specs.Lanes.{dealt, mark_in, page_in, tag_at}
+use Rattle.segment_store.specs.Lanes.{dealt, lane_at, mark_in, page_in, tag_at}
 use Rattle.segment_store.specs.Logs.{IsOpenedSource, Logs, logs_after}
 use Rattle.segment_store.specs.Opening.{IsOpened}
 use Rattle.segment_store.specs.Paths.{OpenAt, PathMarks, Paths, fork_of}
@@ -37,7 +38,7 @@ use Rattle.log_recovery.specs.declared.error.RecoverError.{RecoverError}
 use Rattle.log_recovery.specs.declared.error.RecoverError.TheVariants as recovery
 use Rattle.log_recovery.specs.declared.recovering.Redone.{Redone}
 use Rattle.log_recovery.specs.Records.{HasBadHead, IsLogOf, from_head, too_short}
-use Rattle.log_recovery.specs.Redo.{AreFirstOf, AreRedone, AreRedoneBut, FailsAt, IsRecovered, LeavesPart, Redoes, Tells}
+use Rattle.log_recovery.specs.Redo.{AreFirstOf, AreRedone, AreRedoneBut, FailsAt, IsRecovered, LeavesPart, MarksNone, Redoes, Tells}
 use Rattle.log_recovery.proofs.Decided.{read_somehow}
 use Rattle.log_recovery.proofs.ReadLogs.{is_log, one_log}
 use Rattle.relation_commands.specs.RecoverCommand.{EndsRedo, TellsLogOf}
@@ -50,12 +51,12 @@ use Rattle.relation_commands.specs.RewriteCommand.{IsPutRefusal, rewrite_status}
 use Rattle.relation_commands.specs.RewriteFiles.{BecomesOf, HostFiles, KeepsFiles, files_of, pages_at, relation_at, with_blocks}
 use Rattle.relation_commands.specs.RewriteResults.{AreFull}
 use Rattle.relation_commands.specs.Status.{host_error, recover_tool_error, rewrite_tool_error, status_of, status_of_error}
-use Rattle.relation_commands.proofs.GivenFiles.{SamePaths, Told, at_some, becomes_by, of_none}
+use Rattle.relation_commands.proofs.GivenFiles.{SamePaths, Told, at_some, becomes_by, files_with, same_paths, told_files}
 use Rattle.relation_commands.proofs.GivingBack.{marks_elsewhere, marks_here, none_fails, same_bytes, unmarked_at, with_lanes}
 use Rattle.relation_commands.proofs.RecoverNames.{one_catalogue}
-use Rattle.relation_commands.proofs.Redone.{HoldsRedone, all_whole, each, fits, grows_by, held_last, held_within, hold_part, hold_redone, longer_of, marked_torn, needed, none_marked, reaches}
+use Rattle.relation_commands.proofs.Redone.{HoldsRedone, all_whole, each, fits, grows_by, held_last, held_within, hold_part, hold_redone, lanes_known, longer_of, marked_torn, needed, none_marked, reaches}
 use Rattle.relation_commands.proofs.RewriteLeaves.{pages_long}
-use Rattle.relation_commands.proofs.Stepping.{becomes_also, becomes_some, cleared_elsewhere, keeps_since}
+use Rattle.relation_commands.proofs.Stepping.{becomes_also, cleared_elsewhere, first_files, keeps_since, opened_before, opened_files}
 use Rattle.relation_commands.proofs.WholePages.{relation_whole}
 
 -- ---- paths of a relation that grew
@@ -316,15 +317,31 @@ module _ {L : Type 0} (contents : L → Option Pages) (failed unsynced rooms : L
     first_so : (es : List Entry) → IfSome source (λ bytes. AreFirstOf (catalog_of r.path) bytes es) → AreFirstOf (catalog_of r.path) file.bytes es
     first_so es first = subst (λ (o : Option (List ℕ)). IfSome o (λ bytes. AreFirstOf (catalog_of r.path) bytes es)) left first
 
+    -- no block is marked where none was marked since
+    none_marked_since : MarksNone contents failed first lanes → (block : ℕ) → new.failed r.path block ≡ true → ⊥
+    none_marked_since none block fails =
+        let tag = tag_at Main block in
+        let known = ap (λ (l : List (Option Pages)). is_some (lane_at l tag)) dealt_so ∙ lanes_known (pages_at r old.paths) r.options.lanes some_lanes tag in
+        both_ways (mark_in (map failed first) tag) (unmarked tag) (none tag known (sym (failed_at block) ∙ fails))
+
+    -- so the count of such faults rose
+    rose_by : (e : RecoverError) → (e ≢ recovery.WriteFault → MarksNone contents failed first lanes) → (e ≡ recovery.WriteFault → Rose old.write_faults new.write_faults)
+        → (block : ℕ) → new.failed r.path block ≡ true → Rose old.write_faults new.write_faults
+    rose_by recovery.BadLog marked rose block fails = absurd (none_marked_since (marked (λ is. absurd (cc))) block fails)
+    rose_by recovery.ReadFault marked rose block fails = absurd (none_marked_since (marked (λ is. absurd (cc))) block fails)
+    rose_by recovery.WriteFault marked rose block fails = rose refl
+    rose_by recovery.Memory marked rose block fails = absurd (none_marked_since (marked (λ is. absurd (cc))) block fails)
+
     -- some first entries were redone, and maybe the write of the next one failed
-    pub part : LeavesPart contents failed (catalog_of r.path) source opened.lanes.items lanes → RecoverLeaves r old new
-    part p = ⊎_elim
+    pub part : (e : RecoverError) → (e ≢ recovery.WriteFault → MarksNone contents failed first lanes) → (e ≡ recovery.WriteFault → Rose old.write_faults new.write_faults)
+        → LeavesPart contents failed (catalog_of r.path) source opened.lanes.items lanes → RecoverLeaves r old new
+    part e marked rose p = ⊎_elim
         (λ (redoes : Redoes contents failed p.entries first lanes). redone_upto p.entries upto p.valid (all_redone p.entries p.valid.0 p.valid.1 redoes)
         (λ block fails. absurd (both_ways (new.failed r.path block) (none_failed p.entries redoes block) fails)))
         (λ (f : FailsAt contents failed (λ es. IfSome source (λ bytes. AreFirstOf (catalog_of r.path) bytes es)) p.entries first lanes).
         redone_upto p.entries upto p.valid
         (to_files p.entries p.valid.0 p.valid.1 (hold_part p.entries (pages_at r old.paths) few r.options.lanes some_lanes (map contents lanes) (map failed first) (map failed lanes) unmarked f.tag f.named (torn_so p.entries f.tag f.lanes) room within))
-        (λ block fails. entered_in r old file there block (read_so f) (λ log is_log. torn_entered f block fails log is_log)))
+        (λ block fails. (entered_in r old file there block (read_so f) (λ log is_log. torn_entered f block fails log is_log), rose_by e marked rose block fails)))
         p.lanes
       where
         upto : AreFirstIn r old.logs p.entries
@@ -400,9 +417,6 @@ module _ {L S : Type 0} (contents : L → Option Pages) (failed : L → Marks) (
       subst (λ (at : OpenAt). paths at.path ≢ [] → c.failed ≡ marks_after at (map failed lanes) b.failed) opened_so marks there
       ∙ ap (λ (m : PathMarks). marks_after (relation_at r) (map failed lanes) m) (at_some a.contents (λ _. b.failed ≡ a.failed) paths known same.failed)
 
-pub same_paths : (a : Told) → SamePaths a a
-same_paths a = record { contents = refl; failed = of_none a.contents (λ _. a.failed ≡ a.failed) (λ _. refl); open_at = of_none a.contents (λ _. a.open_at ≡ a.open_at) (λ _. refl) }
-
 module _ {L S : Type 0} (contents : L → Option Pages) (failed unsynced rooms : L → Marks) (reads writes : L → ℕ) (left : S → Option (List ℕ)) (faults : S → ℕ)
     (whole : (lane : L) → IfSome (contents lane) AreFullPages) (has_room : (lane : L) → IfSome (contents lane) (HasRoom (rooms lane)))
     (r : LoggedAsked) (main : fork_of r.path ≡ Main) (some_lanes : 1 ≤ r.options.lanes) (some_blocks : 1 ≤ r.options.seg_blocks)
@@ -437,15 +451,15 @@ module _ {L S : Type 0} (contents : L → Option Pages) (failed unsynced rooms :
         }
 
     abbrev old_files : Paths → Logs → HostFiles
-    old_files paths logs = record { paths = paths; failed = a.failed; logs = logs }
+    old_files paths logs = files_with a paths logs
 
     abbrev new_files : Paths → Logs → HostFiles
-    new_files paths logs = record { paths = paths_given room (relation_at r) (Some source_now) (map contents lanes) paths; failed = c.failed; logs = logs }
+    new_files paths logs = files_with c (paths_given room (relation_at r) (Some source_now) (map contents lanes) paths) logs
 
     becomes : (Leaves : HostFiles → HostFiles → Type 0)
         → ((paths : Paths) (logs : Logs) → Known paths logs → Leaves (old_files paths logs) (new_files paths logs))
-        → BecomesOf (files_of a.contents a.failed a.logs) (files_of c.contents c.failed c.logs) Leaves
-    becomes Leaves all = becomes_by a.contents a.failed a.logs c Leaves (λ paths logs known logs_known. record {
+        → BecomesOf (told_files a) (told_files c) Leaves
+    becomes Leaves all = becomes_by a c Leaves (λ paths logs known logs_known. record {
       paths = paths_given room (relation_at r) (Some source_now) (map contents lanes) paths;
       logs = logs;
       paths_are = grown_paths contents failed room r a a c lanes (Some source_now) open_so (same_paths a) gives paths known;
@@ -454,30 +468,32 @@ module _ {L S : Type 0} (contents : L → Option Pages) (failed unsynced rooms :
     })
 
     pub recovered_files : (told : Redone) → EndsRedo contents failed rooms reads writes left faults (catalog_of r.path) opened.lanes.items lanes source source_now (Ok told)
-        → BecomesOf (files_of a.contents a.failed a.logs) (files_of c.contents c.failed c.logs) (RecoversFiles r 0)
+        → BecomesOf (told_files a) (told_files c) (RecoversFiles r 0)
     recovered_files told ends = becomes (RecoversFiles r 0) (λ paths logs k. files_done r (old_files paths logs) (new_files paths logs)
         (done contents failed unsynced rooms reads writes whole has_room r main some_lanes some_blocks (old_files paths logs) (new_files paths logs) (room r.path r.options.seg_blocks) opened
         k.opened_is lanes ends.rooms refl k.marks_are refl k.file k.there (left source) k.left_is told ends.redone))
 
     pub part_files : (e : RecoverError) (path : Bor (List ℕ))
         → EndsRedo contents failed rooms reads writes left faults (catalog_of r.path) opened.lanes.items lanes source source_now (Err e)
-        → BecomesOf (files_of a.contents a.failed a.logs) (files_of c.contents c.failed c.logs) (RecoversFiles r (status_of_error (recover_tool_error e path)))
-    part_files e path ends = becomes (RecoversFiles r (status_of_error (recover_tool_error e path))) (λ paths logs k. files_part r (old_files paths logs) (new_files paths logs) e path
+        → (IsErrOf {T = Redone} (Err e) recovery.WriteFault → Rose a.writes c.writes)
+        → BecomesOf (told_files a) (told_files c) (RecoversFiles r (status_of_error (recover_tool_error e path)))
+    part_files e path ends rose = becomes (RecoversFiles r (status_of_error (recover_tool_error e path))) (λ paths logs k. files_part r (old_files paths logs) (new_files paths logs) e path
         (part contents failed unsynced rooms reads writes whole has_room r main some_lanes some_blocks (old_files paths logs) (new_files paths logs) (room r.path r.options.seg_blocks) opened
-        k.opened_is lanes ends.rooms refl k.marks_are refl k.file k.there (left source) k.left_is ends.part)
+        k.opened_is lanes ends.rooms refl k.marks_are refl k.file k.there (left source) k.left_is e ends.marked (λ is. rose (same_error e recovery.WriteFault is)) ends.part)
         (λ bad. kept contents failed unsynced rooms reads writes whole has_room r main some_lanes some_blocks (old_files paths logs) (new_files paths logs) (room r.path r.options.seg_blocks) opened
         k.opened_is lanes ends.rooms refl k.marks_are refl (ends.bad (same_error e recovery.BadLog bad)).0))
 
     pub files_by : (path : Bor (List ℕ)) (end : Result Redone RecoverError)
         → EndsRedo contents failed rooms reads writes left faults (catalog_of r.path) opened.lanes.items lanes source source_now end
-        → BecomesOf (files_of a.contents a.failed a.logs) (files_of c.contents c.failed c.logs) (RecoversFiles r (status_of (recover_result path end)))
-    files_by path (Ok told) ends = recovered_files told ends
-    files_by path (Err e) ends = part_files e path ends
+        → (IsErrOf end recovery.WriteFault → Rose a.writes c.writes)
+        → BecomesOf (told_files a) (told_files c) (RecoversFiles r (status_of (recover_result path end)))
+    files_by path (Ok told) ends rose = recovered_files told ends
+    files_by path (Err e) ends rose = part_files e path ends rose
 
   -- the log wasn't opened: the lanes are given back as they were
   pub unopened_files : (b c : Told) → SamePaths a b → b.logs ≡ a.logs → GivesGrown {S = S} contents failed room b c opened.lanes.items None
-      → (e : HostError) (path : Bor (List ℕ)) → BecomesOf (files_of a.contents a.failed a.logs) (files_of c.contents c.failed c.logs) (RecoversFiles r (status_of_error (host_error e path)))
-  unopened_files b c same logs_same gives e path = becomes_by a.contents a.failed a.logs c (RecoversFiles r (status_of_error (host_error e path))) (λ paths logs known logs_known.
+      → (e : HostError) (path : Bor (List ℕ)) → BecomesOf (told_files a) (told_files c) (RecoversFiles r (status_of_error (host_error e path)))
+  unopened_files b c same logs_same gives e path = becomes_by a c (RecoversFiles r (status_of_error (host_error e path))) (λ paths logs known logs_known.
       let opened_is = is_known paths known in
       let marks_are = grown_marks contents failed room r a b c opened.lanes.items None open_so same gives paths known opened_is.there in
       record {
@@ -521,12 +537,12 @@ module _ {L S : Type 0} (contents : L → Option Pages) (failed rooms : L → Ma
 
 -- ---- since the relation was opened
 
-module _ (r : LoggedAsked) (paths : Paths) (marks : PathMarks) (logs : Logs) (new : HostFiles) where
+module _ (r : LoggedAsked) (paths : Paths) (marks : PathMarks) (logs : Logs) (writes faults : ℕ) (new : HostFiles) where
   abbrev files_opened : HostFiles
-  files_opened = record { paths = paths; failed = cleared r.path marks; logs = logs }
+  files_opened = opened_files r paths marks logs writes faults new
 
   abbrev files_before : HostFiles
-  files_before = record { paths = paths; failed = marks; logs = logs }
+  files_before = first_files r paths marks logs writes faults new
 
   recovers_since : (es : List Entry) → RecoversTo r es files_opened new → RecoversTo r es files_before new
   recovers_since es t = record {
@@ -545,7 +561,7 @@ module _ (r : LoggedAsked) (paths : Paths) (marks : PathMarks) (logs : Logs) (ne
   }
 
   kept_since : KeepsFiles r files_opened new → KeepsFiles r files_before new
-  kept_since keeps = record { pages = keeps_since r paths marks logs new keeps.pages; logs = keeps.logs }
+  kept_since keeps = record { pages = keeps_since r paths marks logs writes faults new keeps.pages; logs = keeps.logs }
 
   left_since : RecoverLeaves r files_opened new → RecoverLeaves r files_before new
   left_since (left_alone keeps) = left_alone (kept_since keeps)
@@ -564,14 +580,9 @@ module _ (r : LoggedAsked) (paths : Paths) (marks : PathMarks) (logs : Logs) (ne
   }
 
 -- what is left of the files since the relation was opened
-pub recovered_opened : (r : LoggedAsked) (status : ℕ) (known known_now : Option Paths) (marks marks_now : PathMarks) (logs logs_now : Option Logs) (new : Option HostFiles)
-    → known_now ≡ known → IfSome known (λ _. marks_now ≡ cleared r.path marks) → logs_now ≡ logs
-    → BecomesOf (files_of known_now marks_now logs_now) new (RecoversFiles r status) → BecomesOf (files_of known marks logs) new (RecoversFiles r status)
-recovered_opened r status None known_now marks marks_now logs logs_now new same marks_are logs_same becomes = tt
-recovered_opened r status (Some paths) known_now marks marks_now None logs_now new same marks_are logs_same becomes = tt
-recovered_opened r status (Some paths) known_now marks marks_now (Some logs) logs_now new same marks_are logs_same becomes =
-    becomes_some new (RecoversFiles r status (record { paths = paths; failed = cleared r.path marks; logs = logs })) (RecoversFiles r status (record { paths = paths; failed = marks; logs = logs }))
-    (λ n leaves. recovered_since r paths marks logs n status leaves)
-    (subst (λ (m : PathMarks). BecomesOf (files_of (Some paths) m (Some logs)) new (RecoversFiles r status)) marks_are
-    (subst (λ (l : Option Logs). BecomesOf (files_of (Some paths) marks_now l) new (RecoversFiles r status)) logs_same
-    (subst (λ (k : Option Paths). BecomesOf (files_of k marks_now logs_now) new (RecoversFiles r status)) same becomes)))
+pub recovered_opened : (r : LoggedAsked) (status : ℕ) (known known_now : Option Paths) (marks marks_now : PathMarks) (logs logs_now : Option Logs) (writes writes_now faults faults_now : ℕ) (new : Option HostFiles)
+    → known_now ≡ known → IfSome known (λ _. marks_now ≡ cleared r.path marks) → logs_now ≡ logs → writes_now ≡ writes → faults_now ≡ faults
+    → BecomesOf (files_of known_now marks_now logs_now writes_now faults_now) new (RecoversFiles r status) → BecomesOf (files_of known marks logs writes faults) new (RecoversFiles r status)
+recovered_opened r status known known_now marks marks_now logs logs_now writes writes_now faults faults_now new same marks_are logs_same writes_same faults_same becomes =
+    opened_before r (RecoversFiles r status) known known_now marks marks_now logs logs_now writes writes_now faults faults_now new same marks_are logs_same writes_same faults_same
+    (λ paths ls n leaves. recovered_since r paths marks ls writes faults n status leaves) becomes

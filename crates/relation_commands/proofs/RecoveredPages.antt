@@ -35,6 +35,7 @@ use Rattle.relation_commands.specs.RecoverRewrite.{CompletesRecovery, IsRecovere
 use Rattle.relation_commands.specs.RewriteFiles.{HostFiles, pages_at, relation_at, with_blocks}
 use Rattle.relation_commands.specs.RewriteResults.{AreFull}
 use Rattle.relation_commands.proofs.GivingBack.{same_bytes}
+use Rattle.relation_commands.proofs.PagesAfter.{StaysUsed}
 use Rattle.relation_commands.proofs.RecoverRewrite.{begun_empty, recovers_rewrite}
 use Rattle.relation_commands.proofs.RecoverNames.{one_catalogue}
 
@@ -235,7 +236,7 @@ module _ (r : LoggedAsked) (lanes : ℕ) (some_blocks : 1 ≤ r.options.seg_bloc
 
   as_old : RecoverLeaves r old done → (block : ℕ) → (IsEntered second.log.entries (word_at block) → ⊥) → IsAsOld block
   as_old (left_alone keeps) block none was page at left_at = loses.stays block was page (ap (λ (p : Paths). get_elem? (pages_at r p) block) keeps.pages.paths ∙ at) left_at none
-  as_old (redone_upto es first whole to marked) block none was page at left_at = redone_elsewhere es whole.0 to first marked block none was page at left_at
+  as_old (redone_upto es first whole to marked) block none was page at left_at = redone_elsewhere es whole.0 to first (λ b failed. (marked b failed).0) block none was page at left_at
 
   completed_at : RecoverLeaves r old done → (block : ℕ) (was now : Page) → get_elem? (pages_at r old.paths) block ≡ some was → block < length (pages_at r left.paths) → get_elem? (pages_at r new.paths) block ≡ some now
       → Some now ≡ page_after (word_at block) second.log.entries (Some was)
@@ -252,11 +253,11 @@ base_aligned : (pages : List Page) → log_base pages % 8 ≡ 0
 unfolding log_base
 base_aligned pages = omega arith
 
-pub files_recovered : RecoversFilesLeft
-files_recovered r lanes some_blocks old done left new after file leaves loses recovered block was now at below now_at =
+pub files_recovered : StaysUsed → RecoversFilesLeft
+files_recovered rewritten r lanes some_blocks old done left new after file leaves loses recovered block was now at below now_at =
     let before = pages_at r old.paths in
     let page = there (pages_at r left.paths) block below in
-    let found = recovers_rewrite r.path (length before) (log_base before) before after (pages_at r left.paths) (done.failed r.path) file (base_aligned before) (few_pages r.options.seg_blocks (old.paths r.path)) leaves loses.kept.bytes loses.loss in
+    let found = recovers_rewrite rewritten r.path (length before) (log_base before) before after (pages_at r left.paths) (done.failed r.path) file (base_aligned before) (few_pages r.options.seg_blocks (old.paths r.path)) leaves loses.kept.bytes loses.loss in
     let same : recovered.file ≡ loses.kept = same_Some recovered.file loses.kept (sym recovered.there ∙ loses.there) in
     let is = subst (λ (f : StoredLog). IsLogOf (catalog_of r.path) f.bytes recovered.log) same recovered.is in
     subst (λ (p : Option Page). IsRecoveredBlock leaves.log leaves.begins.rest recovered.log.entries block was (done.failed r.path block) p)

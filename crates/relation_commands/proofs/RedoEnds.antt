@@ -22,6 +22,7 @@ module _ {L S : Type 0} (contents : L → Option Pages) (failed rooms : L → Ma
   ends_short lanes source = record {
     redone = tt;
     part = part_none contents failed relations (left source) lanes;
+    marked = λ other tag known is. is;
     rooms = refl;
     count = refl;
     bad = λ is. absurd (cc);

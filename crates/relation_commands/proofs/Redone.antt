@@ -228,10 +228,14 @@ same_tag a b same = grind arith
 unnamed : (block : ℕ) → 2 ^ 32 - 1 ≤ block → names_block (tag_at Main block) ≡ false
 unnamed block high = grind arith
 
+-- all lanes that pages are dealt to are known
+pub lanes_known : (pages : List Page) (n : ℕ) → 1 ≤ n → (tag : Tag) → is_some (lane_at (dealt Main pages n) tag) ≡ true
+lanes_known pages n some_lanes tag = ap (λ (o : Option Pages). is_some o) (dealt_at Main pages n tag some_lanes)
+
 module _ (es : List Entry) (pages : List Page) (few : length pages ≤ 2 ^ 32 - 1) (n : ℕ) (some_lanes : 1 ≤ n) (lanes : List (Option Pages)) (marks₀ marks : List Marks)
     (unmarked₀ : (tag : Tag) → mark_in marks₀ tag ≡ false) where
   known : (tag : Tag) → is_some (lane_at (dealt Main pages n) tag) ≡ true
-  known tag = ap (λ (o : Option Pages). is_some o) (dealt_at Main pages n tag some_lanes)
+  known tag = lanes_known pages n some_lanes tag
 
   redone_page : (block : ℕ) → block < 2 ^ 32 - 1 → IsRedone es (dealt Main pages n) lanes marks₀ marks (tag_at Main block) → page_in lanes (tag_at Main block) ≡ page_after (word_at block) es (slice_get pages block)
   redone_page block low r = r.page (known (tag_at Main block)) (block_named block low) ∙ ap (λ (o : Option Page). page_after (word_at block) es o) (page_dealt Main pages n block some_lanes)

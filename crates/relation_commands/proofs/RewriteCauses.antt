@@ -11,7 +11,6 @@ use Rattle.block_tag.specs.declared.tag.Fork.{Fork}
 use Rattle.block_tag.specs.declared.tag.Tag.{Tag}
 use Rattle.block_tag.specs.Catalogue.{blocks_at}
 use Rattle.block_tag.specs.Names.{lane_number, names_block, tag_of_parts}
-use Rattle.log_device.specs.Faults.{Rose}
 use Rattle.page_layout.specs.declared.outcomes.RewriteTotals.{RewriteTotals}
 use Rattle.page_layout.specs.Fields.{lsn_of}
 use Rattle.page_layout.specs.Soundness.{is_sound_page}
@@ -20,7 +19,6 @@ use Rattle.pin_core.specs.declared.view.FailedCalls.{FailedCalls}
 use Rattle.pin_core.specs.declared.view.View.{View}
 use Rattle.pin_core.specs.State.{Page, sum_of_met}
 use Rattle.history_core.specs.Device.{HasRisen}
-use Rattle.history_core.specs.State.{last_count}
 use Rattle.table_rule.specs.Blocks.{has_block}
 use Rattle.table_rule.specs.Shows.{Devices}
 use Rattle.frame_table.specs.Seats.{OnlyRises, base_of, lanes_in, opened_of, relations_of}
@@ -58,13 +56,8 @@ use Rattle.relation_commands.specs.declared.starting.RelationFork.{RelationFork}
 use Rattle.relation_commands.specs.Checkpointing.{EndsEarly, IsPastEnd, LastMeets, PassMeets}
 use Rattle.relation_commands.specs.Rewriting.{ArePages, HasPositionsLeft, HasRewriteCause, IsRewriteCause, checkpoint_error, rewrite_error}
 use Rattle.relation_commands.specs.Starting.{IsStarted, log_of}
+use Rattle.relation_commands.proofs.Counting.{risen_rose}
 use Rattle.relation_commands.proofs.RewriteLeaves.{page_within, was_there}
-
--- a count that rose shows it, as far as its type goes
-risen_rose : (before now : ℕ) → HasRisen before now → Rose before now
-risen_rose before now risen = dite (ℕ_discrete now last_count)
-    (λ (last : now ≡ last_count). omega arith)
-    (λ (other : now ≢ last_count). let more = risen other in omega arith)
 
 module _ {L G : Type 0} (contents : L → Option Pages) (m : Manager L G) where
   -- a page of a frame was not written since the log ended before its position

@@ -1,5 +1,5 @@
 -- What a rewrite leaves of the pages and of the log, by what the devices hold as the manager is closed.
-use Rattle.std.proofs.Common.{◌≡◌, ℕ, zero, suc, ◌+◌, ◌-◌, ◌<◌, ◌≤◌, ◌^◌, ◌&&◌, ◌⊎◌, Bool, true, false, List, [], ◌∷◌, append-nil, length, map, get_or, nat_lt, if◌then◌else◌, Option, Some, None, refl, sym, ap, ◌∙◌, subst, inl, inr, ⊎_elim, unwrap_or, arith}
+use Rattle.std.proofs.Common.{◌≡◌, ◌≢◌, ℕ, zero, suc, ◌+◌, ◌-◌, ◌<◌, ◌≤◌, ◌^◌, ◌&&◌, ◌⊎◌, Bool, true, false, List, [], ◌∷◌, ◌++◌, append-nil, length, map, get_or, nat_lt, if◌then◌else◌, Option, Some, None, refl, sym, ap, ◌∙◌, subst, inl, inr, ⊎_elim, unwrap_or, arith}
 use Rattle.std.specs.Prelude.{IfSome, IsSomeAnd, is_some}
 use Rattle.std.specs.Option.{option_and_then}
 use Rattle.std.proofs.lemmas.List.{length-map}
@@ -16,8 +16,8 @@ use Rattle.segment_store.specs.Contents.{AreFullPages, Marks, Pages, no_marks}
 use Rattle.segment_store.specs.Lanes.{HoldPages, lane_at, page_in, tag_at}
 use Rattle.segment_store.specs.Restored.{pages_in}
 use Rattle.pin_core.specs.State.{Page}
+use Rattle.history_core.specs.Device.{HasRisen}
 use Rattle.history_core.specs.Log.{Entry, image, end_of, head_size, log_bytes}
-use Rattle.history_core.specs.Rest.{BeginsRecord}
 use Rattle.table_rule.specs.Blocks.{log_name}
 use Rattle.table_rule.specs.Layout.{lane_of_tag, tag_lane}
 use Rattle.table_rule.specs.Shows.{Devices, IsLog, IsPlaced}
@@ -28,15 +28,16 @@ use Rattle.backend_pass.specs.Closing.{ClosesAll}
 use Rattle.backend_pass.specs.Passes.{PassState}
 use Rattle.page_jobs.specs.Parts.{blocks_in}
 use Rattle.page_jobs.specs.RewriteCloses.{HasEntryPage, HoldEither, IsInLanes}
-use Rattle.page_jobs.specs.RewriteEnds.{HasRewrites, IsRewrite, page_at_start}
+use Rattle.page_jobs.specs.RewriteEnds.{BeginsRewrite, HasRewrites, IsRewrite, page_at_start}
 use Rattle.page_jobs.specs.Rewrites.{Rule, rule_of}
 use Rattle.page_jobs.proofs.Standing.{found, inside, mapped_or, standing_or, there}
 use Rattle.page_jobs.proofs.ReadersLeave.{some_of}
 use Rattle.relation_commands.specs.declared.starting.RelationFork.{RelationFork}
 use Rattle.relation_commands.specs.Limits.{largest_lsn, sound_lsn}
-use Rattle.relation_commands.specs.RewriteResults.{AreFull, BeginsWith, HasDurableEntry, HasImages, IsImageOf, LeavesEither}
+use Rattle.relation_commands.specs.RewriteResults.{AreFull, BeginsNext, BeginsWith, HasDurableEntry, HasImages, IsImageOf, LeavesEither}
 use Rattle.relation_commands.specs.Rewriting.{ArePages, failed_after, pages_after}
-use Rattle.relation_commands.specs.Starting.{IsStarted, names_of}
+use Rattle.relation_commands.specs.Starting.{IsStarted, log_of, names_of}
+use Rattle.relation_commands.proofs.Counting.{risen_rose}
 
 -- what is there
 some_else : (o : Option Page) (p : Page) → is_some o ≡ true → o ≡ Some (unwrap_or o p)
@@ -143,6 +144,13 @@ module _ {L G : Type 0} (d : Devices L G) (m : Manager L G) (r : RelationFork) (
         ap (λ (o : Option Page). unwrap_or o [])
         (sym x.2.2 ∙ c.opened.origin (lane_number (tag_at r.fork block) (lanes_in m.table)) x.0 x.2.0 ((rule_at r).tag block) (tag_at r.fork block) x.1 x.2.1 (placed block (low block page at)))
 
+    -- each page had 8192 bytes
+    was_full : ((lane : L) → IfSome (d.contents lane) AreFullPages) → (block : ℕ) (page : Page) → get_elem? pages block ≡ some page → length page ≡ 8192
+    was_full whole block page at =
+        let x = was_there block page at in
+        let all : AreFullPages x.2.0 = subst (λ (p : Option Pages). IfSome p AreFullPages) x.2.1 (whole x.0) in
+        subst (λ (p : Option Page). IfSome p (λ page. length page ≡ 8192)) x.2.2 (all (tag_at r.fork block))
+
     pub in_lanes : (block : ℕ) (page : Page) → get_elem? pages block ≡ some page → InLanes block page
     in_lanes block page at =
         let tag = tag_at r.fork block in
@@ -226,6 +234,11 @@ module _ {L G : Type 0} (d : Devices L G) (m : Manager L G) (r : RelationFork) (
             entered = x.entered ∙ ap (image ((rule_at r).tag x.block)) (x.made told ∙ ap (λ (q : Page). (rule_at r).rewritten q (end_of e)) (sym is));
           }
 
+      -- and what a failure left after the log begins the record of such an image
+      begins_next : (rest : List ℕ) → BeginsRewrite (rule_at r) (blocks_in m 0 r.fork) c.state rest → BeginsNext (rule_at r) c.state.names pages c.state.log rest
+      unfolding image_of
+      begins_next rest x = record { entry = x.entry; starts = x.starts ∙ c.laws.invariant.ends; room = x.room; image = image_of x.entry x.rewrite; new = x.new; more = x.more; begins = x.begins }
+
       pub images : HasImages (rule_at r) pages c.state.log
       images = record { each = λ k e at. image_of e (has.each k e at); one = has.one }
 
@@ -261,29 +274,56 @@ module _ {L G : Type 0} (d : Devices L G) (m : Manager L G) (r : RelationFork) (
           (λ (x : HasDurableEntry (rule_at r) c.state.log (file_at d.synced log known) block old new). x)
           (each_either block old new was at unfailed)
 
-      -- after the log's bytes there is only what a failure left
-      begins_with : (mark : Option ℕ) → IsLog d log mark c.state.device → (mark ≡ None → c.state.device.bytes ≡ log_bytes c.state.names c.state.log) → BeginsWith c.state.names c.state.log (file_at d.synced log known)
-      begins_with None device whole = record { rest = []; begins = λ some. absurd (some refl); short = omega arith; is_bytes = sym (device.bytes known told) ∙ whole refl ∙ sym (append-nil (log_bytes c.state.names c.state.log)) }
-      begins_with (Some p) device whole =
-          let left = c.laws.rest.behind in
-          record {
-            rest = left.rest;
-            begins = λ some. subst (λ (end : ℕ). BeginsRecord false c.state.names end left.rest) c.laws.invariant.ends (subst (λ (may : Bool). BeginsRecord may c.state.names c.state.end left.rest) c.opened.ranges (left.begins some));
-            short = left.short;
-            is_bytes = sym (device.bytes known told) ∙ left.is_bytes;
-          }
+      -- a log that is down counted a fault
+      down_counted : d.log_faults (log_of m) ≡ 0 → (p : ℕ) → IsLog d log (Some p) c.state.device → 0 < d.log_faults log
+      down_counted none p device =
+          let law = c.laws.invariant.device.columns 0 (omega arith) in
+          let risen : HasRisen c.state.log_faults c.state.device.faults = law.rose (λ no. let e = sym device.down ∙ no in absurd (cc)) in
+          let rose = risen_rose c.state.log_faults c.state.device.faults risen in
+          let first = c.opened.log_faults in
+          let last = c.device.faults in
+          omega (arith, none, rose, first, last)
 
-      pub leaves_either : ((lane : L) → IfSome (d.contents lane) AreFullPages) → HasRewrites (rule_at r) (blocks_in m 0 r.fork) c.state.known c.state.origin c.state.log
-          → LeavesEither (rule_at r) (names_of r) base pages (pages_after d.contents r lanes pages) (failed_after d.failed_writes r lanes) (file_at d.synced log known)
-      leaves_either whole has = record {
-        law = c.laws.invariant.log;
-        log = c.state.log;
-        based = c.opened.base ∙ started.based;
-        low = (let ends = c.laws.invariant.ends in let limit = c.laws.invariant.limit in omega arith);
-        begins = subst (λ (names : ℕ → List ℕ). BeginsWith names c.state.log (file_at d.synced log known)) names_are (begins_with c.mark c.device c.bytes);
-        images = images has;
-        counted = pages_long r.fork (map d.contents lanes) 0 pages;
-        full = pages_full whole;
-        each = each_either;
-        log_first = first;
-      }
+      -- The file begins with the log's bytes, and after them there is only what a failure left, which the log counted
+      abbrev BeginsCounted : (ℕ → List ℕ) → Type 0
+      BeginsCounted names = (x : BeginsWith (rule_at r) names pages c.state.log (file_at d.synced log known)) × (x.rest ≢ [] → 0 < d.log_faults log)
+
+      begins_with : d.log_faults (log_of m) ≡ 0 → (mark : Option ℕ) → IsLog d log mark c.state.device → (mark ≡ None → c.state.device.bytes ≡ log_bytes c.state.names c.state.log) → (mark ≢ None → c.laws.rest.behind.rest ≢ [] → BeginsNext (rule_at r) c.state.names pages c.state.log c.laws.rest.behind.rest)
+          → BeginsCounted c.state.names
+      begins_with none None device whole next = (
+        record { rest = []; begins = λ some. absurd (some refl); short = omega arith; is_bytes = sym (device.bytes known told) ∙ whole refl ∙ sym (append-nil (log_bytes c.state.names c.state.log)) },
+        λ some. absurd (some refl),
+      )
+      begins_with none (Some p) device whole next = (
+        record {
+          rest = c.laws.rest.behind.rest;
+          begins = next (λ empty. absurd (cc));
+          short = c.laws.rest.behind.short;
+          is_bytes = sym (device.bytes known told) ∙ c.laws.rest.behind.is_bytes;
+        },
+        λ some. down_counted none p device,
+      )
+
+      pub leaves_either : d.log_faults (log_of m) ≡ 0 → ((lane : L) → IfSome (d.contents lane) AreFullPages) → HasRewrites (rule_at r) (blocks_in m 0 r.fork) c.state.known c.state.origin c.state.log
+          → (c.laws.rest.behind.rest ≢ [] → c.mark ≢ None → BeginsRewrite (rule_at r) (blocks_in m 0 r.fork) c.state c.laws.rest.behind.rest)
+          → (x : LeavesEither (rule_at r) (names_of r) base pages (pages_after d.contents r lanes pages) (failed_after d.failed_writes r lanes) (file_at d.synced log known)) × (x.begins.rest ≢ [] → 0 < d.log_faults log)
+      leaves_either none whole has left = by_begins (subst BeginsCounted names_are (begins_with none c.mark c.device c.bytes (λ down some. begins_next has c.laws.rest.behind.rest (left some down))))
+        where
+          by_begins : (b : BeginsCounted (names_of r))
+              → (x : LeavesEither (rule_at r) (names_of r) base pages (pages_after d.contents r lanes pages) (failed_after d.failed_writes r lanes) (file_at d.synced log known)) × (x.begins.rest ≢ [] → 0 < d.log_faults log)
+          by_begins b = (
+            record {
+              law = c.laws.invariant.log;
+              log = c.state.log;
+              based = c.opened.base ∙ started.based;
+              low = (let ends = c.laws.invariant.ends in let limit = c.laws.invariant.limit in omega arith);
+              begins = b.0;
+              images = images has;
+              counted = pages_long r.fork (map d.contents lanes) 0 pages;
+              were_full = each_full pages (was_full whole);
+              full = pages_full whole;
+              each = each_either;
+              log_first = first;
+            },
+            b.1,
+          )

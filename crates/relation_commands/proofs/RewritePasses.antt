@@ -22,14 +22,14 @@ use Rattle.page_jobs.specs.Reads.{HasNoTokens}
 use Rattle.page_jobs.specs.Relations.{MeetNothing}
 use Rattle.page_jobs.specs.RewriteCloses.{PutsNoMore, RewritesAlone}
 use Rattle.page_jobs.specs.RewriteJobs.{RewriteParts}
-use Rattle.page_jobs.proofs.Backends.{IsGiven, all_of, came_back, new_put_nothing, puts_nothing}
+use Rattle.page_jobs.proofs.Backends.{IsGiven, all_of, came_back, new_put_nothing, new_tore_nothing, puts_nothing}
 use Rattle.page_jobs.proofs.RewriteBackends.{each_given}
 use Rattle.page_jobs.proofs.Standing.{inside, there}
 use Rattle.relation_commands.specs.Checkpointing.{ChecksByLast, StoresAll}
 
 -- a pass that kept its calls put nothing more
-puts_no_more : (q z : PassState) → z.view.calls ≡ q.view.calls → PutsNoMore q z
-puts_no_more q z same = record { more = []; calls = same ∙ sym (append-nil q.view.calls); reads = puts_nothing }
+puts_no_more : (q z : PassState) → z.view.calls ≡ q.view.calls → z.view.torn ≡ q.view.torn → PutsNoMore q z
+puts_no_more q z same torn = record { more = []; calls = same ∙ sym (append-nil q.view.calls); reads = puts_nothing; torn = torn }
 
 module _ {L G : Type 0} (contents : L → Option Pages) (m : Manager L G) where
   free_each : (ps : List PassState) → ((i : ℕ) (p : PassState) → get_elem? ps i ≡ some p → HasNoTokens contents m p) → HaveNoTokens contents m ps
@@ -135,10 +135,11 @@ module _ {L G : Type 0} (contents : L → Option Pages) (m : Manager L G) where
         parts = parts;
         beside = stays;
         before = new_put_nothing contents m fork (length ps) ps new;
+        untorn = new_tore_nothing contents m fork (length ps) ps new;
         counted = checked.counted;
         after = λ i q z at now. ⊎_elim
-            (λ (same : z ≡ q). puts_no_more q z (ap (λ (x : PassState). x.view.calls) same))
-            (λ (x : (i ≡ length qs - 1) × Belongs contents m z × KeepsCallers q z). puts_no_more q z x.2.calls.calls)
+            (λ (same : z ≡ q). puts_no_more q z (ap (λ (x : PassState). x.view.calls) same) (ap (λ (x : PassState). x.view.torn) same))
+            (λ (x : (i ≡ length qs - 1) × Belongs contents m z × KeepsCallers q z). puts_no_more q z x.2.calls.calls x.2.torn)
             (after_check qs zs checked i q z at now);
         lanes = counted;
         some_lanes = m.table.some;

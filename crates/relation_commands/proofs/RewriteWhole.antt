@@ -1,7 +1,8 @@
 -- What a whole rewrite leaves of the pages and of the log.
 use Rattle.std.proofs.Common.{◌≡◌, ◌≢◌, ℕ, suc, ◌+◌, ◌*◌, ◌<◌, ◌^◌, Bool, true, false, List, [], ◌∷◌, length, map, if◌then◌else◌, Option, Some, None, refl, sym, ap, ◌∙◌, subst, ⊎_elim, unwrap_or, arith}
+use Rattle.std.proofs.lemmas.Bool.{both_ways}
 use Rattle.std.proofs.lemmas.List.Sums.{sum_by-cons}
-use Rattle.std.specs.Prelude.{IfSome}
+use Rattle.std.specs.Prelude.{IfSome, sum_by}
 use mathlib.Core.Logic.{dite}
 use mathlib.Core.Option.{some, some-injective}
 use native.Mathlib.Decide.{ℕ_discrete}
@@ -31,6 +32,7 @@ use Rattle.page_jobs.specs.Parts.{blocks_in}
 use Rattle.page_jobs.specs.RewriteCloses.{HoldEither, HoldRewritten}
 use Rattle.page_jobs.specs.RewriteEnds.{HasEntry, change_weight}
 use Rattle.page_jobs.specs.RewriteEnds as ends
+use Rattle.page_jobs.proofs.Counted.{some_write_failed}
 use Rattle.page_jobs.proofs.Standing.{inside, there}
 use Rattle.relation_commands.specs.declared.starting.RelationFork.{RelationFork}
 use Rattle.relation_commands.specs.RewriteResults.{HasDurableEntry, IsRewrittenFile}
@@ -168,6 +170,7 @@ module _ {L G : Type 0} (d : Devices L G) (m : Manager L G) (r : RelationFork) (
         law = c.laws.invariant.log;
         log = c.state.log;
         based = c.opened.base ∙ started.based;
+        low = (let ends = c.laws.invariant.ends in let limit = c.laws.invariant.limit in omega arith);
         is_bytes = sym (c.device.bytes known told) ∙ c.bytes (not_down none met c.mark c.device) ∙ ap (λ (names : ℕ → List ℕ). log_bytes names c.state.log) (names_are d m r base ps zs started few lanes log c);
         images = images d m r base ps zs started few lanes log c pages are has.rewrites;
         end = ended;
@@ -179,3 +182,10 @@ module _ {L G : Type 0} (d : Devices L G) (m : Manager L G) (r : RelationFork) (
             (λ block old new was at changes. let logged = changed_at block old new was at changes in (end_of logged.made.entry, logged.rewritten))
             (λ block old new was at kept. (same_at block old new was at kept).1);
       }
+
+  -- where a block's last write failed a lane counts it
+  pub failed_rose : sum_by d.write_faults (opened_of m.table) ≡ 0 → (pages : List Page) → ArePages d.contents r base (opened_of m.table) pages
+      → (block : ℕ) → block < r.blocks → failed_after d.failed_writes r lanes block ≡ true → 0 < sum_by d.write_faults lanes
+  failed_rose writes pages are block below bad = dite (ℕ_discrete (met_by_passes zs).writes 0)
+      (λ (unmet : (met_by_passes zs).writes ≡ 0). absurd (both_ways (failed_after d.failed_writes r lanes block) (unfailed unmet pages are block below) bad))
+      (λ (met : (met_by_passes zs).writes ≢ 0). some_write_failed d m.table.table.shared.key zs lanes log c started.counted writes (omega (arith, met)))

@@ -94,15 +94,15 @@ module _ {L : Type 0} (contents : L → Option Pages) (failed unsynced : L → M
   are_surveyed pages have =
       are_pages contents r (take n (read ++ drop (length read) lanes)) base pages (all_known contents failed reads so (take n (read ++ drop (length read) lanes))) (based pages have) (have_surveyed pages have)
 
-module _ {L G : Type 0} (contents : L → Option Pages) (failed : L → Marks) (bytes : G → Option (List ℕ)) (synced : G → ℕ) (r : RelationFork) (base : ℕ) (lanes : List L)
+module _ {L G : Type 0} (contents : L → Option Pages) (failed : L → Marks) (bytes : G → Option (List ℕ)) (synced : G → ℕ) (write_faults : L → ℕ) (log_faults : G → ℕ) (r : RelationFork) (base : ℕ) (lanes : List L)
     (same_totals : (pages others : List Page) → DifferInPositions pages others → totals_of others ≡ totals_of pages) where
   -- what a rewrite leaves of a sample
   pub rewritten : (v : Rewritten L) (log : G) (known : List ℕ) → bytes log ≡ Some known → (end : Result RewriteTotals RewriteError) → end ≡ Ok v.totals
-      → LeavesRewritten contents failed bytes synced r base lanes v.lanes.items log end
+      → LeavesRewritten contents failed bytes synced write_faults log_faults r base lanes v.lanes.items log end
       → v.log ≡ record { base = base; end = base + 8224 * v.totals.changed } → (pages : List Page) → ArePages contents r base lanes pages → base ≡ log_base pages
       → IsSampleRewritten contents r pages v
   rewritten v log known told end ends left span pages are based =
-      let leaves = subst (λ (e : Result RewriteTotals RewriteError). LeavesRewritten contents failed bytes synced r base lanes v.lanes.items log e) ends left in
+      let leaves = subst (λ (e : Result RewriteTotals RewriteError). LeavesRewritten contents failed bytes synced write_faults log_faults r base lanes v.lanes.items log e) ends left in
       let totals = leaves.totals pages are in
       let whole = leaves.whole pages known are told in
       let after = pages_after contents r v.lanes.items pages in

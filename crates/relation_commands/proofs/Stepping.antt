@@ -1,5 +1,5 @@
 -- From one step of a rewrite to the next.
-use Rattle.std.proofs.Common.{◌≡◌, ℕ, zero, suc, ◌+◌, ◌*◌, ◌%◌, ◌^◌, ◌<◌, ◌≤◌, true, false, List, [], ◌∷◌, get_or, length, map, Option, Some, None, Result, Ok, Err, refl, sym, ap, ◌∙◌, subst, is_some, unwrap_or, arith}
+use Rattle.std.proofs.Common.{◌≡◌, ℕ, zero, suc, ◌+◌, ◌*◌, ◌%◌, ◌^◌, ◌<◌, ◌≤◌, true, false, List, [], ◌∷◌, get_or, length, map, Option, Some, None, Result, Ok, Err, refl, sym, ap, ◌∙◌, subst, is_some, inl, inr, ⊎_elim, unwrap_or, arith}
 use Rattle.std.specs.Prelude.{All, IfErr, IfSome, IsSomeAnd, option_map, sum_by}
 use Rattle.std.specs.List.{range_with_len}
 use Rattle.std.specs.Str.{bytes_eq}
@@ -31,7 +31,7 @@ use Rattle.relation_commands.specs.Limits.{largest_lsn, log_base, rounded_up}
 use Rattle.relation_commands.specs.Listings.{NoneFails}
 use Rattle.relation_commands.specs.Request.{LoggedAsked}
 use Rattle.relation_commands.specs.RewriteCommand.{AreSurveyed, IsPutRefusal, MeetsLimit, StaysBelowLimit}
-use Rattle.relation_commands.specs.RewriteFiles.{BecomesOf, Changes, HostFiles, IsRewrittenAt, KeepsFiles, KeepsPaths, RewriteLeaves, RewritesFiles, files_of, fork_at, log_opened, pages_at, rewrote, untouched}
+use Rattle.relation_commands.specs.RewriteFiles.{BecomesOf, BeginsHead, BeginsLog, Changes, HostFiles, IsRewrittenAt, KeepsFiles, KeepsPaths, RewriteLeaves, RewritesFiles, files_of, fork_at, log_opened, pages_at, rewrote, untouched}
 use Rattle.relation_commands.specs.RewriteTexts.{rewrite_lines, rewrite_text}
 use Rattle.relation_commands.specs.Rewriting.{ArePages, HavePages}
 use Rattle.relation_commands.proofs.GivingBack.{same_bytes}
@@ -202,12 +202,12 @@ cleared_here path marks block same = rw same
 pub cleared_elsewhere : (path : List ℕ) (marks : PathMarks) (other : List ℕ) → bytes_eq other path ≡ false → cleared path marks other ≡ marks other
 cleared_elsewhere path marks other not = rw not
 
-module _ (r : LoggedAsked) (paths : Paths) (marks : PathMarks) (logs : Logs) (new : HostFiles) where
-  abbrev opened_files : HostFiles
-  opened_files = record { paths = paths; failed = cleared r.path marks; logs = logs }
+module _ (r : LoggedAsked) (paths : Paths) (marks : PathMarks) (logs : Logs) (writes faults : ℕ) (new : HostFiles) where
+  abbrev pub opened_files : HostFiles
+  opened_files = record { paths = paths; failed = cleared r.path marks; logs = logs; write_faults = writes; log_faults = faults }
 
-  abbrev first_files : HostFiles
-  first_files = record { paths = paths; failed = marks; logs = logs }
+  abbrev pub first_files : HostFiles
+  first_files = record { paths = paths; failed = marks; logs = logs; write_faults = writes; log_faults = faults }
 
   paths_since : (n : PathMarks) → NoneFails r.options.seg_blocks paths r.path (cleared r.path marks) n → NoneFails r.options.seg_blocks paths r.path marks n
   paths_since n none = record {
@@ -221,10 +221,23 @@ module _ (r : LoggedAsked) (paths : Paths) (marks : PathMarks) (logs : Logs) (ne
   changes_since : (after : List Page) (file : StoredLog) → Changes r opened_files new after file → Changes r first_files new after file
   changes_since after file changes = record { paths = changes.paths; logs = changes.logs; failed = λ other not. changes.failed other not ∙ cleared_elsewhere r.path marks other not }
 
+  head_since : BeginsHead r opened_files new → BeginsHead r first_files new
+  head_since begins = record { file = begins.file; low = begins.low; begun = begins.begun; pages = keeps_since begins.pages; logs = begins.logs; fault = begins.fault }
+
+  log_since : BeginsLog r opened_files new → BeginsLog r first_files new
+  log_since begins = record {
+    after = begins.after;
+    file = begins.file;
+    changes = changes_since begins.after begins.file begins.changes;
+    leaves = begins.leaves;
+    failed = begins.failed;
+    rest = begins.rest;
+  }
+
   leaves_since : RewriteLeaves r opened_files new → RewriteLeaves r first_files new
   leaves_since (untouched keeps) = untouched (record { pages = keeps_since keeps.pages; logs = keeps.logs })
-  leaves_since (log_opened file low begun keeps logs_are) = log_opened file low begun (keeps_since keeps) logs_are
-  leaves_since (rewrote after file changes either) = rewrote after file (changes_since after file changes) either
+  leaves_since (log_opened begins) = log_opened (head_since begins)
+  leaves_since (rewrote begins) = rewrote (log_since begins)
 
   rewritten_since : IsRewrittenAt r opened_files new → IsRewrittenAt r first_files new
   rewritten_since done = record { after = done.after; file = done.file; changes = changes_since done.after done.file done.changes; rewritten = done.rewritten; unfailed = done.unfailed }
@@ -232,24 +245,39 @@ module _ (r : LoggedAsked) (paths : Paths) (marks : PathMarks) (logs : Logs) (ne
   all_kept : KeepsFiles r opened_files new → KeepsFiles r first_files new
   all_kept keeps = record { pages = keeps_since keeps.pages; logs = keeps.logs }
 
-  files_since : (status : ℕ) → RewritesFiles r status opened_files new → RewritesFiles r status first_files new
+  pub files_since : (status : ℕ) → RewritesFiles r status opened_files new → RewritesFiles r status first_files new
   files_since status leaves = record {
     any = leaves_since leaves.any;
     done = λ zero. rewritten_since (leaves.done zero);
     refused = λ least most. all_kept (leaves.refused least most);
+    read_fault = λ four. ⊎_elim
+        (λ (keeps : KeepsFiles r opened_files new). inl (all_kept keeps))
+        (λ (begins : BeginsLog r opened_files new). inr (log_since begins))
+        (leaves.read_fault four);
+    write_fault = λ five. log_since (leaves.write_fault five);
     over_limit = λ nine. all_kept (leaves.over_limit nine);
     out_fault = λ seven. rewritten_since (leaves.out_fault seven);
   }
 
--- what is left of the files since the relation was opened
-pub since_opened : (r : LoggedAsked) (status : ℕ) (known known_now : Option Paths) (marks marks_now : PathMarks) (told told_now : Option Logs) (new : Option HostFiles)
-    → known_now ≡ known → IfSome known (λ _. marks_now ≡ cleared r.path marks) → told_now ≡ told
-    → BecomesOf (files_of known_now marks_now told_now) new (RewritesFiles r status) → BecomesOf (files_of known marks told) new (RewritesFiles r status)
-since_opened r status None known_now marks marks_now told told_now new known_same marks_are told_same becomes = tt
-since_opened r status (Some paths) known_now marks marks_now None told_now new known_same marks_are told_same becomes = tt
-since_opened r status (Some paths) known_now marks marks_now (Some logs) told_now new known_same marks_are told_same becomes =
-    let same = subst (λ (m : PathMarks). BecomesOf (files_of (Some paths) m (Some logs)) new (RewritesFiles r status)) marks_are
-    (subst (λ (t : Option Logs). BecomesOf (files_of (Some paths) marks_now t) new (RewritesFiles r status)) told_same
-    (subst (λ (k : Option Paths). BecomesOf (files_of k marks_now told_now) new (RewritesFiles r status)) known_same becomes)) in
-    becomes_some new (RewritesFiles r status (record { paths = paths; failed = cleared r.path marks; logs = logs })) (RewritesFiles r status (record { paths = paths; failed = marks; logs = logs }))
-    (λ n leaves. files_since r paths marks logs n status leaves) same
+-- what is left of the files since the relation was opened, which cleared the marks at its path
+pub opened_before : (r : LoggedAsked) (Leaves : HostFiles → HostFiles → Type 0) (known known_now : Option Paths) (marks marks_now : PathMarks) (told told_now : Option Logs) (writes writes_now faults faults_now : ℕ)
+    (new : Option HostFiles) → known_now ≡ known → IfSome known (λ _. marks_now ≡ cleared r.path marks) → told_now ≡ told → writes_now ≡ writes → faults_now ≡ faults
+    → ((paths : Paths) (logs : Logs) (n : HostFiles) → Leaves (opened_files r paths marks logs writes faults n) n → Leaves (first_files r paths marks logs writes faults n) n)
+    → BecomesOf (files_of known_now marks_now told_now writes_now faults_now) new Leaves → BecomesOf (files_of known marks told writes faults) new Leaves
+opened_before r Leaves None known_now marks marks_now told told_now writes writes_now faults faults_now new known_same marks_are told_same writes_same faults_same since becomes = tt
+opened_before r Leaves (Some paths) known_now marks marks_now None told_now writes writes_now faults faults_now new known_same marks_are told_same writes_same faults_same since becomes = tt
+opened_before r Leaves (Some paths) known_now marks marks_now (Some logs) told_now writes writes_now faults faults_now new known_same marks_are told_same writes_same faults_same since becomes =
+    let same = subst (λ (m : PathMarks). BecomesOf (files_of (Some paths) m (Some logs) writes faults) new Leaves) marks_are
+    (subst (λ (t : Option Logs). BecomesOf (files_of (Some paths) marks_now t writes faults) new Leaves) told_same
+    (subst (λ (k : Option Paths). BecomesOf (files_of k marks_now told_now writes faults) new Leaves) known_same
+    (subst (λ (n : ℕ). BecomesOf (files_of known_now marks_now told_now n faults) new Leaves) writes_same
+    (subst (λ (n : ℕ). BecomesOf (files_of known_now marks_now told_now writes_now n) new Leaves) faults_same becomes)))) in
+    becomes_some new (Leaves (record { paths = paths; failed = cleared r.path marks; logs = logs; write_faults = writes; log_faults = faults }))
+    (Leaves (record { paths = paths; failed = marks; logs = logs; write_faults = writes; log_faults = faults })) (since paths logs) same
+
+pub since_opened : (r : LoggedAsked) (status : ℕ) (known known_now : Option Paths) (marks marks_now : PathMarks) (told told_now : Option Logs) (writes writes_now faults faults_now : ℕ) (new : Option HostFiles)
+    → known_now ≡ known → IfSome known (λ _. marks_now ≡ cleared r.path marks) → told_now ≡ told → writes_now ≡ writes → faults_now ≡ faults
+    → BecomesOf (files_of known_now marks_now told_now writes_now faults_now) new (RewritesFiles r status) → BecomesOf (files_of known marks told writes faults) new (RewritesFiles r status)
+since_opened r status known known_now marks marks_now told told_now writes writes_now faults faults_now new known_same marks_are told_same writes_same faults_same becomes =
+    opened_before r (RewritesFiles r status) known known_now marks marks_now told told_now writes writes_now faults faults_now new known_same marks_are told_same writes_same faults_same
+    (λ paths logs n leaves. files_since r paths marks logs writes faults n status leaves) becomes

@@ -20,7 +20,7 @@ use Rattle.relation_commands.specs.Listings.{NoneFails, text_of}
 use Rattle.relation_commands.specs.RecoverFiles.{ForLogOf, RecoversFiles}
 use Rattle.relation_commands.specs.RecoverTexts.{recover_text}
 use Rattle.relation_commands.specs.Request.{Asked, IsCrowded, ListingAsked, crowding_of, is_rewriting, is_writing, listing, log_path_of, rewriting, recovering, sampling, options_of, path_of}
-use Rattle.relation_commands.specs.RewriteFiles.{HostFiles, RewritesFiles, files_of, pages_at}
+use Rattle.relation_commands.specs.RewriteFiles.{HostFiles, RewritesFiles, pages_at}
 use Rattle.relation_commands.specs.RewriteTexts.{rewrite_text}
 use Rattle.relation_commands.specs.Samples.{sample_text}
 use Rattle.sample_relation.specs.Relations.{sample_relation}
@@ -109,10 +109,6 @@ counts reads writes logs outs = record { reads = reads; writes = writes; logs = 
 abbrev pub counts_of : {H O : Type 0} → (H → ℕ) → (H → ℕ) → (H → ℕ) → (O → ℕ) → H → O → FaultCounts
 counts_of reads writes logs outs host out = counts (reads host) (writes host) (logs host) (outs out)
 
--- the files of a host, where it tells its paths and its logs
-abbrev pub files_in : {H : Type 0} → (H → Option Paths) → (H → PathMarks) → (H → Option Logs) → H → Option HostFiles
-files_in contents failed logs host = files_of (contents host) (failed host) (logs host)
-
 -- no count fell
 pub record CountsLater (old new : FaultCounts) : Type 0 where
   pub reads : old.reads ≤ new.reads
@@ -120,7 +116,7 @@ pub record CountsLater (old new : FaultCounts) : Type 0 where
   pub logs : old.logs ≤ new.logs
   pub outs : old.outs ≤ new.outs
 
--- what is left of the files by a listing, and by words that are no command: no path and no log changed, and no further block's last write failed
+-- what is left of the files by a listing: no path and no log changed, and no further block's last write failed
 pub record ListingKeeps (l : ListingAsked) (old new : HostFiles) : Type 0 where
   pub paths : new.paths ≡ old.paths
   pub logs : new.logs ≡ old.logs

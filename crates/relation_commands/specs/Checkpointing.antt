@@ -1,5 +1,5 @@
 -- The checkpoint at the end of a rewrite.
-use Rattle.std.specs.Prelude.{◌≡◌, ◌⊎◌, ℕ, ◌+◌, ◌-◌, ◌<◌, ◌≤◌, true, List, length, Option, Result, IfErr, IfOk}
+use Rattle.std.specs.Prelude.{◌≡◌, ◌⊎◌, ℕ, ◌+◌, ◌-◌, ◌<◌, ◌≤◌, true, List, length, Option, Result, Ok, IfErr, IfOk}
 use mathlib.Core.Option.{some}
 use lib.ListN.{get_elem?}
 use Rattle.block_tag.specs.declared.tag.Fork.{Fork}
@@ -24,6 +24,7 @@ use Rattle.backend_pass.specs.Passes.{KeepsCallers, PassState}
 use Rattle.checkpointer.specs.declared.ending.CheckpointError.{CheckpointError}
 use Rattle.page_jobs.specs.declared.ending.JobError.{JobError}
 use Rattle.page_jobs.specs.declared.ending.Totals.{Totals}
+use Rattle.page_jobs.specs.Beside.{LastDid}
 use Rattle.page_jobs.specs.Jobs.{workers_in}
 use Rattle.page_jobs.specs.Relations.{MeetNothing}
 use Rattle.page_jobs.specs.RewriteCloses.{RewritesAlone}
@@ -32,6 +33,7 @@ use Rattle.relation_commands.specs.declared.limits.PositionLimit.TheVariants.{Of
 use Rattle.relation_commands.specs.declared.rewriting.RewriteError.{RewriteError}
 use Rattle.relation_commands.specs.declared.rewriting.RewriteError.TheVariants.{ReadFault, WriteFault, LogFault, OutFault, Memory, OverLimit}
 use Rattle.relation_commands.specs.Rewriting.{checkpoint_error, rewrite_error, rewrite_totals_in}
+use Rattle.relation_commands.specs.Rounds.{MakesRounds}
 
 -- The view has swept each of so many lanes up to a position that is at least this one
 pub record SweepsPast (lanes front : ℕ) (v : View) : Type 0 where
@@ -80,14 +82,6 @@ abbrev pub LastMeets : {L G : Type 0} → (L → Option Pages) → FrameTable L 
 LastMeets contents t ps qs e = (p q : PassState) → get_elem? ps (length ps - 1) ≡ some p → get_elem? qs (length ps - 1) ≡ some q → PassMeets contents t p.view q.view e
 
 module _ {L G : Type 0} (contents : L → Option Pages) (m : Manager L G) (fork : Fork) where
-  -- The passes `ps`, which were `qs` after the job, rewrote all blocks, and then, as `zs`, have stored what was logged; none met a fault
-  pub record StoresWhole (ps qs zs : List PassState) (totals : RewriteTotals) : Type 0 where
-    pub counts : Totals
-    pub all : RewritesFork contents m 0 fork (workers_in ps) (workers_in qs) counts
-    pub totals_are : totals ≡ rewrite_totals_in counts
-    pub stores : StoresAll (lanes_in m.table) qs zs
-    pub met : MeetNothing ps zs
-
   -- The job ended early, for this reason, and nothing was done after it; or it was whole, and the checkpoint was refused
   abbrev pub EndsEarly : List PassState → List PassState → List PassState → RewriteError → Type 0
   EndsEarly ps qs zs e =
@@ -95,12 +89,22 @@ module _ {L G : Type 0} (contents : L → Option Pages) (m : Manager L G) (fork 
       ⊎ ((why : CheckpointError) × (e ≡ checkpoint_error why) × LastMeets contents m.table qs zs (checkpoint_error why)
       × ((counts : Totals) × RewritesFork contents m 0 fork (workers_in ps) (workers_in qs) counts))
 
-  -- The passes `ps` made a rewrite, and where that was whole the last of them a checkpoint. No other page was put, and all passes can be given back
-  pub record StoresRewrite (ps zs : List PassState) (end : Result RewriteTotals RewriteError) : Type 0 where
-    -- after the job they were these
-    pub qs : List PassState
-    pub alone : RewritesAlone contents m 0 fork ps qs zs
-    pub given : AreAll m zs
-    pub checked : ChecksByLast contents m qs zs
-    pub whole : IfOk end (StoresWhole ps qs zs)
-    pub early : IfErr end (EndsEarly ps qs zs)
+  module _ (rounds : ℕ) where
+    -- The passes `ps`, which were `qs` after the job, rewrote all blocks, beside which the last one made so many rounds, and then, as `zs`, have stored what was logged; none met a fault
+    pub record StoresWhole (ps qs zs : List PassState) (totals : RewriteTotals) : Type 0 where
+      pub counts : Totals
+      pub all : RewritesFork contents m 0 fork (workers_in ps) (workers_in qs) counts
+      pub totals_are : totals ≡ rewrite_totals_in counts
+      pub beside : LastDid (λ p q. MakesRounds contents m rounds p q (Ok tt)) ps qs
+      pub stores : StoresAll (lanes_in m.table) qs zs
+      pub met : MeetNothing ps zs
+
+    -- The passes `ps` made a rewrite, and where that was whole the last of them a checkpoint. No other page was put, and all passes can be given back
+    pub record StoresRewrite (ps zs : List PassState) (end : Result RewriteTotals RewriteError) : Type 0 where
+      -- after the job they were these
+      pub qs : List PassState
+      pub alone : RewritesAlone contents m 0 fork ps qs zs
+      pub given : AreAll m zs
+      pub checked : ChecksByLast contents m qs zs
+      pub whole : IfOk end (StoresWhole ps qs zs)
+      pub early : IfErr end (EndsEarly ps qs zs)

@@ -18,3 +18,4 @@ pub mod RewriteCommand
 pub mod RecoverCommand
 pub mod SampleSteps
 pub mod RecoverRewrite
+pub mod ToldLogs

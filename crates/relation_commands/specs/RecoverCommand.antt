@@ -1,5 +1,5 @@
 -- The steps of a recovery of a host's relation: how redo over its lanes ends, and what it tells.
-use Rattle.std.specs.Prelude.{◌≡◌, ◌≤◌, ◌⊎◌, ℕ, List, Option, IfOk, IfSome, IsErrOf, OnErr, OnOk, Result, length, map}
+use Rattle.std.specs.Prelude.{◌≡◌, ◌≢◌, ◌≤◌, ◌⊎◌, ℕ, List, Option, IfErr, IfOk, IfSome, IsErrOf, OnErr, OnOk, Result, length, map}
 use Rattle.block_tag.specs.declared.catalogue.RelEntry.{RelEntry}
 use Rattle.log_device.specs.Faults.{Rose}
 use Rattle.segment_store.specs.Contents.{Marks, Pages}
@@ -8,7 +8,7 @@ use Rattle.log_recovery.specs.declared.error.RecoverError.{RecoverError}
 use Rattle.log_recovery.specs.declared.error.RecoverError.TheVariants as recovery
 use Rattle.log_recovery.specs.declared.recovering.Redone.{Redone}
 use Rattle.log_recovery.specs.Records.{HasBadHead}
-use Rattle.log_recovery.specs.Redo.{AnyRose, IsRecovered, LeavesPart, NoneFell, Tells}
+use Rattle.log_recovery.specs.Redo.{AnyRose, IsRecovered, LeavesPart, MarksNone, NoneFell, Tells}
 use Rattle.relation_commands.specs.Request.{LoggedAsked}
 use Rattle.relation_commands.specs.RecoverFiles.{ForLogOf}
 
@@ -19,6 +19,8 @@ module _ {L S : Type 0} (contents : L → Option Pages) (failed room : L → Mar
       (source source_now : S) (result : Result Redone RecoverError) : Type 0 where
     pub redone : IfOk result (IsRecovered contents failed relations (left source) lanes lanes_now)
     pub part : OnErr result (LeavesPart contents failed relations (left source) lanes lanes_now)
+    pub marked : IfErr result (λ error. error ≢ recovery.WriteFault
+        → MarksNone contents failed lanes lanes_now)
     pub rooms : map room lanes_now ≡ map room lanes
     pub count : length lanes_now ≡ length lanes
     pub bad : IsErrOf result recovery.BadLog → (lanes_now ≡ lanes)

@@ -7,6 +7,7 @@ use Rattle.block_tag.specs.declared.catalogue.RelEntry.{RelEntry}
 use Rattle.block_tag.specs.declared.tag.Fork.TheVariants.{Main}
 use Rattle.block_tag.specs.Names.{packed_tag}
 use Rattle.command_line.specs.RelationPath.{relation_number}
+use Rattle.log_device.specs.Faults.{Rose}
 use Rattle.log_device.specs.MemoryLog.{StoredLog}
 use Rattle.segment_store.specs.Growth.{extended}
 use Rattle.segment_store.specs.Lanes.{tag_at}
@@ -87,12 +88,14 @@ IsEnteredIn r logs block = IsSomeAnd (logs r.log) (λ file. (log : Log)
     × (IsLogOf (catalog_of r.path) file.bytes log × IsEntered log.entries (word_at block)))
 
 -- What a recovery leaves with any end: all as it was, or the relation after some first entries of
--- the log; a block whose last write failed has an entry in the log, too
+-- the log; a block whose last write failed has an entry in the log, too, and that comes to be so
+-- only where the count of such faults rose
 pub data RecoverLeaves (r : LoggedAsked) (old new : HostFiles) : Type 0 where
   left_alone : KeepsFiles r old new → RecoverLeaves r old new
   redone_upto : (es : List Entry) → AreFirstIn r old.logs es → AreValid es × AreImages es
       → RecoversTo r es old new
-      → ((block : ℕ) → new.failed r.path block ≡ true → IsEnteredIn r old.logs block)
+      → ((block : ℕ) → new.failed r.path block ≡ true
+      → IsEnteredIn r old.logs block × Rose old.write_faults new.write_faults)
       → RecoverLeaves r old new
 
 -- The recovery was done: the relation is as after all entries of the log that the file is, and no

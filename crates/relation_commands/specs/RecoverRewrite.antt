@@ -1,5 +1,5 @@
 -- What a recovery makes of what is left of a rewrite: of its log, and of the relation's pages.
-use Rattle.std.specs.Prelude.{◌≡◌, ℕ, ◌-◌, ◌%◌, ◌^◌, ◌<◌, ◌≤◌, Bool, true, false, List, [], ◌∷◌, ◌++◌, length, Option, Some, unwrap_or}
+use Rattle.std.specs.Prelude.{◌≡◌, ℕ, ◌+◌, ◌-◌, ◌%◌, ◌^◌, ◌<◌, ◌≤◌, Bool, true, false, List, [], ◌∷◌, ◌++◌, length, Option, Some, unwrap_or}
 use mathlib.Core.Option.{some}
 use lib.ListN.{get_elem?}
 use Rattle.block_tag.specs.declared.catalogue.RelEntry.{RelEntry}
@@ -7,7 +7,7 @@ use Rattle.block_tag.specs.declared.tag.Fork.TheVariants.{Main}
 use Rattle.command_line.specs.RelationPath.{relation_number}
 use Rattle.log_device.specs.MemoryLog.{StoredLog}
 use Rattle.pin_core.specs.State.{Page}
-use Rattle.history_core.specs.Log.{Entry, IsEntryOf, Log, end_of, page_after, record_size, tag_in}
+use Rattle.history_core.specs.Log.{Entry, IsEntryOf, Log, end_of, head_size, log_end, page_after, record_size, tag_in}
 use Rattle.history_core.specs.State.{last_position}
 use Rattle.history_core.specs.Unentered.{IsEntered}
 use Rattle.log_recovery.specs.Laws.{without_backends}
@@ -16,7 +16,7 @@ use Rattle.relation_commands.specs.Limits.{log_base}
 use Rattle.relation_commands.specs.RecoverFiles.{IsRecoveredAt, RecoverLeaves, catalog_of, word_at}
 use Rattle.relation_commands.specs.Request.{LoggedAsked, recover_options}
 use Rattle.relation_commands.specs.RewriteFiles.{HostFiles, IsHeadBegun, fork_at, main_rule, pages_at}
-use Rattle.relation_commands.specs.RewriteResults.{IsDurable, LeavesEither}
+use Rattle.relation_commands.specs.RewriteResults.{HasImages, IsDurable, LeavesEither}
 use Rattle.relation_commands.specs.Starting.{names_of}
 
 -- What a crash that loses what wasn't synced leaves of a rewrite's log and pages: a prefix of the
@@ -46,19 +46,28 @@ pub data IsRecoveredBlock (log : Log) (rest : List ℕ) (es : List Entry) (block
   -- its last write failed, and no entry of it is read
   torn_before : (IsEntered es (word_at block) → ⊥) → failed ≡ true
       → IsRecoveredBlock log rest es block old failed now
-  -- the file has one whole record more, which is of it and no entry of the log
-  past_the_log : (d : Entry) → es ≡ without_backends (log.entries ++ d ∷ [])
-      → tag_in d.change ≡ Some (word_at block) → length rest ≡ record_size
+  -- the rule changes it and the log has no entry of it, but the record that would be the log's next
+  -- one is its own, stands whole in the file and is read: it has the page of that
+  by_the_next : (e : Entry) → es ≡ without_backends (log.entries ++ e ∷ [])
+      → length rest ≡ record_size → tag_in e.change ≡ Some (word_at block)
+      → (IsEntered log.entries (word_at block) → ⊥) → main_rule.changes old ≡ true
+      → now ≡ Some (main_rule.rewritten old (log_end log + record_size))
       → IsRecoveredBlock log rest es block old failed now
 
 -- What is read of a rewrite's log, of which these bytes are left, recovers the rewrite's pages
 pub record Recovers (path : List ℕ) (log : Log) (rest : List ℕ) (file : StoredLog)
     (before left : List Page) (failed : ℕ → Bool) (bytes : List ℕ) : Type 0 where
   pub head : HasBadHead bytes → ⊥
-  -- each block with a durable entry has one among those that are read
+  -- each block with an entry whose whole record is left has one among those that are read
+  pub whole : (read : Log) → IsLogOf (catalog_of path) bytes read
+      → (block k : ℕ) (e : Entry) → IsEntryOf log.entries (word_at block) k e
+      → head_size + end_of e ≤ log.base + length bytes → IsEntered read.entries (word_at block)
+  -- and so has each with a durable one
   pub durable : (read : Log) → IsLogOf (catalog_of path) bytes read
       → (block k : ℕ) (e : Entry) → IsEntryOf log.entries (word_at block) k e
       → IsDurable log file e → IsEntered read.entries (word_at block)
+  -- each entry that is read is what the rule makes of one of the pages, and a block has one at most
+  pub images : (read : Log) → IsLogOf (catalog_of path) bytes read → HasImages main_rule before read
   pub each : (read : Log) → IsLogOf (catalog_of path) bytes read
       → (block : ℕ) (old page : Page) → get_elem? before block ≡ some old
       → get_elem? left block ≡ some page

@@ -1,8 +1,9 @@
 -- What a rewrite leaves of the paths and the logs of a host.
-use Rattle.std.specs.Prelude.{◌≡◌, ℕ, ◌≤◌, ◌<◌, false, List, Option, Some, None, IfSome, IsSomeAnd, if◌then◌else◌, unwrap_or, length, ◌++◌}
+use Rattle.std.specs.Prelude.{◌≡◌, ◌≢◌, ◌⊎◌, ℕ, ◌≤◌, ◌<◌, false, true, List, [], Option, Some, None, IfSome, IsSomeAnd, if◌then◌else◌, unwrap_or, length, ◌++◌}
 use Rattle.std.specs.Str.{bytes_eq}
 use Rattle.block_tag.specs.declared.tag.Fork.TheVariants.{Main}
 use Rattle.command_line.specs.RelationPath.{relation_number}
+use Rattle.log_device.specs.Faults.{Rose}
 use Rattle.log_device.specs.MemoryLog.{StoredLog}
 use Rattle.segment_store.specs.Logs.{Logs, with_log}
 use Rattle.segment_store.specs.Paths.{OpenAt, PathMarks, Paths}
@@ -19,17 +20,32 @@ use Rattle.relation_commands.specs.Request.{LoggedAsked}
 use Rattle.relation_commands.specs.RewriteResults.{IsRewrittenFile, LeavesEither}
 use Rattle.relation_commands.specs.Starting.{names_of}
 
--- The files of a host: the segments at each path, the blocks whose last write failed, and the logs
+-- The files of a host: the segments at each path, the blocks whose last write failed, and the logs;
+-- with how many writes and syncs of lanes have failed, and how many openings and calls of logs
 pub record HostFiles : Type 0 where
   pub paths : Paths
   pub failed : PathMarks
   pub logs : Logs
+  pub write_faults : ℕ
+  pub log_faults : ℕ
 
 -- where its paths and its logs are known
-abbrev pub files_of : Option Paths → PathMarks → Option Logs → Option HostFiles
-files_of (Some paths) failed (Some logs) = Some (record { paths = paths; failed = failed; logs = logs })
-files_of (Some paths) failed None = None
-files_of None failed logs = None
+abbrev pub files_of : Option Paths → PathMarks → Option Logs → ℕ → ℕ → Option HostFiles
+files_of (Some paths) failed (Some logs) writes faults = Some (record {
+  paths = paths;
+  failed = failed;
+  logs = logs;
+  write_faults = writes;
+  log_faults = faults;
+})
+files_of (Some paths) failed None writes faults = None
+files_of None failed logs writes faults = None
+
+-- the same of a host that tells them
+abbrev pub files_in : {H : Type 0} → (H → Option Paths) → (H → PathMarks) → (H → Option Logs)
+    → (H → ℕ) → (H → ℕ) → H → Option HostFiles
+files_in contents failed logs writes faults host =
+    files_of (contents host) (failed host) (logs host) (writes host) (faults host)
 
 -- where the files are known, this became of them
 abbrev pub BecomesOf : Option HostFiles → Option HostFiles → (HostFiles → HostFiles → Type 0) → Type 0
@@ -74,15 +90,33 @@ pub record IsHeadBegun (base : ℕ) (bytes : List ℕ) : Type 0 where
   pub more : List ℕ
   pub whole : bytes ++ more ≡ head_bytes base
 
+-- The log was emptied and a prefix of its head put, as a call of it failed; no page was written
+pub record BeginsHead (r : LoggedAsked) (old new : HostFiles) : Type 0 where
+  pub file : StoredLog
+  pub low : log_base (pages_at r old.paths) ≤ last_position
+  pub begun : IsHeadBegun (log_base (pages_at r old.paths)) file.bytes
+  pub pages : KeepsPaths r old new
+  pub logs : new.logs ≡ with_log r.log file old.logs
+  pub fault : Rose old.log_faults new.log_faults
+
+-- The log was begun, and each page is as before or that of its entry, or its last write failed
+pub record BeginsLog (r : LoggedAsked) (old new : HostFiles) : Type 0 where
+  pub after : List Page
+  pub file : StoredLog
+  pub changes : Changes r old new after file
+  pub leaves : LeavesEither main_rule (names_of (fork_at r old.paths))
+      (log_base (pages_at r old.paths)) (pages_at r old.paths) after (new.failed r.path) file
+  -- a block's last write comes to have failed only where the count of such faults rose
+  pub failed : (block : ℕ) → block < length (pages_at r old.paths)
+      → new.failed r.path block ≡ true → Rose old.write_faults new.write_faults
+  -- and something follows the log's bytes only where that of the log's faults did
+  pub rest : leaves.begins.rest ≢ [] → Rose old.log_faults new.log_faults
+
 -- What a rewrite leaves with any end
 pub data RewriteLeaves (r : LoggedAsked) (old new : HostFiles) : Type 0 where
   untouched : KeepsFiles r old new → RewriteLeaves r old new
-  -- the log was emptied, a prefix of its head put, and no page written
-  log_opened : (file : StoredLog) → log_base (pages_at r old.paths) ≤ last_position → IsHeadBegun (log_base (pages_at r old.paths)) file.bytes → KeepsPaths r old new → new.logs ≡ with_log r.log file old.logs
-      → RewriteLeaves r old new
-  -- each page is as before or that of its entry, or its last write failed
-  rewrote : (after : List Page) (file : StoredLog) → Changes r old new after file
-      → LeavesEither main_rule (names_of (fork_at r old.paths)) (log_base (pages_at r old.paths)) (pages_at r old.paths) after (new.failed r.path) file → RewriteLeaves r old new
+  log_opened : BeginsHead r old new → RewriteLeaves r old new
+  rewrote : BeginsLog r old new → RewriteLeaves r old new
 
 -- The rewrite was done: the relation is the rewritten one, the file is that of its log, and no block's last write failed
 pub record IsRewrittenAt (r : LoggedAsked) (old new : HostFiles) : Type 0 where
@@ -97,6 +131,10 @@ pub record RewritesFiles (r : LoggedAsked) (status : ℕ) (old new : HostFiles) 
   pub any : RewriteLeaves r old new
   pub done : status ≡ 0 → IsRewrittenAt r old new
   pub refused : 1 ≤ status → status ≤ 3 → KeepsFiles r old new
+  -- the log wasn't opened yet, or its head was whole
+  pub read_fault : status ≡ 4 → KeepsFiles r old new ⊎ BeginsLog r old new
+  -- only pages are written then
+  pub write_fault : status ≡ 5 → BeginsLog r old new
   pub over_limit : status ≡ 9 → KeepsFiles r old new
   -- the text is put last
   pub out_fault : status ≡ 7 → IsRewrittenAt r old new

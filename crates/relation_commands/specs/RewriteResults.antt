@@ -9,9 +9,8 @@ use Rattle.page_layout.specs.Positions.{DifferInPositions}
 use Rattle.page_layout.specs.Rewritten.{rewritten_page}
 use Rattle.page_layout.specs.Soundness.{is_sound_page}
 use Rattle.pin_core.specs.State.{Page}
-use Rattle.history_core.specs.Log.{Entry, IsEntryOf, Log, LogLaw, end_of, head_size, log_bytes, log_end, record_size}
+use Rattle.history_core.specs.Log.{Entry, IsEntryOf, Log, LogLaw, end_of, head_size, log_bytes, log_end, record_bytes, record_size}
 use Rattle.history_core.specs.State.{last_position}
-use Rattle.history_core.specs.Rest.{BeginsRecord}
 use Rattle.page_jobs.specs.RewriteEnds.{HasEntry, IsPageEntry}
 use Rattle.page_jobs.specs.Rewrites.{Rule}
 use Rattle.relation_commands.specs.RewriteTexts.{changed_pages}
@@ -29,11 +28,21 @@ pub record HasImages (r : Rule) (pages : List Page) (log : Log) : Type 0 where
   pub each : (k : ℕ) (e : Entry) → get_elem? log.entries k ≡ some e → IsImageOf r pages e
   pub one : (j k tag : ℕ) (d e : Entry) → IsEntryOf log.entries tag j d → IsEntryOf log.entries tag k e → j ≡ k
 
--- The bytes of the log's file begin with those of the log, and what a failure left after them are the first bytes of a record that would be the next; `names` is how the log names a block
-pub record BeginsWith (names : ℕ → List ℕ) (log : Log) (file : StoredLog) : Type 0 where
+-- These are the first bytes of the record that would be the log's next one, of such an image, whose block has no entry; `names` is how the log names a block
+pub record BeginsNext (r : Rule) (names : ℕ → List ℕ) (pages : List Page) (log : Log) (bytes : List ℕ) : Type 0 where
+  pub entry : Entry
+  pub starts : entry.start ≡ log_end log
+  pub room : end_of entry ≤ last_position
+  pub image : IsImageOf r pages entry
+  pub new : HasEntry log (r.tag image.block) → ⊥
+  pub more : List ℕ
+  pub begins : bytes ++ more ≡ record_bytes names entry
+
+-- The bytes of the log's file begin with those of the log, and what a failure left after them begins such a record
+pub record BeginsWith (r : Rule) (names : ℕ → List ℕ) (pages : List Page) (log : Log) (file : StoredLog) : Type 0 where
   pub rest : List ℕ
   pub is_bytes : file.bytes ≡ log_bytes names log ++ rest
-  pub begins : rest ≢ [] → BeginsRecord false names (log_end log) rest
+  pub begins : rest ≢ [] → BeginsNext r names pages log rest
   pub short : length rest ≤ record_size
 
 -- the record of an entry is durable in the log's file
@@ -58,9 +67,10 @@ pub record LeavesEither (r : Rule) (names : ℕ → List ℕ) (base : ℕ) (befo
   pub based : log.base ≡ base
   -- it ends at the last position or before it
   pub low : log_end log ≤ last_position
-  pub begins : BeginsWith names log file
+  pub begins : BeginsWith r names before log file
   pub images : HasImages r before log
   pub counted : length after ≡ length before
+  pub were_full : AreFull before
   pub full : AreFull after
   pub each : (block : ℕ) (old new : Page) → get_elem? before block ≡ some old → get_elem? after block ≡ some new → failed block ≡ false
       → (new ≡ old) ⊎ HasDurableEntry r log file block old new
@@ -77,6 +87,8 @@ pub record IsRewrittenFile (r : Rule) (names : ℕ → List ℕ) (base : ℕ) (b
   pub log : Log
   pub law : LogLaw log
   pub based : log.base ≡ base
+  -- it ends at the last position or before it
+  pub low : log_end log ≤ last_position
   pub is_bytes : file.bytes ≡ log_bytes names log
   pub images : HasImages r before log
   pub end : log_end log ≡ base + record_size * changed_pages before

@@ -1,5 +1,5 @@
 -- What a rewrite leaves of the lanes and the log that it is given, and why it ends before its end.
-use Rattle.std.specs.Prelude.{◌≡◌, ◌<◌, ◌≤◌, ℕ, ◌+◌, Bool, true, false, All, List, length, map, Option, Some, Result, IfErr, IfOk, OnOk, MatchResult, is_some}
+use Rattle.std.specs.Prelude.{◌≡◌, ◌≢◌, ◌<◌, ◌≤◌, ℕ, ◌+◌, Bool, true, false, All, List, [], length, map, sum_by, Option, Some, Result, IfErr, IfOk, OnOk, MatchResult, is_some}
 use Rattle.segment_store.specs.Contents.{Marks, Pages}
 use Rattle.segment_store.specs.Lanes.{HoldPages, mark_in, tag_at}
 use Rattle.segment_store.specs.Restored.{pages_in}
@@ -90,11 +90,17 @@ module _ {L : Type 0} (contents : L → Option Pages) where
 abbrev pub failed_after : {L : Type 0} → (L → Marks) → RelationFork → List L → ℕ → Bool
 failed_after failed r lanes block = mark_in (map failed lanes) (tag_at r.fork block)
 
-module _ {L G : Type 0} (contents : L → Option Pages) (failed : L → Marks) (bytes : G → Option (List ℕ)) (synced : G → ℕ) where
+module _ {L G : Type 0} (contents : L → Option Pages) (failed : L → Marks) (bytes : G → Option (List ℕ)) (synced : G → ℕ)
+    (write_faults : L → ℕ) (log_faults : G → ℕ) where
   -- What a rewrite leaves of the lanes and of the log
   pub record LeavesRewritten (r : RelationFork) (base : ℕ) (lanes lanes' : List L) (log' : G) (end : Result RewriteTotals RewriteError) : Type 0 where
+    -- only where a call of the log failed something follows the log's bytes
     pub either : (pages : List Page) (known : List ℕ) → ArePages contents r base lanes pages → bytes log' ≡ Some known
-        → LeavesEither (rule_of 0 r.fork) (names_of r) base pages (pages_after contents r lanes' pages) (failed_after failed r lanes') (record { bytes = known; synced = synced log' })
+        → (x : LeavesEither (rule_of 0 r.fork) (names_of r) base pages (pages_after contents r lanes' pages) (failed_after failed r lanes') (record { bytes = known; synced = synced log' }))
+        × (x.begins.rest ≢ [] → 0 < log_faults log')
+    -- where a block's last write failed a lane counts it
+    pub marked : (pages : List Page) → ArePages contents r base lanes pages → (block : ℕ) → block < r.blocks
+        → failed_after failed r lanes' block ≡ true → 0 < sum_by write_faults lanes'
     pub whole : IfOk end (λ totals. (pages : List Page) (known : List ℕ) → ArePages contents r base lanes pages → bytes log' ≡ Some known
         → IsRewrittenFile (rule_of 0 r.fork) (names_of r) base pages (pages_after contents r lanes' pages) (record { bytes = known; synced = synced log' }))
     pub totals : IfOk end (λ totals. (pages : List Page) → ArePages contents r base lanes pages → totals ≡ rewrite_totals_of pages)

@@ -16,7 +16,9 @@ pub(crate) struct Rounds {
 }
 
 impl Rounds {
-    pub(crate) fn new(count: u32) -> Rounds {
+    pub(crate) fn new(count: u32) -> Rounds
+        ensures { result.count ≡ count }
+    {
         Rounds { count }
     }
 }

@@ -1,4 +1,8 @@
-//! The commands of `page_tool`: what a command line asks for, and what each command does over a host.
+//! The commands of `page_tool` over a host, whether of files or in memory: [`list_relation`], [`rewrite_relation`],
+//! [`recover_relation`], [`sample`]. [`read_request`] gets one from the command line.
+//!
+//! Each opens the relation, starts a manager, runs a job, closes the manager and gives the files back, also after a
+//! failure. Read them as an example of an engine. [`ToolError`] says what can go wrong.
 #![tactic(auto)]
 
 mod beside;
@@ -17,7 +21,7 @@ mod sampling;
 mod starting;
 
 pub use error::{Crowding, ToolError};
-pub use laws::{recoveries_are_repeated, rewrites_are_recovered};
+pub use laws::{logs_are_told, recoveries_are_repeated, rewrites_are_recovered};
 pub use limits::PositionLimit;
 pub use listing::{Listing, ListingError};
 pub use listing_command::list_relation;

@@ -1,18 +1,19 @@
 //! The blocks of a relation that is open are listed by the backends of a buffer manager.
-ghost use Rattle.std.specs.Prelude.{◌≡◌, ◌≤◌, ◌%◌, ◌^◌, List, IfOk, IfErr, OnOk, All, length, map, sum_by, vec_len};
+ghost use Rattle.std.specs.Prelude.{◌≡◌, ◌≤◌, ◌%◌, ◌^◌, List, Ok, IfOk, IfErr, OnOk, All, length, map, sum_by, vec_len};
 ghost use Rattle.log_device.specs.Bytes.{Puts};
 ghost use Rattle.segment_store.specs.Contents.{no_marks};
 ghost use Rattle.segment_store.specs.Lanes.{HasBlocks, HoldPages};
 ghost use Rattle.pin_core.specs.State.{Page};
 ghost use Rattle.command_line.specs.Numbers.{HasOptionsInRange};
 ghost use Rattle.frame_table.specs.Seats.{base_of, opened_of, relations_of};
-ghost use Rattle.page_jobs.specs.Beside.{StaysBeside};
+ghost use Rattle.page_jobs.specs.Beside.{LastDid, StaysBeside};
 ghost use Rattle.page_jobs.specs.Ending.{as_done};
 ghost use Rattle.page_jobs.specs.Jobs.{AllAtBase, EndsJob, HaveNoTokens, IsOrigin, ReadParts, workers_in};
 ghost use Rattle.page_jobs.specs.Relations.{IsCatalogOf, MeetNothing};
 ghost use Rattle.page_layout.specs.Scan.{totals_of};
 ghost use Rattle.relation_commands.specs.Causes.{HasListingCause, listing_end, listing_error, scan_totals_in};
 ghost use Rattle.relation_commands.specs.Listings.{LeavesLanes, text_of};
+ghost use Rattle.relation_commands.specs.Rounds.{MakesRounds};
 ghost use Rattle.relation_commands.specs.Starting.{IsStarted};
 
 use crate::beside::Rounds;
@@ -121,6 +122,10 @@ fn list_blocks<L: BlockLane + Send, R: Threads + Wait + Sync, O: Sink + Send, T:
     ensures passes { ReadParts L.contents manager.now 0 listed.relation.fork (workers_in passes.items) (workers_in result.passes.items) }
     ensures last { StaysBeside L.contents manager.now passes.items result.passes.items }
     ensures met { OnOk result.end (MeetNothing passes.items result.passes.items) }
+    // Beside them the last pass made so many rounds of the background writer.
+    ensures beside { OnOk result.end (LastDid
+        (λ p q. MakesRounds L.contents manager.now listed.rounds p q (Ok tt))
+        passes.items result.passes.items) }
     ensures text { (pages : List Page) → IsOrigin L.contents manager.now 0 listed.relation.fork pages → AllAtBase (base_of manager.now.table) (workers_in result.passes.items)
         → Puts (text_of listed.listing pages) (O.bytes out.old) (O.bytes out.new) (as_done result.end) }
     ensures totals { (pages : List Page) → IsOrigin L.contents manager.now 0 listed.relation.fork pages → AllAtBase (base_of manager.now.table) (workers_in result.passes.items)

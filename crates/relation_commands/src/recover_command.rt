@@ -13,7 +13,7 @@ ghost use Rattle.relation_commands.specs.RecoverFiles.{RecoversFiles, catalog_of
 ghost use Rattle.relation_commands.specs.RecoverTexts.{redone_lines};
 ghost use Rattle.relation_commands.specs.Request.{asked, options_of, recover_asked, recovering};
 ghost use Rattle.relation_commands.specs.RewriteCommand.{IsPutRefusal};
-ghost use Rattle.relation_commands.specs.RewriteFiles.{BecomesOf, files_of};
+ghost use Rattle.relation_commands.specs.RewriteFiles.{BecomesOf, files_in};
 ghost use Rattle.relation_commands.specs.Status.{status_of, status_of_error};
 
 use crate::error::ToolError;
@@ -84,9 +84,9 @@ fn redo_and_give_back<'a, H: Host>(
         (counts (H.read_faults host.old) (H.write_faults host.old) (H.log_faults host.old) 0)
         (counts (H.read_faults host.new) (H.write_faults host.new) (H.log_faults host.new) 0)
         result }
-    ensures files { BecomesOf
-        (files_of (H.contents host.old) (H.failed_writes host.old) (H.logs host.old))
-        (files_of (H.contents host.new) (H.failed_writes host.new) (H.logs host.new))
+    ensures files { let files = files_in H.contents H.failed_writes H.logs
+        H.write_faults H.log_faults in
+        BecomesOf (files host.old) (files host.new)
         (RecoversFiles (recover_asked request.now) (status_of result)) }
     ensures tells { IfOk result (TellsLogOf (recover_asked request.now) (H.logs host.old)) }
     ensures logs { H.logs host.new ≡ H.logs host.old }
@@ -122,9 +122,9 @@ fn redo_opened<'a, H: Host>(
         (counts (H.read_faults host.old) (H.write_faults host.old) (H.log_faults host.old) 0)
         (counts (H.read_faults host.new) (H.write_faults host.new) (H.log_faults host.new) 0)
         result }
-    ensures files { BecomesOf
-        (files_of (H.contents host.old) (H.failed_writes host.old) (H.logs host.old))
-        (files_of (H.contents host.new) (H.failed_writes host.new) (H.logs host.new))
+    ensures files { let files = files_in H.contents H.failed_writes H.logs
+        H.write_faults H.log_faults in
+        BecomesOf (files host.old) (files host.new)
         (RecoversFiles (recover_asked request.now) (status_of result)) }
     ensures tells { IfOk result (TellsLogOf (recover_asked request.now) (H.logs host.old)) }
     ensures logs { H.logs host.new ≡ H.logs host.old }
@@ -155,9 +155,9 @@ fn redo_relation<'a, H: Host>(
         (counts (H.read_faults host.old) (H.write_faults host.old) (H.log_faults host.old) 0)
         (counts (H.read_faults host.new) (H.write_faults host.new) (H.log_faults host.new) 0)
         result }
-    ensures files { BecomesOf
-        (files_of (H.contents host.old) (H.failed_writes host.old) (H.logs host.old))
-        (files_of (H.contents host.new) (H.failed_writes host.new) (H.logs host.new))
+    ensures files { let files = files_in H.contents H.failed_writes H.logs
+        H.write_faults H.log_faults in
+        BecomesOf (files host.old) (files host.new)
         (RecoversFiles (recover_asked request.now) (status_of result)) }
     ensures tells { IfOk result (TellsLogOf (recover_asked request.now) (H.logs host.old)) }
     ensures logs { H.logs host.new ≡ H.logs host.old }
@@ -215,9 +215,9 @@ pub fn recover_relation<'a, H: Host, O: Sink>(
         (O.faults out.old))
         (counts (H.read_faults host.new) (H.write_faults host.new) (H.log_faults host.new)
         (O.faults out.new)) result }
-    ensures files { BecomesOf
-        (files_of (H.contents host.old) (H.failed_writes host.old) (H.logs host.old))
-        (files_of (H.contents host.new) (H.failed_writes host.new) (H.logs host.new))
+    ensures files { let files = files_in H.contents H.failed_writes H.logs
+        H.write_faults H.log_faults in
+        BecomesOf (files host.old) (files host.new)
         (RecoversFiles (recover_asked request.now) (status_of result)) }
     ensures text { PutsLogOf (asked (Request.Recover request.now)) (H.logs host.old)
         (O.bytes out.old) (O.bytes out.new) result }

@@ -13,7 +13,7 @@ ghost use Rattle.relation_commands.specs.Answers.{CountsLater, EndsCommand, coun
 ghost use Rattle.relation_commands.specs.Limits.{largest_lsn, log_base};
 ghost use Rattle.relation_commands.specs.Request.{asked, rewrite_asked};
 ghost use Rattle.relation_commands.specs.RewriteCommand.{AreSurveyed, HasFaultOf, IsLogRefusal, IsPutRefusal, IsSurveyRefusal, LeavesByEnd, MeetsLimit, OpensLog, StaysBelowLimit};
-ghost use Rattle.relation_commands.specs.RewriteFiles.{BecomesOf, IsHeadBegun, RewritesFiles, files_of, pages_at};
+ghost use Rattle.relation_commands.specs.RewriteFiles.{BecomesOf, IsHeadBegun, RewritesFiles, files_in, pages_at};
 ghost use Rattle.relation_commands.specs.RewriteTexts.{rewrite_lines, rewrite_text};
 ghost use Rattle.relation_commands.specs.Rewriting.{HavePages};
 ghost use Rattle.page_layout.specs.Outcomes.{rewrite_totals_of};
@@ -115,7 +115,7 @@ fn open_log<H: Host>(
     ensures begun { IfOk result (IsNewLog (devices H.Lane.BlockLane H.Log.LogDevice) base) }
     ensures quiet { IfOk result (λ log. H.Log.faults log ≡ 0) }
     ensures logs { MatchResult result (λ log. OpensLog (Some log) path.now (H.logs host.old) (H.logs host.new) (H.log_at host.new)) (λ refused. OpensLog refused.log path.now (H.logs host.old) (H.logs host.new) (H.log_at host.new)) }
-    ensures head { IfErr result (λ refused. IfSome refused.log (λ log. IfSome (H.Log.bytes log) (IsHeadBegun base))) }
+    ensures head { IfErr result (λ refused. IfSome refused.log (λ log. (0 < H.Log.faults log) × IfSome (H.Log.bytes log) (IsHeadBegun base))) }
     ensures counted { OnOk result (H.log_faults host.new ≡ H.log_faults host.old) }
     ensures later { H.log_faults host.old ≤ H.log_faults host.new }
     ensures cause { IfErr result (λ refused. IsLogRefusal (H.log_faults host.old) (H.log_faults host.new) (option_map_or H.Log.faults refused.log 0) refused.error) }
@@ -162,8 +162,10 @@ fn rewrite_and_give_back<H: Host, R: Threads + Wait + Sync, T: Gate + Sync>(
         (counts (H.read_faults host.new) (H.write_faults host.new) (H.log_faults host.new) 0) result }
     ensures limit { IfErr result (MeetsLimit (option_map (pages_at (rewrite_asked request.now)) (H.contents host.old))) }
     ensures totals { IfOk result (λ totals. IfSome (H.contents host.old) (λ paths. totals ≡ rewrite_totals_of (pages_at (rewrite_asked request.now) paths))) }
-    ensures files { BecomesOf (files_of (H.contents host.old) (H.failed_writes host.old) (H.logs host.old))
-        (files_of (H.contents host.new) (H.failed_writes host.new) (H.logs host.new)) (LeavesByEnd (rewrite_asked request.now) result) }
+    ensures files { let files = files_in H.contents H.failed_writes H.logs
+        H.write_faults H.log_faults in
+        BecomesOf (files host.old) (files host.new)
+        (LeavesByEnd (rewrite_asked request.now) result) }
 {
     match open_log(alloc, request.log, base, host) {
         Ok(log) => {
@@ -218,8 +220,10 @@ fn rewrite_surveyed<H: Host, R: Threads + Wait + Sync, O: Sink, T: Gate + Sync>(
     ensures cause { HasFaultOf (counts (H.read_faults host.old) (H.write_faults host.old) (H.log_faults host.old) (O.faults out.old))
         (counts (H.read_faults host.new) (H.write_faults host.new) (H.log_faults host.new) (O.faults out.new)) result }
     ensures limit { StaysBelowLimit (option_map (pages_at (rewrite_asked request.now)) (H.contents host.old)) result }
-    ensures files { BecomesOf (files_of (H.contents host.old) (H.failed_writes host.old) (H.logs host.old))
-        (files_of (H.contents host.new) (H.failed_writes host.new) (H.logs host.new)) (LeavesByEnd (rewrite_asked request.now) result) }
+    ensures files { let files = files_in H.contents H.failed_writes H.logs
+        H.write_faults H.log_faults in
+        BecomesOf (files host.old) (files host.new)
+        (LeavesByEnd (rewrite_asked request.now) result) }
     ensures text { IfSome (H.contents host.old) (λ paths. Puts (rewrite_text (pages_at (rewrite_asked request.now) paths)) (O.bytes out.old) (O.bytes out.new) result) }
 {
     match rewrite_and_give_back(rt, alloc, request, relation, lanes, base, host, gate) {
@@ -245,8 +249,10 @@ fn rewrite_opened<H: Host, R: Threads + Wait + Sync, O: Sink, G: Gate + Sync>(
     ensures cause { HasFaultOf (counts (H.read_faults host.old) (H.write_faults host.old) (H.log_faults host.old) (O.faults out.old))
         (counts (H.read_faults host.new) (H.write_faults host.new) (H.log_faults host.new) (O.faults out.new)) result }
     ensures limit { StaysBelowLimit (option_map (pages_at (rewrite_asked request.now)) (H.contents host.old)) result }
-    ensures files { BecomesOf (files_of (H.contents host.old) (H.failed_writes host.old) (H.logs host.old))
-        (files_of (H.contents host.new) (H.failed_writes host.new) (H.logs host.new)) (LeavesByEnd (rewrite_asked request.now) result) }
+    ensures files { let files = files_in H.contents H.failed_writes H.logs
+        H.write_faults H.log_faults in
+        BecomesOf (files host.old) (files host.new)
+        (LeavesByEnd (rewrite_asked request.now) result) }
     ensures text { IfSome (H.contents host.old) (λ paths. Puts (rewrite_text (pages_at (rewrite_asked request.now) paths)) (O.bytes out.old) (O.bytes out.new) result) }
 {
     let relation = RelationFork {
@@ -281,8 +287,10 @@ pub fn rewrite_relation<'a, H: Host, R: Threads + Wait + Sync, O: Sink, G: Gate 
     ensures ends { EndsCommand (asked (Request.Rewrite request.now)) (H.contents host.old) (H.logs host.old)
         (counts (H.read_faults host.old) (H.write_faults host.old) (H.log_faults host.old) (O.faults out.old))
         (counts (H.read_faults host.new) (H.write_faults host.new) (H.log_faults host.new) (O.faults out.new)) result }
-    ensures files { BecomesOf (files_of (H.contents host.old) (H.failed_writes host.old) (H.logs host.old))
-        (files_of (H.contents host.new) (H.failed_writes host.new) (H.logs host.new)) (RewritesFiles (rewrite_asked request.now) (status_of result)) }
+    ensures files { let files = files_in H.contents H.failed_writes H.logs
+        H.write_faults H.log_faults in
+        BecomesOf (files host.old) (files host.new)
+        (RewritesFiles (rewrite_asked request.now) (status_of result)) }
     ensures text { IfSome (H.contents host.old) (λ paths. Puts (rewrite_text (pages_at (rewrite_asked request.now) paths)) (O.bytes out.old) (O.bytes out.new) result) }
     ensures silent { IfErr result (λ e. status_of_error e ≤ 3 → O.bytes out.new ≡ O.bytes out.old) }
 {

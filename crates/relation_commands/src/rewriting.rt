@@ -188,7 +188,7 @@ fn rewrite_and_store<
     gate: &T,
 ) -> StoredRewrite
     requires started { IsStarted L.contents relation (base_of manager.now.table) manager.now passes.items }
-    ensures stores { StoresRewrite L.contents manager.now relation.fork passes.items result.passes.items result.end }
+    ensures stores { StoresRewrite L.contents manager.now relation.fork rounds passes.items result.passes.items result.end }
 {
     let fork = relation.fork;
     let mut beside = Rounds::new(rounds);
@@ -244,7 +244,7 @@ fn rewrite_and_close<
     requires logs { G.faults (log_of manager) ≡ 0 }
     ensures count { length result.lanes.items ≡ length (opened_of manager.table) }
     ensures cause { HasRewriteCause (sum_by L.read_faults result.lanes.items) (sum_by L.write_faults result.lanes.items) (G.faults (log_of manager)) (G.faults result.log) result.end }
-    ensures leaves { LeavesRewritten L.contents L.failed_writes G.bytes G.synced relation (base_of manager.table) (opened_of manager.table) result.lanes.items result.log result.end }
+    ensures leaves { LeavesRewritten L.contents L.failed_writes G.bytes G.synced L.write_faults G.faults relation (base_of manager.table) (opened_of manager.table) result.lanes.items result.log result.end }
 {
     all_positions();
     rewrite_closes(&manager);
@@ -282,7 +282,7 @@ pub(crate) fn rewrite_lanes<
     requires log_faults { G.faults log ≡ 0 }
     ensures count { length result.lanes.items ≡ length lanes.items }
     ensures cause { HasRewriteCause (sum_by L.read_faults result.lanes.items) (sum_by L.write_faults result.lanes.items) (G.faults log) (G.faults result.log) result.end }
-    ensures leaves { LeavesRewritten L.contents L.failed_writes G.bytes G.synced relation base lanes.items result.lanes.items result.log result.end }
+    ensures leaves { LeavesRewritten L.contents L.failed_writes G.bytes G.synced L.write_faults G.faults relation base lanes.items result.lanes.items result.log result.end }
 {
     match start(alloc, options, relation, lanes, log, base) {
         Ok((manager, passes)) => {

@@ -1,10 +1,10 @@
 //! A buffer manager of the blocks of one relation's fork.
-ghost use Rattle.std.specs.Prelude.{◌≡◌, ◌≤◌, ◌%◌, ◌^◌, [], ◌∷◌, All, IfErr, IfOk, length, map};
+ghost use Rattle.std.specs.Prelude.{◌≡◌, ◌≤◌, ◌+◌, ◌%◌, ◌^◌, [], ◌∷◌, All, IfErr, IfOk, length, map};
 ghost use Rattle.segment_store.specs.Contents.{no_marks};
 ghost use Rattle.segment_store.specs.Lanes.{HasBlocks};
 ghost use Rattle.table_rule.specs.Shows.{IsNewLog, devices};
 ghost use Rattle.command_line.specs.Numbers.{HasOptionsInRange};
-ghost use Rattle.frame_table.specs.Seats.{opened_of};
+ghost use Rattle.frame_table.specs.Seats.{frames_of, opened_of};
 ghost use Rattle.history_core.specs.Log.{head_bytes};
 ghost use Rattle.page_jobs.specs.Relations.{IsCatalogOf};
 ghost use Rattle.relation_commands.specs.Starting.{IsStarted, log_of, relation_entry};
@@ -85,6 +85,9 @@ pub(crate) fn start<L: BlockLane + Send, G: LogDevice>(
     requires log { IsNewLog (devices L.BlockLane G.LogDevice) base log }
     ensures started { IfOk result (λ m. IsStarted L.contents relation base m.0 m.1.items) }
     ensures opened { IfOk result (λ m. (opened_of m.0.table ≡ lanes.items) × (log_of m.0 ≡ log)) }
+    // It has the frames that the options say, and a pass for each of their backends and one more.
+    ensures sized { IfOk result (λ m. (frames_of m.0.table ≡ options.now.frames)
+        × (length m.1.items ≡ options.now.backends + 1)) }
     ensures back { IfErr result (λ back. (back.0.items ≡ lanes.items) × (back.1 ≡ log)) }
 {
     let Ok(catalog) = relation.catalog(alloc) else {

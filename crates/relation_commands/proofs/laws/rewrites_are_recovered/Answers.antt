@@ -6,10 +6,10 @@ pub returns-clause-begun : goal.returns-clause-begun
 returns-clause-begun c = begun_empty
 
 pub returns-clause-pages : goal.returns-clause-pages
-returns-clause-pages c = recovers_rewrite
+returns-clause-pages c = recovers_rewrite c.all_positions.ensures.rewritten
 
 pub returns-clause-files : goal.returns-clause-files
-returns-clause-files c = files_recovered
+returns-clause-files c = files_recovered c.all_positions.ensures.rewritten
 
 pub returns-clause-kept : goal.returns-clause-kept
 returns-clause-kept c = files_kept

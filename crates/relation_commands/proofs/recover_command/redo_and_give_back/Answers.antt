@@ -9,7 +9,7 @@ use Rattle.relation_commands.specs.RecoverCommand.{EndsRedo}
 use Rattle.relation_commands.specs.RecoverFiles.{catalog_of}
 use Rattle.relation_commands.specs.Request.{recover_asked, recovering}
 use Rattle.relation_commands.proofs.Counting.{added_none}
-use Rattle.relation_commands.proofs.RecoverCauses.{recovery_ends}
+use Rattle.relation_commands.proofs.RecoverCauses.{host_rose, recovery_ends}
 use Rattle.relation_commands.proofs.GivenFiles.{told}
 use Rattle.relation_commands.proofs.RecoverGiven.{files_by, mapped_error, tells_by}
 use Rattle.relation_commands.proofs.recover_command.redo_and_give_back.Goals as goal
@@ -32,7 +32,8 @@ returns-clause-files g c =
     g.H.Source.Source.left g.H.Source.Source.faults lane_laws.whole lane_laws.has_room r c.requires.main c.requires.range.0 c.requires.range.1
     (told g.H.Host c.args.host.now) (g.H.Host.room c.args.host.now) c.args.opened c.requires.opened c.requires.open_at
     (told g.H.Host c.give_back.new.self) _ c.args.source c.redo_lanes-end.new.source
-    (record { paths = back.contents; marks = back.failed; logs = back.logs }) c.requires.source c.args.request.now.log c.redo_lanes-end.result given)
+    (record { paths = back.contents; marks = back.failed; logs = back.logs }) c.requires.source c.args.request.now.log c.redo_lanes-end.result given
+    (λ is. host_rose g.H.Lane.BlockLane.write_faults first _ (g.H.Host.write_faults c.args.host.now) (g.H.Host.write_faults c.give_back.new.self) given.count back.writes (given.write_fault is)))
 
 pub returns-clause-tells : goal.returns-clause-tells
 returns-clause-tells g c =

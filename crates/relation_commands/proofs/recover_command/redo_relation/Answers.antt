@@ -7,5 +7,5 @@ pub returns-in-Ok-clause-files : goal.returns-in-Ok-clause-files
 returns-in-Ok-clause-files g c =
     let opened = c.in-Ok.ensures in
     recovered_opened (recover_asked c.args.request.now) (status_of c.redo_opened.result) (g.H.Host.contents c.args.host.now) (g.H.Host.contents c.relation.new.self)
-    (g.H.Host.failed_writes c.args.host.now) (g.H.Host.failed_writes c.relation.new.self) (g.H.Host.logs c.args.host.now) (g.H.Host.logs c.relation.new.self) _
-    opened.contents opened.failed opened.logs c.redo_opened.ensures.files
+    (g.H.Host.failed_writes c.args.host.now) (g.H.Host.failed_writes c.relation.new.self) (g.H.Host.logs c.args.host.now) (g.H.Host.logs c.relation.new.self) _ _ _ _ _
+    opened.contents opened.failed opened.logs opened.writes opened.log_faults c.redo_opened.ensures.files

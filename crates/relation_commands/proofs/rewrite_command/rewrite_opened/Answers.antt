@@ -49,8 +49,8 @@ returns-in-Err-clause-files g c =
     let held = subst (λ (ls : List g.row.H-Lane.Denot). IfSome known (λ paths. HoldPages (fork_of r.path) (pages_at r paths) (map g.H.Lane.BlockLane.contents ls))) whole
     (hold_so g.H.Lane.BlockLane.contents g.H.Lane.BlockLane.failed_writes g.H.Lane.BlockLane.unsynced g.H.Lane.BlockLane.read_faults g.H.Lane.BlockLane.write_faults
     r c.args.opened c.survey_base.new.lanes same known opened.holds) in
-    unlogged g.H.Lane.BlockLane.contents g.H.Lane.BlockLane.failed_writes g.H.Log.LogDevice.bytes g.H.Log.LogDevice.synced r
-    (told g.H.Host c.args.host.now) (told g.H.Host c.give_back.new.self) _ _ _ _ c.in-Err.error c.in-Err.ensures.cause c.requires.open_at unmarked opened.there held (record { paths = back.contents; marks = back.failed; logs = back.logs })
+    unlogged g.H.Lane.BlockLane.contents g.H.Lane.BlockLane.failed_writes g.H.Log.LogDevice.bytes g.H.Log.LogDevice.synced g.H.Lane.BlockLane.write_faults g.H.Log.LogDevice.faults r
+    (told g.H.Host c.args.host.now) (told g.H.Host c.give_back.new.self) _ _ _ _ c.in-Err.error c.in-Err.ensures.cause c.requires.open_at unmarked opened.there held (record { paths = back.contents; marks = back.failed; logs = back.logs; writes = back.writes; faults = back.log_faults })
 
 pub returns-in-Err-clause-text : goal.returns-in-Err-clause-text
 returns-in-Err-clause-text g c = refused_text (rewrite_asked c.args.request.now) (g.H.Host.contents c.args.host.now) (g.O.Sink.bytes c.args.out.now) c.in-Err.error

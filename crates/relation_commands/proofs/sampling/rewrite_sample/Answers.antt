@@ -62,7 +62,7 @@ pub returns-in-Ok-end-clause-rewrites : goal.returns-in-Ok-end-clause-rewrites
 returns-in-Ok-end-clause-rewrites g c pages have =
     let counted : length c.survey_base.new.lanes ≡ c.args.lanes.len = omega arith in
     let log = c.rewrite_lanes-lanes.result.log in
-    rewritten g.L.BlockLane.contents g.L.BlockLane.failed_writes _ _ c.args.relation c.in-Ok.base _ c.all_positions.ensures.totals
+    rewritten g.L.BlockLane.contents g.L.BlockLane.failed_writes _ _ _ _ c.args.relation c.in-Ok.base _ c.all_positions.ensures.totals
     _ log log.sink.bytes refl c.rewrite_lanes-lanes.result.end c.in-Ok-end.is c.rewrite_lanes-lanes.ensures.leaves refl pages
     (are_surveyed g.L.BlockLane.contents g.L.BlockLane.failed_writes g.L.BlockLane.unsynced g.L.BlockLane.read_faults g.L.BlockLane.write_faults c.requires.told c.args.relation c.in-Ok.base
     c.args.lanes.len c.args.lanes.items _ c.survey_base.new.lanes c.deref_mut.ensures.value c.in-Ok.ensures.same counted c.in-Ok.ensures.base pages have)
