@@ -411,6 +411,8 @@ memory_files (Some (rewriting r)) status old new leaves = record {
   any = leaves.any;
   done = λ zero. absurd (omega arith);
   refused = λ least most. absurd (omega arith);
+  read_fault = λ four. absurd (omega arith);
+  write_fault = λ five. absurd (omega arith);
   over_limit = λ nine. absurd (omega arith);
   out_fault = λ seven. absurd (omega arith);
 }

@@ -2,9 +2,9 @@
 ghost use Rattle.std.specs.Prelude.{◌≡◌, ◌≤◌, ◌⊎◌, None, IfErr, IfSome};
 ghost use Rattle.log_device.specs.Bytes.{Puts};
 ghost use Rattle.relation_commands.specs.declared.error.ToolError.{ToolError};
-ghost use Rattle.relation_commands.specs.Answers.{BadLogIf, CountsLater, CrowdedIf, Ends, FailsNone, FaultIf, IsComplete, IsNoRewrite, LeavesFiles, LimitIf, MissingIf, PutsLogOf, SaysAs, SaysStatus, UsageIf, WritesNoPath, Wrote, WroteLogOf, counts_of, files_in, text_asked};
+ghost use Rattle.relation_commands.specs.Answers.{BadLogIf, CountsLater, CrowdedIf, Ends, FailsNone, FaultIf, IsComplete, IsNoRewrite, LeavesFiles, LimitIf, MissingIf, PutsLogOf, SaysAs, SaysStatus, UsageIf, WritesNoPath, Wrote, WroteLogOf, counts_of, text_asked};
 ghost use Rattle.relation_commands.specs.Request.{NamesNoPath, options_of, request_in};
-ghost use Rattle.relation_commands.specs.RewriteFiles.{BecomesOf};
+ghost use Rattle.relation_commands.specs.RewriteFiles.{BecomesOf, files_in};
 ghost use Rattle.relation_commands.specs.Status.{status_of, status_of_error};
 
 use log_device::Sink;
@@ -58,7 +58,8 @@ fn perform<'a, H: Host, R: Threads + Wait + Sync, O: Sink + Send, G: Gate + Sync
     ensures bad_log_silent { IfErr result
         (λ e. status_of_error e ≡ 10 → O.bytes out.new ≡ O.bytes out.old) }
     ensures no_command { request_in words.now ≡ None → O.bytes out.new ≡ O.bytes out.old }
-    ensures files { let files = files_in H.contents H.failed_writes H.logs in
+    ensures files { let files = files_in H.contents H.failed_writes H.logs
+        H.write_faults H.log_faults in
         BecomesOf (files host.old) (files host.new)
         (LeavesFiles (request_in words.now) (status_of result)) }
     ensures listed { WritesNoPath (request_in words.now)
@@ -138,9 +139,10 @@ pub fn run<H: Host, R: Threads + Wait + Sync, O: Sink + Send, E: Sink, G: Gate +
         (E.bytes err.old) (E.bytes err.new) (E.faults err.old) (E.faults err.new) result }
 
     // What is left of the files. Only a rewrite and a recovery change relations, and only a rewrite
-    // changes logs, whether they are known or not; and the host isn't called where no path is asked
-    // for.
-    ensures files { let files = files_in H.contents H.failed_writes H.logs in
+    // changes logs, where they are known; known or not, no other command raises their counts. The
+    // host isn't called where no path is asked for.
+    ensures files { let files = files_in H.contents H.failed_writes H.logs
+        H.write_faults H.log_faults in
         BecomesOf (files host.old) (files host.new) (LeavesFiles (request_in words.now) result) }
     ensures listed { WritesNoPath (request_in words.now)
         → (H.contents host.new ≡ H.contents host.old)

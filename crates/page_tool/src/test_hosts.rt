@@ -1,6 +1,7 @@
 //! Runs of the tests on hosts in memory.
 use crate::OpenGate;
 use crate::run::run;
+use crate::test_pages::{dead_items_page, rewritten_page};
 use log_device::{Failed, FaultPlan, LogPlan, MemSink, Sink};
 use page_jobs::Gate;
 use segment_store::{LanePlan, MemFile, MemHost, MemLogs, SourcePlan};
@@ -14,11 +15,14 @@ use std::thread::Threads;
 /// The relation of most tests.
 pub(crate) const RELATION: &str = "base/5/16384";
 
+/// The path of the log.
+pub(crate) const LOG: &str = "w";
+
 /// How many bytes each log has room for: its head and 65 records.
 const LOG_ROOM: usize = 16 + 65 * 8224;
 
-/// The calls of a run that are to fail, by their numbers from 1: those of a lane and of a log are
-/// numbered anew at each opening.
+/// The calls of a run that are to fail, by their numbers from 1: those of a lane, of a log and of a
+/// source are numbered anew at each opening.
 #[derive(Clone, Copy)]
 pub(crate) struct Failing<'a> {
     pub openings: &'a [u64],
@@ -28,6 +32,8 @@ pub(crate) struct Failing<'a> {
     pub log_openings: &'a [u64],
     pub appends: &'a [u64],
     pub log_syncs: &'a [u64],
+    pub source_openings: &'a [u64],
+    pub source_calls: &'a [u64],
     pub puts: &'a [u64],
 }
 
@@ -39,8 +45,43 @@ pub(crate) const NONE_FAIL: Failing<'static> = Failing {
     log_openings: &[],
     appends: &[],
     log_syncs: &[],
+    source_openings: &[],
+    source_calls: &[],
     puts: &[],
 };
+
+/// What a call is of, and does.
+#[derive(Clone, Copy, Debug)]
+pub(crate) enum Call {
+    Opening,
+    Read,
+    Write,
+    Sync,
+    LogOpening,
+    Append,
+    LogSync,
+    SourceOpening,
+    SourceCall,
+    Put,
+}
+
+/// The calls of this kind and these numbers fail.
+pub(crate) fn failing_of(call: Call, numbers: &[u64]) -> Failing<'_> {
+    let mut failing = NONE_FAIL;
+    match call {
+        Call::Opening => failing.openings = numbers,
+        Call::Read => failing.reads = numbers,
+        Call::Write => failing.writes = numbers,
+        Call::Sync => failing.syncs = numbers,
+        Call::LogOpening => failing.log_openings = numbers,
+        Call::Append => failing.appends = numbers,
+        Call::LogSync => failing.log_syncs = numbers,
+        Call::SourceOpening => failing.source_openings = numbers,
+        Call::SourceCall => failing.source_calls = numbers,
+        Call::Put => failing.puts = numbers,
+    }
+    failing
+}
 
 fn plan(alloc: Global, failing: &[u64]) -> Result<FaultPlan, Fail> {
     Ok(FaultPlan::new(failing.to_vec(alloc)?))
@@ -75,8 +116,26 @@ fn logs_of(alloc: Global, failing: Failing) -> Result<MemLogs, Fail> {
         syncs: plan(alloc, failing.log_syncs)?,
     };
     let openings = plan(alloc, failing.log_openings)?;
-    let sources = SourcePlan::new(plan(alloc, &[])?, plan(alloc, &[])?, 8192);
+    let source_openings = plan(alloc, failing.source_openings)?;
+    let source_calls = plan(alloc, failing.source_calls)?;
+    let sources = SourcePlan::new(source_openings, source_calls, 8192);
     Ok(MemLogs::new(alloc, LOG_ROOM, openings, calls, sources))
+}
+
+/// A host with these files, and with a log of these bytes, if there are any.
+fn host_over(
+    alloc: Global,
+    files: Vec<MemFile>,
+    log: Option<&[u8]>,
+    failing: Failing,
+) -> Result<MemHost, Fail> {
+    let openings = plan(alloc, failing.openings)?;
+    let lanes = lane_plan(alloc, failing)?;
+    let mut logs = logs_of(alloc, failing)?;
+    if let Some(bytes) = log {
+        logs.put(alloc, LOG, bytes)?;
+    }
+    Ok(MemHost::new(alloc, files, openings, lanes, logs))
 }
 
 /// A host with these relations, each of one segment, and no logs.
@@ -86,18 +145,74 @@ pub(crate) fn host_of(
     failing: Failing,
 ) -> Result<MemHost, Fail> {
     let files = relation_files(alloc, relations)?;
-    let openings = plan(alloc, failing.openings)?;
-    let lanes = lane_plan(alloc, failing)?;
-    let logs = logs_of(alloc, failing)?;
-    Ok(MemHost::new(alloc, files, openings, lanes, logs))
+    host_over(alloc, files, None, failing)
 }
 
-/// Whether these bytes are the one segment of the relation at a path.
-pub(crate) fn has_relation(host: &MemHost, path: &str, bytes: &[u8]) -> bool {
-    match host.segments(path) {
-        [segment] => segment.as_slice() == bytes,
-        _ => false,
+/// A host with the relation of most tests, of one segment, and with a log, if there is one.
+pub(crate) fn host_with_log(
+    alloc: Global,
+    relation: &[u8],
+    log: Option<&[u8]>,
+    failing: Failing,
+) -> Result<MemHost, Fail> {
+    let files = relation_files(alloc, &[(RELATION, relation)])?;
+    host_over(alloc, files, log, failing)
+}
+
+/// A host with a log, and with a relation that may have so many segments, each of so many blocks.
+pub(crate) fn host_with_space(
+    alloc: Global,
+    relation: &[&[u8]],
+    log: &[u8],
+    count: u32,
+    blocks: u32,
+) -> Result<MemHost, Fail> {
+    let mut segments = Vec::new(alloc);
+    for segment in relation {
+        segments.push(segment.to_vec(alloc)?)?;
     }
+    let path = String::from_str(alloc, RELATION)?;
+    let mut files = Vec::new(alloc);
+    files.push(MemFile::with_space(alloc, path, segments, count, blocks)?)?;
+    host_over(alloc, files, Some(log), NONE_FAIL)
+}
+
+/// Whether these are the segments of the relation of most tests.
+pub(crate) fn has_segments(host: &MemHost, wanted: &[&[u8]]) -> bool {
+    let segments = host.segments(RELATION);
+    let mut pairs = segments.iter().zip(wanted);
+    segments.len() == wanted.len() && pairs.all(|(segment, bytes)| segment.as_slice() == *bytes)
+}
+
+/// The bytes of the one segment of the relation of most tests.
+pub(crate) fn relation_bytes(host: &MemHost) -> &[u8] {
+    match host.segments(RELATION) {
+        [segment] => segment.as_slice(),
+        _ => &[],
+    }
+}
+
+/// Whether a block has its page with dead line pointers; of the first blocks, so many, whether it has the
+/// rewritten one.
+fn is_left(block: usize, page: &[u8], rewritten: usize) -> bool {
+    if block < rewritten {
+        return page == rewritten_page(block).as_slice();
+    }
+    page == dead_items_page().as_slice()
+}
+
+/// Whether the relation of most tests has so many pages with dead line pointers, of which the first ones,
+/// so many, are rewritten. Of the torn block any page will do.
+pub(crate) fn has_pages(
+    host: &MemHost,
+    count: usize,
+    rewritten: usize,
+    torn: Option<usize>,
+) -> bool {
+    let bytes = relation_bytes(host);
+    let mut pages = bytes.chunks(8192).enumerate();
+    let is_whole = bytes.len() % 8192 == 0 && bytes.len() / 8192 == count;
+    is_whole && pages.all(|(block, page)| torn == Some(block) || is_left(block, page, rewritten))
 }
 
 /// Whether the log at a path has these bytes; for `None`, whether no log is there.
@@ -152,6 +267,17 @@ impl Answer {
         assert_eq!(rt; self.err.bytes(), err.as_bytes(), "on the error stream");
         assert_eq!(rt; self.status, status, "{err}");
         assert_eq!(rt; self.out.bytes(), out.as_bytes(), "{out}");
+    }
+}
+
+/// The line of a status on the error stream.
+pub(crate) fn error_line(status: u8) -> &'static str {
+    match status {
+        0 => "",
+        4 => "page_tool: read fault\n",
+        5 => "page_tool: write fault\n",
+        6 => "page_tool: log fault\n",
+        _ => "page_tool: output fault\n",
     }
 }
 

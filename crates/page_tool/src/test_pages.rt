@@ -1,4 +1,6 @@
 //! Pages that the tests read and rewrite.
+use std::alloc::Global;
+use std::test::Fail;
 
 /// The beginning and the end of a page with one item of four bytes and no dead line pointer: log
 /// position 0/16B3740, lower 28, upper 8184, special 8192.
@@ -24,7 +26,7 @@ const DEAD_ITEMS_BACK: [u8; 16] = [
     0x0a, 0x0b, 0x0c, 0x0d, 0x00, 0x00, 0x00, 0x00, 0x01, 0x02, 0x03, 0x04, 0x00, 0x00, 0x00, 0x00,
 ];
 
-/// What a rewrite makes of it: log position 0/16B5760, free lines, lower 32, upper 8184.
+/// What a rewrite makes of it in block 0: log position 0/16B5760, free lines, lower 32, upper 8184.
 const REWRITTEN_FRONT: [u8; 36] = [
     0x00, 0x00, 0x00, 0x00, 0x60, 0x57, 0x6b, 0x01, 0x00, 0x00, 0x01, 0x00, 0x20, 0x00, 0xf8, 0x1f,
     0x00, 0x20, 0x04, 0x20, 0x00, 0x00, 0x00, 0x00, 0x00, 0x00, 0x00, 0x00, 0xf8, 0x9f, 0x08, 0x00,
@@ -35,19 +37,25 @@ const REWRITTEN_BACK: [u8; 16] = [
     0x00, 0x00, 0x00, 0x00, 0x00, 0x00, 0x00, 0x00, 0x0a, 0x0b, 0x0c, 0x0d, 0x00, 0x00, 0x00, 0x00,
 ];
 
-/// The head of the log of that rewrite, and what stands before the page in its record.
-const LOG_FRONT: [u8; 48] = [
+/// The head of the log of that rewrite, and what stands before the block in its record.
+const LOG_FRONT: [u8; 36] = [
     0x50, 0x47, 0x42, 0x55, 0x46, 0x4c, 0x4f, 0x47, 0x40, 0x37, 0x6b, 0x01, 0x00, 0x00, 0x00, 0x00,
     0x01, 0x00, 0x00, 0x00, 0x00, 0x00, 0x00, 0x00, 0x00, 0x00, 0x00, 0x00, 0x00, 0x40, 0x00, 0x00,
-    0x00, 0x00, 0x00, 0x00, 0x00, 0x00, 0x00, 0x00, 0x40, 0x37, 0x6b, 0x01, 0x00, 0x00, 0x00, 0x00,
+    0x00, 0x00, 0x00, 0x00,
+];
+
+/// The records of a relation of four such pages: of each its block, and the low halves of the log
+/// positions where it begins and where it ends.
+static RECORDS: [(u8, u32, u32); 4] = [
+    (0, 0x016b_3740, 0x016b_5760),
+    (1, 0x016b_5760, 0x016b_7780),
+    (2, 0x016b_7780, 0x016b_97a0),
+    (3, 0x016b_97a0, 0x016b_b7c0),
 ];
 
 /// A page that begins and ends with these bytes, with zeros between.
 fn page_of(front: &[u8; 36], back: &[u8; 16]) -> [u8; 8192] {
-    let mut page = [0; 8192];
-    page[..36].copy_from_slice(front);
-    page[8176..].copy_from_slice(back);
-    page
+    with_bytes(with_bytes([0; 8192], 0, front), 8176, back)
 }
 
 pub(crate) fn one_item_page() -> [u8; 8192] {
@@ -58,17 +66,40 @@ pub(crate) fn dead_items_page() -> [u8; 8192] {
     page_of(&DEAD_ITEMS_FRONT, &DEAD_ITEMS_BACK)
 }
 
-/// The page with dead line pointers after its rewrite.
-pub(crate) fn rewritten_page() -> [u8; 8192] {
-    page_of(&REWRITTEN_FRONT, &REWRITTEN_BACK)
+/// The page with dead line pointers after its rewrite, where it is this block of the relation.
+pub(crate) fn rewritten_page(block: usize) -> [u8; 8192] {
+    let page = page_of(&REWRITTEN_FRONT, &REWRITTEN_BACK);
+    match RECORDS.get(block) {
+        Some((_, _, end)) => with_bytes(page, 4, &end.to_le_bytes()),
+        None => page,
+    }
 }
 
-/// The log of that rewrite: its head of 16 bytes, and the page's record of 8224.
-pub(crate) fn rewrite_log() -> [u8; 8240] {
-    let mut log = [0; 8240];
-    log[..48].copy_from_slice(&LOG_FRONT);
-    log[48..].copy_from_slice(&rewritten_page());
-    log
+/// Appends the record of a block, of 8224 bytes, to a log: the page is what a rewrite makes of it there.
+fn append_record(log: &mut Vec<u8>, block: u8, start: u32) -> Result<(), Fail> {
+    log.extend_from_slice(&LOG_FRONT[16..36])?;
+    log.extend_from_slice(&u32::from(block).to_le_bytes())?;
+    log.extend_from_slice(&u64::from(start).to_le_bytes())?;
+    log.extend_from_slice(&rewritten_page(usize::from(block)))?;
+    Ok(())
+}
+
+/// A log with a head of 16 bytes and the record of a block: for block 0 that of a rewrite of one such page.
+pub(crate) fn one_page_log(alloc: Global, block: u8) -> Result<Vec<u8>, Fail> {
+    let mut log = Vec::new(alloc);
+    log.extend_from_slice(&LOG_FRONT[..16])?;
+    append_record(&mut log, block, 0x016b_3740)?;
+    Ok(log)
+}
+
+/// The log of a rewrite of four such pages.
+pub(crate) fn rewrite_log(alloc: Global) -> Result<Vec<u8>, Fail> {
+    let mut log = Vec::new(alloc);
+    log.extend_from_slice(&LOG_FRONT[..16])?;
+    for (block, start, _) in &RECORDS {
+        append_record(&mut log, *block, *start)?;
+    }
+    Ok(log)
 }
 
 /// The page with other bytes from a place on.

@@ -1,7 +1,8 @@
-//! Scans by several workers, and scans in which a call of a device fails.
+//! Commands by several workers, and scans in which a call of a device fails.
 use crate::run::run;
 use crate::test_hosts::{
-    CountingSink, Failing, NONE_FAIL, RELATION, answer_at, answer_of, host_of, words_of,
+    CountingSink, Failing, LOG, NONE_FAIL, RELATION, answer_at, answer_of, error_line, has_pages,
+    host_of, words_of,
 };
 use crate::test_pages::{dead_items_page, one_item_page, with_bytes};
 use backend_pass::Pinned;
@@ -17,13 +18,32 @@ use std::thread::{Threads, yield_now};
 /// How often a worker that is held looks for the other before it gives up.
 const TURNS: u32 = 10_000_000;
 
-/// Which of two workers a gate holds, and until when.
+/// Which of two or more workers a gate holds, and until when.
 #[derive(Clone, Copy)]
 enum Holds {
-    /// Each, before its first block, until the other one has come.
+    Nobody,
+    /// The first, before each of its blocks, until another one has come, and these until the first has.
     Each,
     /// The one that takes block 0, until block 8 was called, with which the next chunk begins.
     BlockZero,
+}
+
+/// Waits until this was set; false where it gave up.
+fn has_come(came: &AtomicBool) -> bool {
+    for _ in 0..TURNS {
+        if came.load(Ordering::SeqCst) {
+            return true;
+        }
+        yield_now();
+    }
+    false
+}
+
+/// Lets the other threads run for a while.
+fn wait_a_while() {
+    for _ in 0..1000 {
+        yield_now();
+    }
 }
 
 /// Holds workers. It counts the pins of blocks below 64, and adds up 1 << block of each: 64 pins that add up
@@ -51,13 +71,9 @@ impl HoldingGate {
     }
 
     fn wait_for(&self, came: &AtomicBool) {
-        for _ in 0..TURNS {
-            if came.load(Ordering::SeqCst) {
-                return;
-            }
-            yield_now();
+        if !has_come(came) {
+            self.gave_up.store(true, Ordering::SeqCst);
         }
-        self.gave_up.store(true, Ordering::SeqCst);
     }
 
     /// Whether it gave up, how many pins it saw, and what their blocks add up to.
@@ -73,6 +89,7 @@ impl HoldingGate {
 impl Gate for HoldingGate {
     fn before(&self, worker: u32, block: u32) {
         match (self.holds, worker, block) {
+            (Holds::Nobody, _, _) => {}
             (Holds::Each, 0, _) => {
                 self.first_came.store(true, Ordering::SeqCst);
                 self.wait_for(&self.other_came);
@@ -128,38 +145,120 @@ fn changed_pages(alloc: Global) -> Result<Vec<u8>, Fail> {
     Ok(bytes)
 }
 
-/// Runs a command by two workers that are held: each block is pinned once, and the output is that of one.
+/// Runs a command by one worker, and by so many that are held: each block is pinned once, and the output
+/// is the same.
 fn check_held<R: Abort + Threads + Wait + Sync>(
     rt: &R,
     alloc: Global,
     command: &str,
     bytes: &[u8],
+    backends: u32,
     holds: Holds,
 ) -> Result<(), Fail> {
     let mut host = host_of(alloc, &[(RELATION, bytes)], NONE_FAIL)?;
-    let alone = answer_of(rt, alloc, command, &mut host, &[])?;
+    let free = HoldingGate::new(Holds::Nobody);
+    let alone = answer_at(rt, alloc, command, &mut host, &[], &free)?;
     let mut host = host_of(alloc, &[(RELATION, bytes)], NONE_FAIL)?;
     let gate = HoldingGate::new(holds);
-    let line = format!(in alloc; "{command} --backends 2")?;
+    let line = format!(in alloc; "{command} --backends {backends}")?;
     let answer = answer_at(rt, alloc, line.as_str(), &mut host, &[], &gate)?;
     let ends = (alone.status, answer.status);
-    assert_eq!(rt; ends, (0, 0), "{command}");
-    assert_eq!(rt; answer.out.bytes(), alone.out.bytes(), "{command}");
-    assert_eq!(rt; gate.seen(), (false, 64, u64::MAX), "{command}");
+    assert_eq!(rt; ends, (0, 0), "{line}");
+    assert_eq!(rt; answer.out.bytes(), alone.out.bytes(), "{line}");
+    let once = (false, 64, u64::MAX);
+    assert_eq!(rt; (free.seen(), gate.seen()), (once, once), "{line}");
     Ok(())
 }
 
-/// Two workers work side by side, each on chunks that it claims: one doesn't do all.
+/// How many workers are held, and how.
+static HELD: [(u32, Holds); 4] = [
+    (2, Holds::Each),
+    (2, Holds::BlockZero),
+    (7, Holds::Each),
+    (7, Holds::BlockZero),
+];
+
+/// Workers work side by side, each on chunks that it claims: one doesn't do all.
 #[test]
 fn workers_work_side_by_side(rt: HostRuntime) -> Result<(), Fail> {
     let alloc = rt.alloc();
     let (bytes, _text) = numbered_pages(alloc)?;
     let changed = changed_pages(alloc)?;
-    for holds in [Holds::Each, Holds::BlockZero] {
-        check_held(&rt, alloc, "scan base/5/16384", &bytes, holds)?;
-        check_held(&rt, alloc, "dump base/5/16384", &bytes, holds)?;
-        check_held(&rt, alloc, "rewrite base/5/16384 --log w", &changed, holds)?;
+    for (backends, holds) in &HELD {
+        let (backends, holds) = (*backends, *holds);
+        check_held(&rt, alloc, "scan base/5/16384", &bytes, backends, holds)?;
+        check_held(&rt, alloc, "dump base/5/16384", &bytes, backends, holds)?;
+        let rewrite = "rewrite base/5/16384 --log w";
+        check_held(&rt, alloc, rewrite, &changed, backends, holds)?;
     }
+    Ok(())
+}
+
+/// How many workers a sample has.
+static WORKERS: [u32; 3] = [1, 2, 7];
+
+/// A sample pins its sound blocks, which are 0, 1 and 3, once in each of its three parts.
+#[test]
+fn a_sample_pins_its_blocks(rt: HostRuntime) -> Result<(), Fail> {
+    let alloc = rt.alloc();
+    for backends in &WORKERS {
+        let mut host = host_of(alloc, &[], NONE_FAIL)?;
+        let gate = HoldingGate::new(Holds::Nobody);
+        let line = format!(in alloc; "sample 7 4 --backends {backends}")?;
+        let answer = answer_at(&rt, alloc, line.as_str(), &mut host, &[], &gate)?;
+        assert_eq!(rt; (answer.status, gate.seen()), (0, (false, 9, 33)), "{line}");
+    }
+    Ok(())
+}
+
+/// Holds the first worker before its first block until the other one has read a page, and then for a
+/// while.
+#[derive(Drop)]
+struct SecondWorkerGate {
+    other_read: AtomicBool,
+    came: AtomicBool,
+}
+
+impl Gate for SecondWorkerGate {
+    fn before(&self, worker: u32, _block: u32) {
+        if worker == 0 && has_come(&self.other_read) {
+            wait_a_while();
+            self.came.store(true, Ordering::SeqCst);
+        }
+    }
+
+    fn seen(&self, worker: u32, _pinned: &Pinned) {
+        if worker != 0 {
+            self.other_read.store(true, Ordering::SeqCst);
+        }
+    }
+}
+
+/// The second worker's first record isn't written, and the first worker finds the log down: the status is
+/// that of a log fault, and no page is written. Half of a record follows the head of the log.
+#[test]
+fn the_log_is_down_for_the_others(rt: HostRuntime) -> Result<(), Fail> {
+    let alloc = rt.alloc();
+    let bytes = changed_pages(alloc)?;
+    let failing = Failing {
+        appends: &[2],
+        ..NONE_FAIL
+    };
+    let mut host = host_of(alloc, &[(RELATION, &bytes)], failing)?;
+    let gate = SecondWorkerGate {
+        other_read: AtomicBool::new(false),
+        came: AtomicBool::new(false),
+    };
+    let line = "rewrite base/5/16384 --log w --backends 2";
+    let answer = answer_at(&rt, alloc, line, &mut host, &[], &gate)?;
+    answer.check(&rt, 6, "", error_line(6));
+    let log_length = match host.stored_log(LOG) {
+        Some(log) => log.bytes().len(),
+        None => 0,
+    };
+    let came = gate.came.load(Ordering::SeqCst);
+    let left = (came, has_pages(&host, 65, 0, None), log_length);
+    assert_eq!(rt; left, (true, true, 4128));
     Ok(())
 }
 
@@ -254,15 +353,8 @@ struct FullWindowGate {
 impl Gate for FullWindowGate {
     fn before(&self, _worker: u32, block: u32) {
         if block == 0 {
-            for _ in 0..TURNS {
-                if self.came.load(Ordering::SeqCst) {
-                    break;
-                }
-                yield_now();
-            }
-            for _ in 0..1000 {
-                yield_now();
-            }
+            has_come(&self.came);
+            wait_a_while();
             self.let_go.store(true, Ordering::SeqCst);
         }
         if block == 39 {
