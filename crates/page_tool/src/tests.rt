@@ -76,6 +76,11 @@ impl HoldingGate {
         }
     }
 
+    /// Whether it saw each of 64 blocks pinned once, and didn't give up.
+    fn pinned_once(&self) -> bool {
+        self.seen() == (false, 64, u64::MAX)
+    }
+
     /// Whether it gave up, how many pins it saw, and what their blocks add up to.
     fn seen(&self) -> (bool, u64, u64) {
         (
@@ -162,11 +167,13 @@ fn check_held<R: Abort + Threads + Wait + Sync>(
     let gate = HoldingGate::new(holds);
     let line = format!(in alloc; "{command} --backends {backends}")?;
     let answer = answer_at(rt, alloc, line.as_str(), &mut host, &[], &gate)?;
-    let ends = (alone.status, answer.status);
-    assert_eq!(rt; ends, (0, 0), "{line}");
+    let pinned = free.pinned_once() && gate.pinned_once();
+    assert_eq!(rt;
+        (alone.status, answer.status, pinned),
+        (0, 0, true),
+        "{line}"
+    );
     assert_eq!(rt; answer.out.bytes(), alone.out.bytes(), "{line}");
-    let once = (false, 64, u64::MAX);
-    assert_eq!(rt; (free.seen(), gate.seen()), (once, once), "{line}");
     Ok(())
 }
 
