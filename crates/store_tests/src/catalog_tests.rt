@@ -79,24 +79,25 @@ where
     ]
 }
 
-/// One lane grows both relations; then each lane reads them.
-fn use_lanes<R: Files>(
-    rt: &impl Abort,
-    alloc: Global,
-    lanes: &mut [FileLane<'_, R>],
-) -> Result<(), Fail>
+/// The first lane grows both relations.
+fn grow_by_one<R: Files>(rt: &impl Abort, page: &mut Page, lanes: &mut [FileLane<'_, R>])
 where
     R::File: FileExt,
 {
-    let mut page = Page::zeroed(alloc)?;
     if let Some(lane) = lanes.first_mut() {
-        assert_eq!(rt; grow_both(lane, &mut page), [Ok(()); 4]);
+        assert_eq!(rt; grow_both(lane, page), [Ok(()); 4]);
     }
+}
+
+/// Each lane reads both.
+fn read_by_each<R: Files>(rt: &impl Abort, page: &mut Page, lanes: &mut [FileLane<'_, R>])
+where
+    R::File: FileExt,
+{
     for lane in lanes {
         let answers = [Ok(3), Ok(5), Ok(6), Ok(7), Ok(0), Err(Failed), Err(Failed)];
-        assert_eq!(rt; read_both(lane, &mut page), answers);
+        assert_eq!(rt; read_both(lane, page), answers);
     }
-    Ok(())
 }
 
 /// What the files have in the end.
@@ -124,7 +125,9 @@ fn two_relations_grow_apart(rt: HostRuntime) -> Result<(), Fail> {
     assert_eq!(rt; opened.blocks.as_slice(), [3, 1].as_slice());
     assert_eq!(rt; host.log(alloc, "index").err(), Some(LogOpen::Failed));
     assert_eq!(rt; host.bytes(alloc, "index").err(), Some(HostError::Failed));
-    use_lanes(&rt, alloc, &mut opened.lanes)?;
+    let mut page = Page::zeroed(alloc)?;
+    grow_by_one(&rt, &mut page, &mut opened.lanes);
+    read_by_each(&rt, &mut page, &mut opened.lanes);
     host.give_back(opened.lanes, None, None);
     assert_eq!(rt; (host.read_faults(), host.write_faults()), (7, 0));
     for (path, runs) in &GROWN {
