@@ -1,8 +1,8 @@
 //! Commands by several workers, and scans in which a call of a device fails.
 use crate::run::run;
 use crate::test_hosts::{
-    CountingSink, Failing, LOG, NONE_FAIL, RELATION, answer_at, answer_of, error_line, has_pages,
-    host_of, words_of,
+    Answer, CountingSink, Failing, LOG, NONE_FAIL, RELATION, answer_at, answer_of, error_line,
+    has_pages, host_of, words_of,
 };
 use crate::test_pages::{dead_items_page, one_item_page, with_bytes};
 use backend_pass::Pinned;
@@ -150,6 +150,18 @@ fn changed_pages(alloc: Global) -> Result<Vec<u8>, Fail> {
     Ok(bytes)
 }
 
+/// Runs a command over a relation of these pages, with this gate.
+fn answer_over<R: Threads + Wait + Sync>(
+    rt: &R,
+    alloc: Global,
+    command: &str,
+    bytes: &[u8],
+    gate: &HoldingGate,
+) -> Result<Answer, Fail> {
+    let mut host = host_of(alloc, &[(RELATION, bytes)], NONE_FAIL)?;
+    answer_at(rt, alloc, command, &mut host, &[], gate)
+}
+
 /// Runs a command by one worker, and by so many that are held: each block is pinned once, and the output
 /// is the same.
 fn check_held<R: Abort + Threads + Wait + Sync>(
@@ -160,19 +172,14 @@ fn check_held<R: Abort + Threads + Wait + Sync>(
     backends: u32,
     holds: Holds,
 ) -> Result<(), Fail> {
-    let mut host = host_of(alloc, &[(RELATION, bytes)], NONE_FAIL)?;
     let free = HoldingGate::new(Holds::Nobody);
-    let alone = answer_at(rt, alloc, command, &mut host, &[], &free)?;
-    let mut host = host_of(alloc, &[(RELATION, bytes)], NONE_FAIL)?;
+    let alone = answer_over(rt, alloc, command, bytes, &free)?;
     let gate = HoldingGate::new(holds);
     let line = format!(in alloc; "{command} --backends {backends}")?;
-    let answer = answer_at(rt, alloc, line.as_str(), &mut host, &[], &gate)?;
-    let pinned = free.pinned_once() && gate.pinned_once();
-    assert_eq!(rt;
-        (alone.status, answer.status, pinned),
-        (0, 0, true),
-        "{line}"
-    );
+    let answer = answer_over(rt, alloc, line.as_str(), bytes, &gate)?;
+    let pinned = (free.pinned_once(), gate.pinned_once());
+    assert_eq!(rt; pinned, (true, true), "{line}");
+    assert_eq!(rt; (alone.status, answer.status), (0, 0), "{line}");
     assert_eq!(rt; answer.out.bytes(), alone.out.bytes(), "{line}");
     Ok(())
 }
