@@ -17,13 +17,16 @@ use segment_store::BlockLane;
 use state_word::{Flag, has, pins, waiter};
 use std::sync::Wait;
 use std::thread;
+use thiserror::Error;
 
 /// Why a cleanup lock was not taken.
-#[derive(Clone, Copy, PartialEq, Eq, Debug)]
+#[derive(Clone, Copy, PartialEq, Eq, Debug, Error)]
 pub enum CleanupError {
     /// Callers have so many tokens of the backend's pin, and not one.
+    #[error("the backend has pinned the buffer {count} times")]
     LocalPins { count: u32 },
     /// The backend of this number waits for the frame already.
+    #[error("backend {backend} is already waiting for the buffer's only pin")]
     OtherWaiter { backend: u32 },
 }
 

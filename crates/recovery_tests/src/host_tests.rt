@@ -131,11 +131,7 @@ fn host_of(alloc: Global, case: &Case<'_>) -> Result<MemHost, AllocError> {
     let sources = SourcePlan::new(none(alloc), none(alloc), 1000);
     let mut logs = MemLogs::new(alloc, 0, none(alloc), LogPlan::none(alloc), sources);
     logs.put(alloc, LOG, &log_of(alloc, case.blocks)?)?;
-    let lanes = LanePlan {
-        reads: none(alloc),
-        writes: none(alloc),
-        syncs: none(alloc),
-    };
+    let lanes = LanePlan::none(alloc);
     Ok(MemHost::new(alloc, files, none(alloc), lanes, logs))
 }
 

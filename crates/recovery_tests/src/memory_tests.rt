@@ -4,7 +4,6 @@ ghost use Rattle.std.specs.Prelude.{◌≡◌, length};
 use crate::bench::{Kept, catalog, source, tag, whole_page};
 use crate::log_bytes::{Record, log_bytes, page_bytes};
 use block_tag::{Fork, Tag};
-use log_device::FaultPlan;
 use log_recovery::{RecoverError, Redone, recover};
 use page_layout::Page;
 use segment_store::{LanePlan, MemLane};
@@ -13,12 +12,7 @@ use std::test::Fail;
 
 /// A lane with block 0, and with room for these.
 fn lane_with(alloc: Global, rooms: &[Tag]) -> Result<MemLane, Fail> {
-    let plan = LanePlan {
-        reads: FaultPlan::new(Vec::new(alloc)),
-        writes: FaultPlan::new(Vec::new(alloc)),
-        syncs: FaultPlan::new(Vec::new(alloc)),
-    };
-    let mut lane = MemLane::new(alloc, plan);
+    let mut lane = MemLane::new(alloc, LanePlan::none(alloc));
     let mut page = Page::zeroed(alloc)?;
     page.fill(&page_bytes(100, 2048));
     lane.hold(alloc, tag(0), &page)?;

@@ -3,7 +3,7 @@ ghost use Rattle.std.specs.Prelude.{◌≡◌, []};
 ghost use Rattle.segment_store.specs.MemoryLane.{plan_of};
 
 use block_tag::Tag;
-use log_device::{Failed, FaultPlan};
+use log_device::Failed;
 use page_layout::{Memory, Page};
 use segment_store::{BlockLane, LanePlan, MemLane};
 use std::alloc::Global;
@@ -29,13 +29,8 @@ impl SampleLane {
         ensures calls { calls_of result.lane ≡ 0 }
         ensures faults { result.lane.write_faults.count ≡ 0 }
     {
-        let plan = LanePlan {
-            reads: FaultPlan::new(Vec::new(alloc)),
-            writes: FaultPlan::new(Vec::new(alloc)),
-            syncs: FaultPlan::new(Vec::new(alloc)),
-        };
         SampleLane {
-            lane: MemLane::new(alloc, plan),
+            lane: MemLane::new(alloc, LanePlan::none(alloc)),
         }
     }
 

@@ -1,5 +1,5 @@
 //! A lane in memory.
-ghost use Rattle.std.specs.Prelude.{IsSome, MatchResult, option_map, length, ◌≡◌, ◌+◌, Some, IfOk, OnOk, OnErr, is_ok, not, ◌&&◌, true, false};
+ghost use Rattle.std.specs.Prelude.{[], IsSome, MatchResult, option_map, length, ◌≡◌, ◌+◌, Some, IfOk, OnOk, OnErr, is_ok, not, ◌&&◌, true, false};
 ghost use Rattle.std.specs.Option.{ForSome};
 ghost use Rattle.log_device.specs.Faults.{CountsOne, HasCause};
 ghost use Rattle.segment_store.specs.Contents.{AfterWrite, no_marks, no_pages, with_mark, with_page};
@@ -26,6 +26,19 @@ pub struct LanePlan {
 }
 
 impl LanePlan {
+    /// A plan in which no call is to fail.
+    pub fn none(alloc: Global) -> LanePlan
+        ensures reads { result.reads ≡ record { calls = 0; failing = [] } }
+        ensures writes { result.writes ≡ record { calls = 0; failing = [] } }
+        ensures syncs { result.syncs ≡ record { calls = 0; failing = [] } }
+    {
+        LanePlan {
+            reads: FaultPlan::new(Vec::new(alloc)),
+            writes: FaultPlan::new(Vec::new(alloc)),
+            syncs: FaultPlan::new(Vec::new(alloc)),
+        }
+    }
+
     /// A plan of the same calls to fail, with no call made.
     pub fn fresh(&self, alloc: Global) -> Result<LanePlan, AllocError>
         ensures { IfOk result (λ plan. plan ≡ fresh_lane_plan self.now) }

@@ -10,11 +10,11 @@ use Rattle.log_device.specs.declared.device.LogDevice as log_device
 use Rattle.backend_pass.specs.contracts.manager.Manager as manager
 use Rattle.backend_pass.proofs.Crossing.{shared_sync, lease_sync}
 use Rattle.table_rule.specs.contracts.value.Value as value
-use Rattle.sync_tests.specs.contracts.devices.PageLane as lane
-use Rattle.sync_tests.specs.contracts.devices.PageLaneBlockLane.TheImpl as page_lane
-use Rattle.sync_tests.specs.contracts.devices.ByteLog as log
-use Rattle.sync_tests.specs.contracts.sharing.Use as uses
-use Rattle.sync_tests.specs.contracts.sharing.TestJob as jobs
+use Rattle.write_back_tests.specs.contracts.devices.PageLane as lane
+use Rattle.write_back_tests.specs.contracts.devices.PageLaneBlockLane.TheImpl as page_lane
+use Rattle.write_back_tests.specs.contracts.devices.ByteLog as log
+use Rattle.write_back_tests.specs.contracts.sharing.Use as uses
+use Rattle.write_back_tests.specs.contracts.sharing.TestJob as jobs
 
 lanes_cross : IsSend lane.the_row
 lanes_cross = search (sendable, crosses, over.crosses) depth 30 fits 20000

@@ -1,6 +1,6 @@
 //! What three passes do one after another, and what comes of it.
 ghost use Rattle.manager_tests.specs.Bench.{IsFree};
-ghost use Rattle.sync_tests.specs.Idle.{IsFreeAndUnlocked};
+ghost use Rattle.write_back_tests.specs.Idle.{IsFreeAndUnlocked};
 
 use crate::bench::start;
 use crate::devices::{ByteLog, PageLane, TestCall, calls_of};

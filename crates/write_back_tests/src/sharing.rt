@@ -1,7 +1,7 @@
 //! Rounds and checkpoints by a pass beside two others, each in a thread of its own.
 ghost use Rattle.std.specs.Thread.{IsSync};
 ghost use Rattle.manager_tests.specs.Bench.{IsFreeIn};
-ghost use Rattle.sync_tests.specs.Idle.{IsFreeAndUnlockedIn};
+ghost use Rattle.write_back_tests.specs.Idle.{IsFreeAndUnlockedIn};
 
 use crate::bench::start;
 use crate::devices::{ByteLog, PageLane};

@@ -1,6 +1,6 @@
 //! A small manager over devices that tell of their calls.
 ghost use Rattle.std.specs.Prelude.{IfOk};
-ghost use Rattle.sync_tests.specs.Idle.{IsFreeAndUnlockedIn};
+ghost use Rattle.write_back_tests.specs.Idle.{IsFreeAndUnlockedIn};
 
 use crate::devices::{ByteLog, PageLane};
 use backend_pass::{Config, Manager, StartRefused};

@@ -1,5 +1,5 @@
 //! Rounds and checkpoints by a pass that has no token.
-ghost use Rattle.sync_tests.specs.Idle.{IsFreeAndUnlocked};
+ghost use Rattle.write_back_tests.specs.Idle.{IsFreeAndUnlocked};
 
 use backend_pass::{FlushError, Manager, Pass};
 use bg_writer::{Round, round};

@@ -1,9 +1,9 @@
 use denote.Exit.{no}
 use denote.Param.Send.{IsSend, param_send, arg_send, mut_send, shr_send}
 use Rattle.backend_pass.proofs.Crossing.{passes_sent}
-use Rattle.sync_tests.proofs.sharing.Crossing.{four_sent, jobs_shared, managers_shared}
-use Rattle.sync_tests.proofs.sharing.sync_beside.Lts.{arg-0-1}
-use Rattle.sync_tests.proofs.sharing.sync_beside.Goals as goal
+use Rattle.write_back_tests.proofs.sharing.Crossing.{four_sent, jobs_shared, managers_shared}
+use Rattle.write_back_tests.proofs.sharing.sync_beside.Lts.{arg-0-1}
+use Rattle.write_back_tests.proofs.sharing.sync_beside.Goals as goal
 
 pub join_mut-upto-requires-send-F : goal.join_mut-upto-requires-send-F
 join_mut-upto-requires-send-F g c = λ κs b.

@@ -2,9 +2,9 @@ use denote.Exit.{no}
 use denote.Param.Send.{IsSend, param_send, arg_send, mut_send, shr_send}
 use Rattle.manager_tests.proofs.Crossing.{numbers_shared}
 use Rattle.backend_pass.proofs.Crossing.{globals_shared, passes_sent, six_sent}
-use Rattle.sync_tests.proofs.sharing.Crossing.{managers_shared, uses_shared}
-use Rattle.sync_tests.proofs.sharing.use_often_twice.Lts.{arg-0-1}
-use Rattle.sync_tests.proofs.sharing.use_often_twice.Goals as goal
+use Rattle.write_back_tests.proofs.sharing.Crossing.{managers_shared, uses_shared}
+use Rattle.write_back_tests.proofs.sharing.use_often_twice.Lts.{arg-0-1}
+use Rattle.write_back_tests.proofs.sharing.use_often_twice.Goals as goal
 
 pub join_mut-requires-send-F : goal.join_mut-requires-send-F
 join_mut-requires-send-F g c = λ κs b.

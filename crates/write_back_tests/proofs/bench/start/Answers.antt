@@ -1,8 +1,8 @@
 use Rattle.std.proofs.Common.{None}
-use Rattle.sync_tests.specs.declared.devices.PageLane.{PageLane}
-use Rattle.sync_tests.specs.declared.devices.ByteLog.{ByteLog}
-use Rattle.sync_tests.proofs.Idling.{three_idle}
-use Rattle.sync_tests.proofs.bench.start.Goals as goal
+use Rattle.write_back_tests.specs.declared.devices.PageLane.{PageLane}
+use Rattle.write_back_tests.specs.declared.devices.ByteLog.{ByteLog}
+use Rattle.write_back_tests.proofs.Idling.{three_idle}
+use Rattle.write_back_tests.proofs.bench.start.Goals as goal
 
 pub returns-in-Ok-start-clause-first : goal.returns-in-Ok-start-clause-first
 returns-in-Ok-start-clause-first c = (three_idle {L = PageLane} {G = ByteLog} (λ x. None) c.in-Ok-start.manager _ _ _ _ _ _ _ c.in-Ok-start.ensures.passes c.take_last-third.ensures.items c.take_last-second.ensures.items c.take_last-first.ensures.items).0

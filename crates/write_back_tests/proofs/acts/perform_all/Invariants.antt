@@ -1,6 +1,6 @@
 use Rattle.manager_tests.specs.Bench.{IsFree}
-use Rattle.sync_tests.specs.Idle.{IsFreeAndUnlocked}
-use Rattle.sync_tests.proofs.acts.perform_all.Given as goal
+use Rattle.write_back_tests.specs.Idle.{IsFreeAndUnlocked}
+use Rattle.write_back_tests.proofs.acts.perform_all.Given as goal
 
 abbrev pub invariant-loop-next : goal.invariant-loop-next
 invariant-loop-next g l = record {

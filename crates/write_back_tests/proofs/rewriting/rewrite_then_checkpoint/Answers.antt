@@ -1,13 +1,13 @@
 use Rattle.std.proofs.Common.{List, None, sym, subst, arith}
 use Rattle.block_tag.specs.declared.tag.Fork.TheVariants.{Main}
-use Rattle.sync_tests.specs.declared.devices.PageLane.{PageLane}
-use Rattle.sync_tests.specs.declared.devices.ByteLog.{ByteLog}
+use Rattle.write_back_tests.specs.declared.devices.PageLane.{PageLane}
+use Rattle.write_back_tests.specs.declared.devices.ByteLog.{ByteLog}
 use Rattle.backend_pass.specs.Managers.{AreAll}
 use Rattle.backend_pass.specs.Passes.{PassState}
 use Rattle.page_jobs.proofs.Backends.{new_are_free}
 use Rattle.page_jobs.proofs.RewriteBackends.{all_rewriters_given}
-use Rattle.sync_tests.proofs.Returning.{last_may, all_after}
-use Rattle.sync_tests.proofs.rewriting.rewrite_then_checkpoint.Goals as goal
+use Rattle.write_back_tests.proofs.Returning.{last_may, all_after}
+use Rattle.write_back_tests.proofs.rewriting.rewrite_then_checkpoint.Goals as goal
 
 pub rewrite-passes-requires-clause-free : goal.rewrite-passes-requires-clause-free
 rewrite-passes-requires-clause-free g c κs b = new_are_free {L = PageLane} {G = ByteLog} (λ x. None) c.in-Ok-start.manager Main _ c.in-Ok-start.passes.items c.in-Ok-start.ensures.passes

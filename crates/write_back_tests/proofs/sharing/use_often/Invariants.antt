@@ -1,5 +1,5 @@
 use Rattle.manager_tests.specs.Bench.{IsFreeIn}
-use Rattle.sync_tests.proofs.sharing.use_often.Given as goal
+use Rattle.write_back_tests.proofs.sharing.use_often.Given as goal
 
 abbrev pub invariant-loop-time : goal.invariant-loop-time
 invariant-loop-time g l = IsFreeIn l.fn.manager l.fn._number l.pass

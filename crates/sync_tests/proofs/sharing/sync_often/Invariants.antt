@@ -1,5 +1,0 @@
-use Rattle.sync_tests.specs.Idle.{IsFreeAndUnlockedIn}
-use Rattle.sync_tests.proofs.sharing.sync_often.Given as goal
-
-abbrev pub invariant-loop : goal.invariant-loop
-invariant-loop g l = IsFreeAndUnlockedIn l.fn.manager l.fn._number l.pass
