@@ -5,15 +5,14 @@ use denote.RattleType.{RattleType}
 use denote.Struct.Field.{u32-field}
 use denote.Struct.Tuple.{TupleAt}
 use denote.Param.Send.{IsSend, IsSync, sendable}
-use Rattle.std.proofs.Crossing.{crosses, frees}
+use Rattle.std.proofs.Crossing.{crosses}
 use Rattle.std.proofs.CrossingOver as over
 use Rattle.log_device.specs.declared.device.LogDevice as log_device
 use Rattle.backend_pass.specs.contracts.manager.Manager as manager
-use Rattle.backend_pass.proofs.Crossing.{lease_sync, shared_sync}
+use Rattle.backend_pass.proofs.Crossing as passes
 use Rattle.test_devices.specs.contracts.lane.TestLane as lane
 use Rattle.test_devices.specs.contracts.lane.TestLaneBlockLane.TheImpl as test_lane
 use Rattle.test_devices.specs.contracts.log.TestLog as log
-use Rattle.table_rule.specs.contracts.value.Value as value
 
 pub numbers_shared : IsSync (u32-field).row
 numbers_shared = search sendable
@@ -21,11 +20,11 @@ numbers_shared = search sendable
 lanes_cross : IsSend lane.the_row
 lanes_cross = search (sendable, crosses, over.crosses) depth 30
 
-values_cross : IsSend (value.the_row lane.the_row log.the_row)
-values_cross = search (sendable, crosses, over.crosses, lanes_cross) depth 30 fits 20000
+logs_cross : IsSend log.the_row
+logs_cross = search (sendable, crosses, over.crosses) depth 30
 
 pub managers_shared : (b : log_device.Ghosts log.the_row.Denot) → IsSync (manager.the_row lane.the_row log.the_row test_lane.ghosts b)
-managers_shared b = search (sendable, crosses, over.crosses, values_cross, shared_sync, lease_sync, frees) depth 50 fits 40000
+managers_shared b = passes.managers_shared lane.the_row log.the_row test_lane.ghosts b lanes_cross logs_cross
 
 -- what captures five values may cross threads where they may
 pub five_sent : (ν : Sym) (A B C D E : RattleType) → IsSend A → IsSend B → IsSend C → IsSend D → IsSend E → IsSend (TupleAt ν (A ∷ B ∷ C ∷ D ∷ E ∷ []))

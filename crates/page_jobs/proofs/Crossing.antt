@@ -6,26 +6,10 @@ use denote.Struct.Tuple.{TupleAt}
 use denote.Param.Send.{IsSend, IsSync, sendable}
 use Rattle.std.proofs.Crossing.{crosses, frees}
 use Rattle.std.proofs.CrossingOver as over
-use Rattle.segment_store.specs.declared.device.BlockLane as block_lane
-use Rattle.log_device.specs.declared.device.LogDevice as log_device
-use Rattle.table_rule.specs.contracts.value.Value as value
-use Rattle.backend_pass.specs.contracts.manager.Manager as manager
-use Rattle.atomic_table.specs.contracts.shared.Seat as seat
-use Rattle.atomic_table.proofs.Sent.{seat_keyless}
 use Rattle.chunk_claims.specs.contracts.claims.Claims as claims
-use Rattle.backend_pass.proofs.Crossing.{lease_sync, passes_sent, shared_sync}
+use Rattle.backend_pass.proofs.Crossing.{lease_sync, passes_sent, seat_send, shared_sync}
 use Rattle.page_jobs.specs.contracts.working.Worker as worker
 use Rattle.page_jobs.specs.contracts.working.ForkBlocks as blocks
-
-values_cross : (L G : RattleType) → IsSend L → IsSend G → IsSend (value.the_row L G)
-values_cross L G l g = search (sendable, crosses, over.crosses) depth 30 fits 20000
-
-pub managers_shared : (L G : RattleType) (a : block_lane.Ghosts L.Denot) (b : log_device.Ghosts G.Denot) → IsSend L → IsSend G → IsSync (manager.the_row L G a b)
-managers_shared L G a b l g = search (sendable, crosses, over.crosses, values_cross, shared_sync, lease_sync, frees) depth 50 fits 40000
-
--- a seat may go to another thread, where what its slots hold may
-seat_send : (S V : RattleType) → IsSend S → IsSend (seat.the_row S V)
-seat_send S V s = record { owned = λ d vs. ((λ vss. (tt, ((λ uss. (tt, tt)), tt))), seat_keyless S s V.coded.code d.table_id d.id d.me); leaving = λ k f vs. tt }
 
 pub claims_shared : IsSync claims.the_row
 claims_shared = search (sendable, crosses, over.crosses, shared_sync, lease_sync, frees) depth 50 fits 40000

@@ -4,12 +4,11 @@ use mir.Syntax.{Sym}
 use denote.RattleType.{RattleType}
 use denote.Struct.Tuple.{TupleAt}
 use denote.Param.Send.{IsSend, IsSync, sendable}
-use Rattle.std.proofs.Crossing.{crosses, frees}
+use Rattle.std.proofs.Crossing.{crosses}
 use Rattle.std.proofs.CrossingOver as over
 use Rattle.log_device.specs.declared.device.LogDevice as log_device
 use Rattle.backend_pass.specs.contracts.manager.Manager as manager
-use Rattle.backend_pass.proofs.Crossing.{shared_sync, lease_sync}
-use Rattle.table_rule.specs.contracts.value.Value as value
+use Rattle.backend_pass.proofs.Crossing as passes
 use Rattle.write_back_tests.specs.contracts.devices.PageLane as lane
 use Rattle.write_back_tests.specs.contracts.devices.PageLaneBlockLane.TheImpl as page_lane
 use Rattle.write_back_tests.specs.contracts.devices.ByteLog as log
@@ -22,11 +21,8 @@ lanes_cross = search (sendable, crosses, over.crosses) depth 30 fits 20000
 logs_cross : IsSend log.the_row
 logs_cross = search (sendable, crosses, over.crosses) depth 30
 
-values_cross : IsSend (value.the_row lane.the_row log.the_row)
-values_cross = search (sendable, crosses, over.crosses, lanes_cross, logs_cross) depth 30 fits 20000
-
 pub managers_shared : (b : log_device.Ghosts log.the_row.Denot) → IsSync (manager.the_row lane.the_row log.the_row page_lane.ghosts b)
-managers_shared b = search (sendable, crosses, over.crosses, values_cross, shared_sync, lease_sync, frees) depth 50 fits 40000
+managers_shared b = passes.managers_shared lane.the_row log.the_row page_lane.ghosts b lanes_cross logs_cross
 
 pub uses_shared : IsSync uses.the_row
 uses_shared = search (sendable, crosses, over.crosses) depth 20

@@ -1,7 +1,7 @@
 use denote.Exit.{no}
 use denote.Param.Send.{IsSync, arg_sync, param_sync, shr_sync}
-use Rattle.backend_pass.proofs.Crossing.{globals_shared}
-use Rattle.page_jobs.proofs.Crossing.{blocks_shared, claims_shared, managers_shared, seven_shared}
+use Rattle.backend_pass.proofs.Crossing.{globals_shared, managers_shared}
+use Rattle.page_jobs.proofs.Crossing.{blocks_shared, claims_shared, seven_shared}
 use Rattle.page_jobs.proofs.running.work_all.Lts.{arg-2-2}
 use Rattle.page_jobs.proofs.running.work_all.Goals as goal
 

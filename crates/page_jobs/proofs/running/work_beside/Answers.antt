@@ -1,8 +1,8 @@
 use denote.Exit.{no}
 use denote.Param.Send.{IsSend, arg_send, mut_send, param_send, shr_send}
 use Rattle.std.proofs.Crossing.{Vec-send}
-use Rattle.backend_pass.proofs.Crossing.{globals_shared}
-use Rattle.page_jobs.proofs.Crossing.{blocks_shared, claims_shared, eight_sent, managers_shared, workers_sent}
+use Rattle.backend_pass.proofs.Crossing.{globals_shared, managers_shared}
+use Rattle.page_jobs.proofs.Crossing.{blocks_shared, claims_shared, eight_sent, workers_sent}
 use Rattle.page_jobs.proofs.running.work_beside.Lts.{arg-0-1}
 use Rattle.page_jobs.proofs.running.work_beside.Goals as goal
 
