@@ -1,0 +1,29 @@
+use Rattle.pin_core.specs.declared.view.Content.TheVariants as lock
+use Rattle.backend_pass.proofs.Keeping.{pass_on}
+use Rattle.library_example.proofs.Returning.{relocked, released}
+use Rattle.library_example.proofs.backends.change_block.Goals as goal
+
+pub returns : goal.returns
+returns g c =
+    let m = c.args.manager.now in
+    let ct = g.L.BlockLane.contents in
+    let p = c.args.pass.now in
+    let q = c.read_buffer.new.self in
+    let r = c.lock_for.new.pass in
+    let s = c.put_changed-done.new.pass in
+    let t = c.unexclusive-pinned.new.self in
+    let z = c.release.new.self in
+    let d = c.put_changed-done.ensures in
+    let u = c.unexclusive-pinned.ensures in
+    let v = c.release.ensures in
+    let unlocked = relocked ct m lock.Exclusive lock.Unlocked c.put_changed-done.new.locked.pinned c.unexclusive-pinned.result s t d.only u.token u.belongs u.tokens u.lock in
+    record {
+      same = pass_on p q z c.in_ok-pinned.ensures.same.keeps (pass_on q r z c.in_ok-locked.ensures.same (pass_on r s z d.same (pass_on s t z u.same.keeps v.same.keeps)));
+      idle = released ct m c.unexclusive-pinned.result t z unlocked v.belongs v.tokens v.locks;
+    }
+
+pub returns-in_err-locked : goal.returns-in_err-locked
+returns-in_err-locked g c = record {
+  same = pass_on c.args.pass.now c.read_buffer.new.self c.lock_for.new.pass c.in_ok-pinned.ensures.same.keeps c.in_err-locked.ensures.same;
+  idle = c.in_err-locked.ensures.refused;
+}
