@@ -168,10 +168,11 @@ fn a_sync_reaches_each_segment(rt: HostRuntime) -> Result<(), Fail> {
     for lane in &mut lanes {
         assert_eq!(rt; sync_lane(lane, &syncs), (Ok(()), 2));
         assert_eq!(rt; sync_lane(lane, &syncs), (Err(Failed), 3));
-        assert_eq!(rt; sync_lane(lane, &syncs), (Ok(()), 5));
+        // What the failed sync was to make durable may be lost, so no later one succeeds.
+        assert_eq!(rt; sync_lane(lane, &syncs), (Err(Failed), 3));
     }
     host.give_back(lanes, None, None);
-    assert_eq!(rt; host.write_faults(), 1);
+    assert_eq!(rt; host.write_faults(), 2);
     remove_segments(&rt, segments)?;
     Ok(())
 }

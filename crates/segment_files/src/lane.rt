@@ -40,7 +40,8 @@ struct LaneSegments<'a, R: Files> {
     alloc: Global,
     /// The segment behind the shared files that this lane used last.
     added: Option<AddedSegment<R::File>>,
-    /// Whether a sync of such a segment failed since the last call of `sync`.
+    /// Whether a sync failed. The system may have dropped pages that it couldn't write, and a later
+    /// sync may succeed without them, so it stays true.
     sync_failed: bool,
     seg_blocks: u32,
     ghost some: { 1 ≤ seg_blocks },
@@ -81,6 +82,18 @@ where
             self.sync_failed = true;
         }
         synced
+    }
+
+    /// Syncs these files, and the segment that isn't among them.
+    fn sync_all(&mut self, shared: &[SharedFiles<R::File>]) -> io::Result<()> {
+        for files in shared {
+            let synced = files.sync();
+            if synced.is_err() {
+                self.sync_failed = true;
+            }
+            synced?;
+        }
+        self.sync_added()
     }
 
     /// The file of a segment. One that isn't among the shared files is opened when it is needed, or
@@ -185,17 +198,12 @@ where
         self.segments.write(files, tag.block, page)
     }
 
-    /// Fails also if a segment couldn't be synced before another was opened.
+    /// Fails if any sync of the lane has failed, this one or an earlier one.
     fn sync(&mut self) -> io::Result<()> {
-        for files in self.shared.as_slice() {
-            files.sync()?;
-        }
-        let _synced = self.segments.sync_added();
         if self.segments.sync_failed {
-            self.segments.sync_failed = false;
             return Err(ErrorKind::Other.into());
         }
-        Ok(())
+        self.segments.sync_all(self.shared.as_slice())
     }
 }
 
@@ -203,7 +211,8 @@ where
 ///
 /// A block past the end of its relation's fork can be written too: the blocks between are zeroed, and
 /// missing segments are created. Of each fork of a relation at most one lane at a time may write past
-/// the end.
+/// the end. Once a sync has failed, each later one does: what that one was to make durable may be lost
+/// (PostgreSQL panics then, unless `data_sync_retry` is set).
 #[derive(Drop)]
 pub struct FileLane<'a, R: Files> {
     files: LaneFiles<'a, R>,
