@@ -1,8 +1,8 @@
 //! Runs a command line.
-ghost use Rattle.std.specs.Prelude.{◌≡◌, ◌≤◌, ◌⊎◌, None, IfErr, IfSome};
+ghost use Rattle.std.specs.Prelude.{◌≡◌, ◌≢◌, ◌≤◌, ◌⊎◌, None, IfErr, IfSome};
 ghost use Rattle.log_device.specs.Bytes.{Puts};
 ghost use Rattle.relation_commands.specs.declared.error.ToolError.{ToolError};
-ghost use Rattle.relation_commands.specs.Answers.{BadLogIf, CountsLater, CrowdedIf, Ends, FailsNone, FaultIf, IsComplete, IsNoRewrite, LeavesFiles, LimitIf, MissingIf, PutsLogOf, SaysAs, SaysStatus, UsageIf, WritesNoPath, Wrote, WroteLogOf, counts_of, text_asked};
+ghost use Rattle.relation_commands.specs.Answers.{BadLogIf, CountsLater, CrowdedIf, Ends, FailsNone, FaultIf, IsComplete, IsNoRewrite, LeavesFiles, LimitIf, MissingIf, PrintsAtEnd, PutsLogOf, SaysAs, SaysStatus, UsageIf, WritesNoPath, Wrote, WroteLogOf, counts_of, text_asked};
 ghost use Rattle.relation_commands.specs.Request.{NamesNoPath, options_of, request_in};
 ghost use Rattle.relation_commands.specs.RewriteFiles.{BecomesOf, files_in};
 ghost use Rattle.relation_commands.specs.Status.{status_of, status_of_error};
@@ -57,6 +57,8 @@ fn perform<'a, H: Host, R: Threads + Wait + Sync, O: Sink + Send, G: Gate + Sync
     ensures silent { IfErr result (λ e. status_of_error e ≤ 3 → O.bytes out.new ≡ O.bytes out.old) }
     ensures bad_log_silent { IfErr result
         (λ e. status_of_error e ≡ 10 → O.bytes out.new ≡ O.bytes out.old) }
+    ensures silent_to_end { PrintsAtEnd (request_in words.now)
+        → IfErr result (λ e. status_of_error e ≢ 7 → O.bytes out.new ≡ O.bytes out.old) }
     ensures no_command { request_in words.now ≡ None → O.bytes out.new ≡ O.bytes out.old }
     ensures files { let files = files_in H.contents H.failed_writes H.logs
         H.write_faults H.log_faults in
@@ -132,6 +134,8 @@ pub fn run<H: Host, R: Threads + Wait + Sync, O: Sink + Send, E: Sink, G: Gate +
         (O.bytes out.old) (O.bytes out.new) result) }
     ensures silent { 1 ≤ result → result ≤ 3 → O.bytes out.new ≡ O.bytes out.old }
     ensures bad_log_silent { result ≡ 10 → O.bytes out.new ≡ O.bytes out.old }
+    ensures silent_to_end { PrintsAtEnd (request_in words.now)
+        → 1 ≤ result → result ≢ 7 → result ≢ 8 → O.bytes out.new ≡ O.bytes out.old }
     ensures no_command { request_in words.now ≡ None → O.bytes out.new ≡ O.bytes out.old }
     ensures quiet { result ≡ 0
         → (E.bytes err.new ≡ E.bytes err.old) × (E.faults err.new ≡ E.faults err.old) }

@@ -19,7 +19,7 @@ use Rattle.relation_commands.specs.Limits.{PassesLimit, largest_lsn}
 use Rattle.relation_commands.specs.Listings.{NoneFails, text_of}
 use Rattle.relation_commands.specs.RecoverFiles.{ForLogOf, RecoversFiles}
 use Rattle.relation_commands.specs.RecoverTexts.{recover_text}
-use Rattle.relation_commands.specs.Request.{Asked, IsCrowded, ListingAsked, crowding_of, is_rewriting, is_writing, listing, log_path_of, rewriting, recovering, sampling, options_of, path_of}
+use Rattle.relation_commands.specs.Request.{Asked, IsCrowded, ListingAsked, crowding_of, is_listing, is_rewriting, is_writing, listing, log_path_of, rewriting, recovering, sampling, options_of, path_of}
 use Rattle.relation_commands.specs.RewriteFiles.{HostFiles, RewritesFiles, pages_at}
 use Rattle.relation_commands.specs.RewriteTexts.{rewrite_text}
 use Rattle.relation_commands.specs.Samples.{sample_text}
@@ -125,6 +125,10 @@ pub record ListingKeeps (l : ListingAsked) (old new : HostFiles) : Type 0 where
 -- the words ask for no rewrite
 abbrev pub IsNoRewrite : Option Asked → Type 0
 IsNoRewrite request = IfSome request (λ a. is_rewriting a ≡ false)
+
+-- the words ask for something whose text is put at its end: a rewrite, a recovery or a sample
+abbrev pub PrintsAtEnd : Option Asked → Type 0
+PrintsAtEnd request = IfSome request (λ a. is_listing a ≡ false)
 
 -- the words ask for nothing that writes pages of a relation at a path
 abbrev pub WritesNoPath : Option Asked → Type 0

@@ -90,6 +90,13 @@ is_rewriting (rewriting r) = true
 is_rewriting (recovering r) = false
 is_rewriting (sampling s) = false
 
+-- whether blocks are listed
+abbrev pub is_listing : Asked → Bool
+is_listing (listing l) = true
+is_listing (rewriting r) = false
+is_listing (recovering r) = false
+is_listing (sampling s) = false
+
 -- whether pages of the relation at a path are written
 abbrev pub is_writing : Asked → Bool
 is_writing (listing l) = false

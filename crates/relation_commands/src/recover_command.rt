@@ -1,5 +1,5 @@
 //! Recovers the relation at a path, by the log of a rewrite at another.
-ghost use Rattle.std.specs.Prelude.{◌≡◌, ◌≤◌, ◌<◌, IfErr, IfOk, IfSome, OnOk, length, map};
+ghost use Rattle.std.specs.Prelude.{◌≡◌, ◌≢◌, ◌≤◌, ◌<◌, IfErr, IfOk, IfSome, OnOk, length, map};
 ghost use Rattle.command_line.specs.Numbers.{HasOptionsInRange};
 ghost use Rattle.log_device.specs.Bytes.{Puts};
 ghost use Rattle.segment_store.specs.Lanes.{HoldTheirs};
@@ -181,6 +181,8 @@ fn put_redone<O: Sink>(alloc: Global, redone: &Redone, out: &mut O) -> Result<()
     ensures later { O.faults out.old ≤ O.faults out.new }
     ensures quiet { OnOk result (O.faults out.new ≡ O.faults out.old) }
     ensures cause { IfErr result (IsPutRefusal (O.faults out.old) (O.faults out.new)) }
+    ensures silent { IfErr result
+        (λ e. e ≢ RewriteError.OutFault → O.bytes out.new ≡ O.bytes out.old) }
 {
     let Redone {
         base,
@@ -221,9 +223,7 @@ pub fn recover_relation<'a, H: Host, O: Sink>(
         (RecoversFiles (recover_asked request.now) (status_of result)) }
     ensures text { PutsLogOf (asked (Request.Recover request.now)) (H.logs host.old)
         (O.bytes out.old) (O.bytes out.new) result }
-    ensures silent { IfErr result (λ e. status_of_error e ≤ 3 → O.bytes out.new ≡ O.bytes out.old) }
-    ensures bad_log_silent { IfErr result
-        (λ e. status_of_error e ≡ 10 → O.bytes out.new ≡ O.bytes out.old) }
+    ensures silent { IfErr result (λ e. status_of_error e ≢ 7 → O.bytes out.new ≡ O.bytes out.old) }
     ensures logs { H.logs host.new ≡ H.logs host.old }
     ensures log_faults { H.log_faults host.new ≡ H.log_faults host.old }
 {

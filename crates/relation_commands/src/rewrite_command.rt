@@ -1,5 +1,5 @@
 //! Rewrites the relation at a path, with a log of its new pages at another.
-ghost use Rattle.std.specs.Prelude.{◌≡◌, ◌≤◌, ◌<◌, ◌*◌, ◌+◌, ◌%◌, ◌^◌, List, IfErr, IfOk, IfSome, MatchResult, OnOk, length, map, option_map, sum_by};
+ghost use Rattle.std.specs.Prelude.{◌≡◌, ◌≢◌, ◌≤◌, ◌<◌, ◌*◌, ◌+◌, ◌%◌, ◌^◌, List, IfErr, IfOk, IfSome, MatchResult, OnOk, length, map, option_map, sum_by};
 ghost use Rattle.std.specs.Option.{option_map_or};
 ghost use Rattle.command_line.specs.Numbers.{HasOptionsInRange};
 ghost use Rattle.log_device.specs.Bytes.{Puts};
@@ -194,6 +194,8 @@ fn put_totals<O: Sink>(
     ensures later { O.faults out.old ≤ O.faults out.new }
     ensures quiet { OnOk result (O.faults out.new ≡ O.faults out.old) }
     ensures cause { IfErr result (IsPutRefusal (O.faults out.old) (O.faults out.new)) }
+    ensures silent { IfErr result
+        (λ e. e ≢ RewriteError.OutFault → O.bytes out.new ≡ O.bytes out.old) }
 {
     let end = base.saturating_add(RECORD_SIZE.saturating_mul(totals.changed));
     let base = Position(base);
@@ -225,6 +227,8 @@ fn rewrite_surveyed<H: Host, R: Threads + Wait + Sync, O: Sink, T: Gate + Sync>(
         BecomesOf (files host.old) (files host.new)
         (LeavesByEnd (rewrite_asked request.now) result) }
     ensures text { IfSome (H.contents host.old) (λ paths. Puts (rewrite_text (pages_at (rewrite_asked request.now) paths)) (O.bytes out.old) (O.bytes out.new) result) }
+    ensures silent { IfErr result
+        (λ e. e ≢ RewriteError.OutFault → O.bytes out.new ≡ O.bytes out.old) }
 {
     match rewrite_and_give_back(rt, alloc, request, relation, lanes, base, host, gate) {
         Ok(totals) => put_totals(alloc, &totals, base, out),
@@ -254,6 +258,8 @@ fn rewrite_opened<H: Host, R: Threads + Wait + Sync, O: Sink, G: Gate + Sync>(
         BecomesOf (files host.old) (files host.new)
         (LeavesByEnd (rewrite_asked request.now) result) }
     ensures text { IfSome (H.contents host.old) (λ paths. Puts (rewrite_text (pages_at (rewrite_asked request.now) paths)) (O.bytes out.old) (O.bytes out.new) result) }
+    ensures silent { IfErr result
+        (λ e. e ≢ RewriteError.OutFault → O.bytes out.new ≡ O.bytes out.old) }
 {
     let relation = RelationFork {
         // The words were refused where the path has no number.
@@ -292,7 +298,7 @@ pub fn rewrite_relation<'a, H: Host, R: Threads + Wait + Sync, O: Sink, G: Gate 
         BecomesOf (files host.old) (files host.new)
         (RewritesFiles (rewrite_asked request.now) (status_of result)) }
     ensures text { IfSome (H.contents host.old) (λ paths. Puts (rewrite_text (pages_at (rewrite_asked request.now) paths)) (O.bytes out.old) (O.bytes out.new) result) }
-    ensures silent { IfErr result (λ e. status_of_error e ≤ 3 → O.bytes out.new ≡ O.bytes out.old) }
+    ensures silent { IfErr result (λ e. status_of_error e ≢ 7 → O.bytes out.new ≡ O.bytes out.old) }
 {
     let RewriteRequest { path, options, .. } = *request;
     if let Some(crowding) = crowding_in(&options) {

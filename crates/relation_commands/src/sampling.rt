@@ -1,5 +1,5 @@
 //! A relation that is made from a number is scanned, rewritten and scanned again, in memory.
-ghost use Rattle.std.specs.Prelude.{◌≡◌, ◌≤◌, ◌%◌, ◌^◌, List, IfErr, IfOk, OnOk, length, sum_by};
+ghost use Rattle.std.specs.Prelude.{◌≡◌, ◌≢◌, ◌≤◌, ◌%◌, ◌^◌, List, IfErr, IfOk, OnOk, length, sum_by};
 ghost use Rattle.command_line.specs.Numbers.{HasOptionsInRange};
 ghost use Rattle.log_device.specs.Bytes.{Puts};
 ghost use Rattle.page_layout.specs.Scan.{totals_of};
@@ -210,6 +210,8 @@ fn put_sample<O: Sink>(
     ensures later { O.faults out.old ≤ O.faults out.new }
     ensures quiet { OnOk result (O.faults out.new ≡ O.faults out.old) }
     ensures cause { IfErr result (IsPutRefusal (O.faults out.old) (O.faults out.new)) }
+    ensures silent { IfErr result
+        (λ e. e ≢ RewriteError.OutFault → O.bytes out.new ≡ O.bytes out.old) }
 {
     let SampleTotals {
         before,
@@ -240,7 +242,7 @@ pub fn sample<'a, R: Threads + Wait + Sync, O: Sink, G: Gate + Sync>(
     ensures later { O.faults out.old ≤ O.faults out.new }
     ensures cause { IfErr result (IsSampleRefusal request.now.options
         (O.faults out.old) (O.faults out.new)) }
-    ensures silent { IfErr result (λ e. status_of_error e ≤ 3 → O.bytes out.new ≡ O.bytes out.old) }
+    ensures silent { IfErr result (λ e. status_of_error e ≢ 7 → O.bytes out.new ≡ O.bytes out.old) }
 {
     if let Some(crowding) = crowding_in(&request.options) {
         return Err(ToolError::Crowded(crowding));
