@@ -6,7 +6,7 @@ ghost use Rattle.access_rings.specs.RingState.{IsRing, Rejects, frame_at_current
 use std::alloc::{AllocError, Global};
 use std::marker::Model;
 
-/// Want of memory, where it is the one refusal.
+/// Out of memory, for calls that fail for nothing else.
 pub type Memory = AllocError;
 
 /// How many frames the pool has at least for each place of a ring.

@@ -115,7 +115,7 @@ fn a_stale_segment_keeps_its_tail(rt: HostRuntime) -> Result<(), Fail> {
     Ok(())
 }
 
-/// After the first new block one before it is written, and then one behind it.
+/// After the first new block one before it is written, and then one after it.
 #[test]
 fn segments_are_created(rt: HostRuntime) -> Result<(), Fail> {
     put_file(&rt, "grown", &[(1, 16384)])?;

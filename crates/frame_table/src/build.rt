@@ -18,7 +18,7 @@ use table_rule::{
 
 impl<L: BlockLane, G: LogDevice> FrameTable<L, G> {
     /// The table of these relations and devices, over a log that begins at `base`, with a seat for the first backend.
-    /// Want of memory alone is refused, and the devices come back.
+    /// Fails only when it is out of memory, and gives the devices back then.
     pub fn build(
         alloc: Global,
         config: Config,

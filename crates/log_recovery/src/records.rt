@@ -78,7 +78,7 @@ fn block_named(catalog: &Catalog, bytes: &[u8]) -> Option<Tag>
     Some(Tag { rel, fork, block })
 }
 
-/// Takes the bytes behind the header for the page.
+/// Takes the bytes after the header for the page.
 fn take_page(bytes: &[u8], page: &mut Page)
     requires { length bytes.now ≡ 8224 }
     ensures page { page.new ≡ drop 32 bytes.now }

@@ -45,7 +45,7 @@ fn sync_all<L: BlockLane>(lanes: &mut [L]) -> Result<(), Failed>
     Ok(())
 }
 
-/// Takes the head, and redoes the records behind it.
+/// Takes the head, and redoes the records after it.
 fn redo_log<L: BlockLane, S: Source>(
     alloc: Global,
     lanes: &mut [L],

@@ -68,7 +68,7 @@ fn write_to_lane<L: BlockLane>(lanes: &mut [L], tag: Tag, page: &Page) -> Result
 pub(crate) struct Progress {
     /// Where the log begins.
     pub(crate) base: Lsn,
-    /// The position behind the records so far.
+    /// The position after the records so far.
     pub(crate) position: Lsn,
     /// How many they are.
     pub(crate) entries: u64,

@@ -1,8 +1,5 @@
 //! Recoveries in which a call of a device fails, and recoveries of what is left of a relation.
-use crate::test_hosts::{
-    Call, LOG, NONE_FAIL, answer_of, error_line, failing_of, has_log, has_pages, has_segments,
-    host_with_log, host_with_space, relation_bytes,
-};
+use crate::test_hosts::{Call, NONE_FAIL, NOTHING, Stored, answer_of, error_line, failing_of};
 use crate::test_pages::{dead_items_page, one_page_log, rewritten_page};
 use std::alloc::Global;
 use std::process::Abort;
@@ -74,8 +71,12 @@ pub(crate) fn check_recovery<R: Abort + Threads + Wait + Sync>(
     left: &[u8],
     log: Option<&[u8]>,
 ) -> Result<(), Fail> {
-    let mut host = host_with_log(alloc, left, log, NONE_FAIL)?;
-    let answer = answer_of(rt, alloc, LINE, &mut host, &[])?;
+    let stored = Stored {
+        relation: &[left],
+        log,
+        ..NOTHING
+    };
+    let answer = answer_of(rt, alloc, LINE, stored, NONE_FAIL)?;
     let (status, out, err) = recovery_by(log);
     answer.check(rt, status, out, err);
     let redone = match log {
@@ -83,8 +84,8 @@ pub(crate) fn check_recovery<R: Abort + Threads + Wait + Sync>(
         None => 0,
     };
     let ends = (
-        has_pages(&host, left.len() / 8192, redone, None),
-        has_log(&host, LOG, log),
+        answer.has_pages(left.len() / 8192, redone, None),
+        answer.has_log(log),
     );
     assert_eq!(rt; ends, (true, true), "{redone}");
     Ok(())
@@ -100,15 +101,20 @@ fn check_fault<R: Abort + Threads + Wait + Sync>(
     let numbers = [number];
     let failing = failing_of(call, &numbers);
     let log = one_page_log(alloc, 0)?;
-    let mut host = host_with_log(alloc, &dead_items_page(), Some(&log), failing)?;
-    let answer = answer_of(rt, alloc, LINE, &mut host, failing.puts)?;
+    let page = dead_items_page();
+    let stored = Stored {
+        relation: &[&page],
+        log: Some(&log),
+        ..NOTHING
+    };
+    let answer = answer_of(rt, alloc, LINE, stored, failing)?;
     answer.check(rt, status, text_put(status), error_line(status));
     let ends = (
-        has_pages(&host, 1, redone, torn),
-        has_log(&host, LOG, Some(&log)),
+        answer.has_pages(1, redone, torn),
+        answer.has_log(Some(&log)),
     );
     assert_eq!(rt; ends, (true, true), "{call:?} {number}");
-    check_recovery(rt, alloc, relation_bytes(&host), Some(&log))
+    check_recovery(rt, alloc, answer.relation_bytes(), Some(&log))
 }
 
 #[test]
@@ -137,15 +143,22 @@ fn a_relation_grows_into_its_room(rt: HostRuntime) -> Result<(), Fail> {
     let first = two_pages(alloc, &page, &page)?;
     let longer = two_pages(alloc, &page, &[0; 8192])?;
     let third = two_pages(alloc, &[0; 8192], &rewritten_page(0))?;
+    let stored = Stored {
+        relation: &[&first, &page],
+        space: Some((3, 2)),
+        log: Some(&log),
+    };
 
-    let mut host = host_with_space(alloc, &[&first, &page], &log, 3, 2)?;
-    let answer = answer_of(&rt, alloc, line, &mut host, &[])?;
+    let answer = answer_of(&rt, alloc, line, stored, NONE_FAIL)?;
     answer.check(&rt, 0, REDONE[1], "");
-    assert!(rt; has_segments(&host, &[&first, &longer, &third]));
+    assert!(rt; answer.has_segments(&[&first, &longer, &third]));
 
-    let mut host = host_with_space(alloc, &[&first, &page], &log, 2, 2)?;
-    let answer = answer_of(&rt, alloc, line, &mut host, &[])?;
+    let crowded = Stored {
+        space: Some((2, 2)),
+        ..stored
+    };
+    let answer = answer_of(&rt, alloc, line, crowded, NONE_FAIL)?;
     answer.check(&rt, 5, "", error_line(5));
-    assert!(rt; has_segments(&host, &[&first, &page]));
+    assert!(rt; answer.has_segments(&[&first, &page]));
     Ok(())
 }

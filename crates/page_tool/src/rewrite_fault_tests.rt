@@ -1,8 +1,6 @@
 //! Rewrites in which a call of a device fails, and recoveries after them.
 use crate::recover_fault_tests::check_recovery;
-use crate::test_hosts::{
-    Call, LOG, answer_of, error_line, failing_of, has_log, has_pages, host_with_log, relation_bytes,
-};
+use crate::test_hosts::{Call, NOTHING, Stored, answer_of, error_line, failing_of};
 use crate::test_pages::{dead_items_page, rewrite_log};
 use std::alloc::Global;
 use std::process::Abort;
@@ -89,8 +87,12 @@ fn check_fault<R: Abort + Threads + Wait + Sync>(
     let numbers = [number];
     let failing = failing_of(call, &numbers);
     let pages = four_pages(alloc)?;
-    let mut host = host_with_log(alloc, &pages, Some(OLD_LOG), failing)?;
-    let answer = answer_of(rt, alloc, LINE, &mut host, failing.puts)?;
+    let stored = Stored {
+        relation: &[&pages],
+        log: Some(OLD_LOG),
+        ..NOTHING
+    };
+    let answer = answer_of(rt, alloc, LINE, stored, failing)?;
     answer.check(rt, status, text_put(status), error_line(status));
     let whole = rewrite_log(alloc)?;
     let log = match length {
@@ -98,13 +100,13 @@ fn check_fault<R: Abort + Threads + Wait + Sync>(
         None => Some(OLD_LOG),
     };
     let left = (
-        has_pages(&host, 4, rewritten, torn),
-        has_log(&host, LOG, log),
-        host.write_faults() > 0,
+        answer.has_pages(4, rewritten, torn),
+        answer.has_log(log),
+        answer.write_faults > 0,
     );
     assert_eq!(rt; left, (true, true, status == 5), "{call:?} {number}");
     let recovered = if length.is_some() { log } else { None };
-    check_recovery(rt, alloc, relation_bytes(&host), recovered)
+    check_recovery(rt, alloc, answer.relation_bytes(), recovered)
 }
 
 #[test]

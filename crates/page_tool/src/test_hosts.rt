@@ -12,7 +12,7 @@ use std::sync::atomic::{AtomicU64, Ordering};
 use std::test::Fail;
 use std::thread::Threads;
 
-/// The relation of most tests.
+/// The relation of the tests.
 pub(crate) const RELATION: &str = "base/5/16384";
 
 /// The path of the log.
@@ -87,18 +87,43 @@ fn plan(alloc: Global, failing: &[u64]) -> Result<FaultPlan, Fail> {
     Ok(FaultPlan::new(failing.to_vec(alloc)?))
 }
 
-/// A relation of one segment.
-fn file_of(alloc: Global, path: &str, bytes: &[u8]) -> Result<MemFile, Fail> {
-    let mut segments = Vec::new(alloc);
-    segments.push(bytes.to_vec(alloc)?)?;
-    Ok(MemFile::new(alloc, String::from_str(alloc, path)?, segments))
+/// What a host has before a run.
+#[derive(Clone, Copy)]
+pub(crate) struct Stored<'a> {
+    /// The segments of the relation of the tests.
+    pub relation: &'a [&'a [u8]],
+    /// How many segments, and each of how many blocks, it may grow to; `None`: it can't grow.
+    pub space: Option<(u32, u32)>,
+    /// The bytes of the log, if there is one.
+    pub log: Option<&'a [u8]>,
 }
 
-fn relation_files(alloc: Global, relations: &[(&str, &[u8])]) -> Result<Vec<MemFile>, Fail> {
-    let mut files = Vec::new(alloc);
-    for (path, bytes) in relations {
-        files.push(file_of(alloc, path, bytes)?)?;
+pub(crate) const NOTHING: Stored<'static> = Stored {
+    relation: &[],
+    space: None,
+    log: None,
+};
+
+fn segments_of(alloc: Global, relation: &[&[u8]]) -> Result<Vec<Vec<u8>>, Fail> {
+    let mut segments = Vec::new(alloc);
+    for segment in relation {
+        segments.push(segment.to_vec(alloc)?)?;
     }
+    Ok(segments)
+}
+
+fn file_of(alloc: Global, stored: Stored) -> Result<MemFile, Fail> {
+    let path = String::from_str(alloc, RELATION)?;
+    let segments = segments_of(alloc, stored.relation)?;
+    match stored.space {
+        Some((count, blocks)) => Ok(MemFile::with_space(alloc, path, segments, count, blocks)?),
+        None => Ok(MemFile::new(alloc, path, segments)),
+    }
+}
+
+fn files_of(alloc: Global, stored: Stored) -> Result<Vec<MemFile>, Fail> {
+    let mut files = Vec::new(alloc);
+    files.push(file_of(alloc, stored)?)?;
     Ok(files)
 }
 
@@ -110,7 +135,7 @@ fn lane_plan(alloc: Global, failing: Failing) -> Result<LanePlan, Fail> {
     })
 }
 
-fn logs_of(alloc: Global, failing: Failing) -> Result<MemLogs, Fail> {
+fn empty_logs(alloc: Global, failing: Failing) -> Result<MemLogs, Fail> {
     let calls = LogPlan {
         appends: plan(alloc, failing.appends)?,
         syncs: plan(alloc, failing.log_syncs)?,
@@ -122,74 +147,21 @@ fn logs_of(alloc: Global, failing: Failing) -> Result<MemLogs, Fail> {
     Ok(MemLogs::new(alloc, LOG_ROOM, openings, calls, sources))
 }
 
-/// A host with these files, and with a log of these bytes, if there are any.
-fn host_over(
-    alloc: Global,
-    files: Vec<MemFile>,
-    log: Option<&[u8]>,
-    failing: Failing,
-) -> Result<MemHost, Fail> {
-    let openings = plan(alloc, failing.openings)?;
-    let lanes = lane_plan(alloc, failing)?;
-    let mut logs = logs_of(alloc, failing)?;
-    if let Some(bytes) = log {
+fn logs_of(alloc: Global, stored: Stored, failing: Failing) -> Result<MemLogs, Fail> {
+    let mut logs = empty_logs(alloc, failing)?;
+    if let Some(bytes) = stored.log {
         logs.put(alloc, LOG, bytes)?;
     }
+    Ok(logs)
+}
+
+/// A host that has this.
+pub(crate) fn host_of(alloc: Global, stored: Stored, failing: Failing) -> Result<MemHost, Fail> {
+    let openings = plan(alloc, failing.openings)?;
+    let lanes = lane_plan(alloc, failing)?;
+    let logs = logs_of(alloc, stored, failing)?;
+    let files = files_of(alloc, stored)?;
     Ok(MemHost::new(alloc, files, openings, lanes, logs))
-}
-
-/// A host with these relations, each of one segment, and no logs.
-pub(crate) fn host_of(
-    alloc: Global,
-    relations: &[(&str, &[u8])],
-    failing: Failing,
-) -> Result<MemHost, Fail> {
-    let files = relation_files(alloc, relations)?;
-    host_over(alloc, files, None, failing)
-}
-
-/// A host with the relation of most tests, of one segment, and with a log, if there is one.
-pub(crate) fn host_with_log(
-    alloc: Global,
-    relation: &[u8],
-    log: Option<&[u8]>,
-    failing: Failing,
-) -> Result<MemHost, Fail> {
-    let files = relation_files(alloc, &[(RELATION, relation)])?;
-    host_over(alloc, files, log, failing)
-}
-
-/// A host with a log, and with a relation that may have so many segments, each of so many blocks.
-pub(crate) fn host_with_space(
-    alloc: Global,
-    relation: &[&[u8]],
-    log: &[u8],
-    count: u32,
-    blocks: u32,
-) -> Result<MemHost, Fail> {
-    let mut segments = Vec::new(alloc);
-    for segment in relation {
-        segments.push(segment.to_vec(alloc)?)?;
-    }
-    let path = String::from_str(alloc, RELATION)?;
-    let mut files = Vec::new(alloc);
-    files.push(MemFile::with_space(alloc, path, segments, count, blocks)?)?;
-    host_over(alloc, files, Some(log), NONE_FAIL)
-}
-
-/// Whether these are the segments of the relation of most tests.
-pub(crate) fn has_segments(host: &MemHost, wanted: &[&[u8]]) -> bool {
-    let segments = host.segments(RELATION);
-    let mut pairs = segments.iter().zip(wanted);
-    segments.len() == wanted.len() && pairs.all(|(segment, bytes)| segment.as_slice() == *bytes)
-}
-
-/// The bytes of the one segment of the relation of most tests.
-pub(crate) fn relation_bytes(host: &MemHost) -> &[u8] {
-    match host.segments(RELATION) {
-        [segment] => segment.as_slice(),
-        _ => &[],
-    }
 }
 
 /// Whether a block has its page with dead line pointers; of the first blocks, so many, whether it has the
@@ -199,29 +171,6 @@ fn is_left(block: usize, page: &[u8], rewritten: usize) -> bool {
         return page == rewritten_page(block).as_slice();
     }
     page == dead_items_page().as_slice()
-}
-
-/// Whether the relation of most tests has so many pages with dead line pointers, of which the first ones,
-/// so many, are rewritten. Of the torn block any page will do.
-pub(crate) fn has_pages(
-    host: &MemHost,
-    count: usize,
-    rewritten: usize,
-    torn: Option<usize>,
-) -> bool {
-    let bytes = relation_bytes(host);
-    let mut pages = bytes.chunks(8192).enumerate();
-    let is_whole = bytes.len() % 8192 == 0 && bytes.len() / 8192 == count;
-    is_whole && pages.all(|(block, page)| torn == Some(block) || is_left(block, page, rewritten))
-}
-
-/// Whether the log at a path has these bytes; for `None`, whether no log is there.
-pub(crate) fn has_log(host: &MemHost, path: &str, bytes: Option<&[u8]>) -> bool {
-    match (host.stored_log(path), bytes) {
-        (Some(log), Some(bytes)) => log.bytes() == bytes,
-        (None, None) => true,
-        _ => false,
-    }
 }
 
 /// Counts the pieces that are put, and drops them. No put fails.
@@ -253,20 +202,60 @@ impl Sink for CountingSink<'_> {
     ghost faults_fit = { λ _. search rules };
 }
 
-/// The status of a run, and what it wrote.
+/// The status of a run, what it wrote, and what it left. It owns no host: each exit of a function that
+/// owns one has to be proved to drop it, which takes the prover half a minute.
 #[derive(Drop)]
 pub(crate) struct Answer {
     pub status: u8,
-    pub out: MemSink,
-    pub err: MemSink,
+    pub out: Vec<u8>,
+    pub err: Vec<u8>,
+    /// The segments of the relation.
+    pub relation: Vec<Vec<u8>>,
+    /// The bytes of the log, if there is one.
+    pub log: Option<Vec<u8>>,
+    pub write_faults: u64,
 }
 
 impl Answer {
     /// Fails the test unless the run ended with this status, and wrote these texts.
     pub(crate) fn check<R: Abort>(&self, rt: &R, status: u8, out: &str, err: &str) {
-        assert_eq!(rt; self.err.bytes(), err.as_bytes(), "on the error stream");
+        assert_eq!(rt; self.err.as_slice(), err.as_bytes(), "on the error stream");
         assert_eq!(rt; self.status, status, "{err}");
-        assert_eq!(rt; self.out.bytes(), out.as_bytes(), "{out}");
+        assert_eq!(rt; self.out.as_slice(), out.as_bytes(), "{out}");
+    }
+
+    /// Whether the relation has these segments.
+    pub(crate) fn has_segments(&self, wanted: &[&[u8]]) -> bool {
+        let mut pairs = self.relation.iter().zip(wanted);
+        self.relation.len() == wanted.len()
+            && pairs.all(|(segment, bytes)| segment.as_slice() == *bytes)
+    }
+
+    /// The bytes of the relation, where it has one segment.
+    pub(crate) fn relation_bytes(&self) -> &[u8] {
+        match self.relation.as_slice() {
+            [segment] => segment.as_slice(),
+            _ => &[],
+        }
+    }
+
+    /// Whether the relation has so many pages with dead line pointers, of which the first ones, so many,
+    /// are rewritten. Of the torn block any page will do.
+    pub(crate) fn has_pages(&self, count: usize, rewritten: usize, torn: Option<usize>) -> bool {
+        let bytes = self.relation_bytes();
+        let mut pages = bytes.chunks(8192).enumerate();
+        let is_whole = bytes.len() % 8192 == 0 && bytes.len() / 8192 == count;
+        is_whole
+            && pages.all(|(block, page)| torn == Some(block) || is_left(block, page, rewritten))
+    }
+
+    /// Whether the log has these bytes; for `None`, whether there is none.
+    pub(crate) fn has_log(&self, bytes: Option<&[u8]>) -> bool {
+        match (&self.log, bytes) {
+            (Some(log), Some(bytes)) => log.as_slice() == bytes,
+            (None, None) => true,
+            _ => false,
+        }
     }
 }
 
@@ -289,20 +278,54 @@ pub(crate) fn words_of(alloc: Global, line: &str) -> Result<Vec<String>, Fail> {
     Ok(words)
 }
 
-/// Runs a command line, whose words stand apart by blanks; these puts of its output are to fail.
+fn log_left(alloc: Global, host: &MemHost) -> Result<Option<Vec<u8>>, Fail> {
+    match host.stored_log(LOG) {
+        Some(log) => Ok(Some(log.bytes().to_vec(alloc)?)),
+        None => Ok(None),
+    }
+}
+
+fn relation_left(alloc: Global, host: &MemHost) -> Result<Vec<Vec<u8>>, Fail> {
+    let mut segments = Vec::new(alloc);
+    for segment in host.segments(RELATION) {
+        segments.push(segment.to_vec(alloc)?)?;
+    }
+    Ok(segments)
+}
+
+fn answer_by(
+    alloc: Global,
+    status: u8,
+    out: &MemSink,
+    err: &MemSink,
+    host: &MemHost,
+) -> Result<Answer, Fail> {
+    Ok(Answer {
+        status,
+        out: out.bytes().to_vec(alloc)?,
+        err: err.bytes().to_vec(alloc)?,
+        relation: relation_left(alloc, host)?,
+        log: log_left(alloc, host)?,
+        write_faults: host.write_faults(),
+    })
+}
+
+/// Runs a command line, whose words stand apart by blanks, on a host that has this and where these calls
+/// fail.
 pub(crate) fn answer_at<R: Threads + Wait + Sync, G: Gate + Sync>(
     rt: &R,
     alloc: Global,
     line: &str,
-    host: &mut MemHost,
-    puts: &[u64],
+    stored: Stored,
+    failing: Failing,
     gate: &G,
 ) -> Result<Answer, Fail> {
-    let mut out = MemSink::new(alloc, 1 << 20, plan(alloc, puts)?)?;
-    let mut err = MemSink::new(alloc, 1 << 16, plan(alloc, &[])?)?;
     let words = words_of(alloc, line)?;
-    let status = run(rt, alloc, &words, host, &mut out, &mut err, gate);
-    Ok(Answer { status, out, err })
+    let mut out = MemSink::new(alloc, 1 << 20, plan(alloc, failing.puts)?)?;
+    let mut err = MemSink::new(alloc, 1 << 16, plan(alloc, &[])?)?;
+    let mut host = host_of(alloc, stored, failing)?;
+    let status = run(rt, alloc, &words, &mut host, &mut out, &mut err, gate);
+    answer_by(alloc, status, &out, &err, &host)
 }
 
 /// The same with a gate that lets every block through.
@@ -310,8 +333,8 @@ pub(crate) fn answer_of<R: Threads + Wait + Sync>(
     rt: &R,
     alloc: Global,
     line: &str,
-    host: &mut MemHost,
-    puts: &[u64],
+    stored: Stored,
+    failing: Failing,
 ) -> Result<Answer, Fail> {
-    answer_at(rt, alloc, line, host, puts, &OpenGate)
+    answer_at(rt, alloc, line, stored, failing, &OpenGate)
 }

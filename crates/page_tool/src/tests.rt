@@ -1,8 +1,8 @@
 //! Commands by several workers, and scans in which a call of a device fails.
 use crate::run::run;
 use crate::test_hosts::{
-    Answer, CountingSink, Failing, LOG, NONE_FAIL, RELATION, answer_at, answer_of, error_line,
-    has_pages, host_of, words_of,
+    Answer, Call, CountingSink, Failing, NONE_FAIL, NOTHING, Stored, answer_at, answer_of,
+    error_line, failing_of, host_of, words_of,
 };
 use crate::test_pages::{dead_items_page, one_item_page, with_bytes};
 use backend_pass::Pinned;
@@ -150,6 +150,14 @@ fn changed_pages(alloc: Global) -> Result<Vec<u8>, Fail> {
     Ok(bytes)
 }
 
+/// A relation of these pages.
+fn pages<'a>(relation: &'a [&'a [u8]]) -> Stored<'a> {
+    Stored {
+        relation,
+        ..NOTHING
+    }
+}
+
 /// Runs a command over a relation of these pages, with this gate.
 fn answer_over<R: Threads + Wait + Sync>(
     rt: &R,
@@ -158,8 +166,7 @@ fn answer_over<R: Threads + Wait + Sync>(
     bytes: &[u8],
     gate: &HoldingGate,
 ) -> Result<Answer, Fail> {
-    let mut host = host_of(alloc, &[(RELATION, bytes)], NONE_FAIL)?;
-    answer_at(rt, alloc, command, &mut host, &[], gate)
+    answer_at(rt, alloc, command, pages(&[bytes]), NONE_FAIL, gate)
 }
 
 /// Runs a command by one worker, and by so many that are held: each block is pinned once, and the output
@@ -180,7 +187,7 @@ fn check_held<R: Abort + Threads + Wait + Sync>(
     let pinned = (free.pinned_once(), gate.pinned_once());
     assert_eq!(rt; pinned, (true, true), "{line}");
     assert_eq!(rt; (alone.status, answer.status), (0, 0), "{line}");
-    assert_eq!(rt; answer.out.bytes(), alone.out.bytes(), "{line}");
+    assert_eq!(rt; answer.out.as_slice(), alone.out.as_slice(), "{line}");
     Ok(())
 }
 
@@ -216,10 +223,9 @@ static WORKERS: [u32; 3] = [1, 2, 7];
 fn a_sample_pins_its_blocks(rt: HostRuntime) -> Result<(), Fail> {
     let alloc = rt.alloc();
     for backends in &WORKERS {
-        let mut host = host_of(alloc, &[], NONE_FAIL)?;
         let gate = HoldingGate::new(Holds::Nobody);
         let line = format!(in alloc; "sample 7 4 --backends {backends}")?;
-        let answer = answer_at(&rt, alloc, line.as_str(), &mut host, &[], &gate)?;
+        let answer = answer_at(&rt, alloc, line.as_str(), NOTHING, NONE_FAIL, &gate)?;
         assert_eq!(rt; (answer.status, gate.seen()), (0, (false, 9, 33)), "{line}");
     }
     Ok(())
@@ -254,24 +260,20 @@ impl Gate for SecondWorkerGate {
 fn the_log_is_down_for_the_others(rt: HostRuntime) -> Result<(), Fail> {
     let alloc = rt.alloc();
     let bytes = changed_pages(alloc)?;
-    let failing = Failing {
-        appends: &[2],
-        ..NONE_FAIL
-    };
-    let mut host = host_of(alloc, &[(RELATION, &bytes)], failing)?;
+    let failing = failing_of(Call::Append, &[2]);
     let gate = SecondWorkerGate {
         other_read: AtomicBool::new(false),
         came: AtomicBool::new(false),
     };
     let line = "rewrite base/5/16384 --log w --backends 2";
-    let answer = answer_at(&rt, alloc, line, &mut host, &[], &gate)?;
+    let answer = answer_at(&rt, alloc, line, pages(&[&bytes]), failing, &gate)?;
     answer.check(&rt, 6, "", error_line(6));
-    let log_length = match host.stored_log(LOG) {
-        Some(log) => log.bytes().len(),
+    let log_length = match &answer.log {
+        Some(log) => log.len(),
         None => 0,
     };
     let came = gate.came.load(Ordering::SeqCst);
-    let left = (came, has_pages(&host, 65, 0, None), log_length);
+    let left = (came, answer.has_pages(65, 0, None), log_length);
     assert_eq!(rt; left, (true, true, 4128));
     Ok(())
 }
@@ -281,9 +283,8 @@ fn the_log_is_down_for_the_others(rt: HostRuntime) -> Result<(), Fail> {
 fn chunks_are_printed_in_order(rt: HostRuntime) -> Result<(), Fail> {
     let alloc = rt.alloc();
     let (bytes, text) = numbered_pages(alloc)?;
-    let mut host = host_of(alloc, &[(RELATION, &bytes)], NONE_FAIL)?;
     let line = "scan base/5/16384 --backends 4";
-    let answer = answer_of(&rt, alloc, line, &mut host, &[])?;
+    let answer = answer_of(&rt, alloc, line, pages(&[&bytes]), NONE_FAIL)?;
     answer.check(&rt, 0, text.as_str(), "");
     Ok(())
 }
@@ -293,18 +294,14 @@ fn chunks_are_printed_in_order(rt: HostRuntime) -> Result<(), Fail> {
 fn one_worker_meets_a_fault(rt: HostRuntime) -> Result<(), Fail> {
     let alloc = rt.alloc();
     let (bytes, text) = numbered_pages(alloc)?;
-    let failing = Failing {
-        reads: &[5],
-        ..NONE_FAIL
-    };
+    let failing = failing_of(Call::Read, &[5]);
     for backends in [2, 7] {
-        let mut host = host_of(alloc, &[(RELATION, &bytes)], failing)?;
         let line = format!(in alloc; "scan base/5/16384 --lanes 1 --backends {backends}")?;
-        let answer = answer_of(&rt, alloc, line.as_str(), &mut host, &[])?;
-        let begins = text.as_bytes().starts_with(answer.out.bytes());
+        let answer = answer_of(&rt, alloc, line.as_str(), pages(&[&bytes]), failing)?;
+        let begins = text.as_bytes().starts_with(&answer.out);
         assert_eq!(rt;
-            (answer.status, begins, answer.err.bytes()),
-            (4, true, b"page_tool: read fault\n".as_slice())
+            (answer.status, begins, answer.err.as_slice()),
+            (4, true, READ_FAULT.as_bytes())
         );
     }
     Ok(())
@@ -336,7 +333,6 @@ impl Gate for OutputGate<'_> {
 fn output_begins_at_once(rt: HostRuntime) -> Result<(), Fail> {
     let alloc = rt.alloc();
     let (bytes, _text) = numbered_pages(alloc)?;
-    let mut host = host_of(alloc, &[(RELATION, &bytes)], NONE_FAIL)?;
     let puts = AtomicU64::new(0);
     let mut out = CountingSink::new(&puts);
     let mut err = MemSink::new(alloc, 0, FaultPlan::new(Vec::new(alloc)))?;
@@ -346,6 +342,7 @@ fn output_begins_at_once(rt: HostRuntime) -> Result<(), Fail> {
         before_16: AtomicU64::new(0),
     };
     let words = words_of(alloc, "scan base/5/16384 --backends 1")?;
+    let mut host = host_of(alloc, pages(&[&bytes]), NONE_FAIL)?;
     let status = run(&rt, alloc, &words, &mut host, &mut out, &mut err, &gate);
     let before_8 = gate.before_8.load(Ordering::SeqCst);
     let before_16 = gate.before_16.load(Ordering::SeqCst);
@@ -387,14 +384,13 @@ impl Gate for FullWindowGate {
 fn a_full_window_holds_workers_up(rt: HostRuntime) -> Result<(), Fail> {
     let alloc = rt.alloc();
     let (bytes, text) = numbered_pages(alloc)?;
-    let mut host = host_of(alloc, &[(RELATION, &bytes)], NONE_FAIL)?;
     let gate = FullWindowGate {
         came: AtomicBool::new(false),
         let_go: AtomicBool::new(false),
         went_on: AtomicBool::new(false),
     };
     let line = "scan base/5/16384 --backends 2";
-    let answer = answer_at(&rt, alloc, line, &mut host, &[], &gate)?;
+    let answer = answer_at(&rt, alloc, line, pages(&[&bytes]), NONE_FAIL, &gate)?;
     answer.check(&rt, 0, text.as_str(), "");
     let came = gate.came.load(Ordering::SeqCst);
     let went_on = gate.went_on.load(Ordering::SeqCst);
@@ -420,12 +416,14 @@ static FAILING_PUTS: [(u32, u64); 4] = [(1, 51), (1, 101), (7, 51), (7, 101)];
 fn later_pieces_may_fail(rt: HostRuntime) -> Result<(), Fail> {
     let alloc = rt.alloc();
     let bytes = many_pages(alloc)?;
-    let mut host = host_of(alloc, &[(RELATION, &bytes)], NONE_FAIL)?;
-    let whole = answer_of(&rt, alloc, "scan base/5/16384", &mut host, &[])?;
+    let line = "scan base/5/16384";
+    let whole = answer_of(&rt, alloc, line, pages(&[&bytes]), NONE_FAIL)?;
     for (backends, put) in &FAILING_PUTS {
         let line = format!(in alloc; "scan base/5/16384 --backends {backends}")?;
-        let cut = answer_of(&rt, alloc, line.as_str(), &mut host, &[*put])?;
-        let (text, piece) = (whole.out.bytes(), cut.out.bytes());
+        let puts = [*put];
+        let failing = failing_of(Call::Put, &puts);
+        let cut = answer_of(&rt, alloc, line.as_str(), pages(&[&bytes]), failing)?;
+        let (text, piece) = (whole.out.as_slice(), cut.out.as_slice());
         let is_cut = piece.len() > 32768 && piece.len() < text.len() && text.starts_with(piece);
         assert_eq!(rt; (whole.status, cut.status, is_cut), (0, 7, true), "{line}");
     }
@@ -483,9 +481,9 @@ const READ_FAULT: &str = "page_tool: read fault\n";
 #[test]
 fn stops_at_a_fault(rt: HostRuntime) -> Result<(), Fail> {
     let alloc = rt.alloc();
+    let new = [0; 3 * 8192];
     for (line, failing, status, out, err) in &FAULTS {
-        let mut host = host_of(alloc, &[(RELATION, &[0; 3 * 8192])], *failing)?;
-        let answer = answer_of(&rt, alloc, line, &mut host, failing.puts)?;
+        let answer = answer_of(&rt, alloc, line, pages(&[&new]), *failing)?;
         answer.check(&rt, *status, out, err);
     }
     Ok(())

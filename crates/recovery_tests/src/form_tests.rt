@@ -83,7 +83,7 @@ fn bad_records() -> [Record; 13] {
     ]
 }
 
-/// The record behind it is as it is to be, but isn't read.
+/// The record after it is as it is to be, but isn't read.
 #[test]
 fn reading_ends_before_a_bad_record(rt: HostRuntime) -> Result<(), Fail> {
     let alloc = rt.alloc();

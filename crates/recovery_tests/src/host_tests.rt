@@ -165,7 +165,7 @@ fn recover_twice(
     Ok(host.write_faults())
 }
 
-/// A partial block becomes whole; behind it come a segment of new pages, and one that ends with a
+/// A partial block becomes whole; after it come a segment of new pages, and one that ends with a
 /// record's.
 #[test]
 fn segments_are_added(rt: HostRuntime) -> Result<(), Fail> {
@@ -204,7 +204,7 @@ fn a_partial_block_is_no_block(rt: HostRuntime) -> Result<(), Fail> {
 }
 
 /// The first segment is short, so that the next one's blocks are none of the relation's: they become
-/// new pages up to the record's, and stay behind it.
+/// new pages up to the record's, and stay after it.
 #[test]
 fn a_stale_segment_comes_back(rt: HostRuntime) -> Result<(), Fail> {
     let segments: [&[Run]; 2] = [&[Run::Same(1, 8292)], &[Run::Same(9, 16384)]];

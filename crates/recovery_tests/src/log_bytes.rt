@@ -87,7 +87,7 @@ pub fn page_bytes(item: u8, lsn: u64) -> [u8; 8192] {
     bytes
 }
 
-/// The first half of a page, and the second half of another behind it.
+/// The first half of a page, and the second half of another after it.
 pub fn torn_page(first: &[u8], second: &[u8]) -> [u8; 8192] {
     let mut bytes = [0; 8192];
     for (place, byte) in bytes.iter_mut().enumerate() {
@@ -97,7 +97,7 @@ pub fn torn_page(first: &[u8], second: &[u8]) -> [u8; 8192] {
     bytes
 }
 
-/// A head, and these records behind it.
+/// A head, and these records after it.
 pub fn log_bytes(
     alloc: Global,
     mark: &[u8; 8],

@@ -17,7 +17,7 @@ use std::os::unix::fs::FileExt;
 use std::rt::Files;
 use std::sync::Arc;
 
-/// A segment behind the shared files: of which relation and fork, which one, and its file.
+/// A segment after the shared files: of which relation and fork, which one, and its file.
 #[derive(Drop)]
 struct AddedSegment<F: Drop> {
     rel: RelNo,
@@ -38,7 +38,7 @@ impl<F: Drop> AddedSegment<F> {
 struct LaneSegments<'a, R: Files> {
     rt: &'a R,
     alloc: Global,
-    /// The segment behind the shared files that this lane used last.
+    /// The segment after the shared files that this lane used last.
     added: Option<AddedSegment<R::File>>,
     /// Whether a sync failed. The system may have dropped pages that it couldn't write, and a later
     /// sync may succeed without them, so it stays true.
@@ -53,7 +53,7 @@ fn start_of(place: u32) -> u64 {
 }
 
 /// Zeroes the blocks `from..upto` of a file, and extends the file to their end if it is shorter.
-/// What is behind them stays.
+/// What comes after them stays.
 fn zero_blocks<F: FileExt + OpenFile>(file: &F, from: u32, upto: u32) -> io::Result<()> {
     let length = file.metadata()?.len();
     for place in from..upto {

@@ -40,7 +40,7 @@ impl<F: Drop> SharedFiles<F> {
         self.blocks.load(Ordering::SeqCst)
     }
 
-    /// Moves the end of the fork behind this block, if it was before it.
+    /// Moves the end of the fork past this block, if it was before it.
     pub(crate) fn reach(&self, block: u32)
         requires { block < 2 ^ 32 - 1 }
     {

@@ -12,7 +12,7 @@ pub fn blocks_stand_in_place()
     ensures { StandsInPlace }
 {}
 
-/// A relation that grew has new pages behind the blocks that it had, which are as they were.
+/// A relation that grew has new pages after the blocks that it had, which are as they were.
 pub fn grown_segments_are_read_back()
     ensures { HasNewPages }
 {}

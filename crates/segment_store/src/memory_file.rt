@@ -14,7 +14,7 @@ pub struct MemFile {
     pub(crate) segments: Vec<Vec<u8>>,
     /// The lanes that were given back last, which know the blocks whose last write failed.
     returned: Vec<MemLane>,
-    /// Empty segments, which come behind the others as the relation grows.
+    /// Empty segments, which come after the others as the relation grows.
     spare: Vec<Vec<u8>>,
     /// How many segments the relation may have.
     count: u32,

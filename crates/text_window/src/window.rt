@@ -37,7 +37,7 @@ pub enum Delivery {
 }
 
 /// A sink, and the texts that wait until the texts of all chunks before theirs are put. The workers
-/// of a job share it behind a lock. Whenever the lock is free:
+/// of a job share it under a lock. Whenever the lock is free:
 ///
 /// - The sink has the texts of the chunks before `next`, in order. After a put that failed it may
 ///   also have a prefix of the next chunk's text.
