@@ -132,6 +132,7 @@ impl Pass {
     ghost use Rattle.held_pins.specs.Tokens.{IsPinnedFor};
     ghost use Rattle.buffer_frames.specs.Flushing.{EndedInError, EndedWritten, FlushAnswer, met_flushing};
     ghost use Rattle.buffer_frames.specs.Working.{KeepsNotes};
+    ghost use Rattle.backend_pass.specs.Locks.{HasLock};
     ghost use Rattle.backend_pass.specs.Managers.{Belongs};
     ghost use Rattle.backend_pass.specs.Passes.{KeepsCalls, KeepsLocks, KeepsMark, KeepsSought, NoDeviceFails, SamePass};
     ghost use Rattle.backend_pass.specs.FrameFlushes.{IsOkOrShort, WasWithin, page_answer};
@@ -145,7 +146,7 @@ impl Pass {
     ) -> Result<bool, FlushError>
         requires belongs { Belongs L.contents manager.now self.old }
         requires pinned { IsPinnedFor pinned.now.tag pinned.now.frame self.old.tokens }
-        requires unlocked { (link self.old.view pinned.now.frame).content ≡ Unlocked }
+        requires unlocked { HasLock Unlocked pinned.now.frame self.old }
         ensures belongs { Belongs L.contents manager.now self.new }
         ensures same { SamePass self.old self.new }
         ensures sought { KeepsSought self.old self.new }

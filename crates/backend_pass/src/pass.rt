@@ -67,6 +67,7 @@ impl Pass {
     ghost use Rattle.pin_core.specs.State.{link};
     ghost use Rattle.cleanup_lock.specs.Waking.{Woken};
     ghost use Rattle.held_pins.specs.Tokens.{IsPinnedFor, held_at, tokens_less, tokens_of};
+    ghost use Rattle.backend_pass.specs.Locks.{HasLock};
     ghost use Rattle.backend_pass.specs.Managers.{Belongs};
     ghost use Rattle.buffer_frames.specs.Outside.{shown_count};
     ghost use Rattle.backend_pass.specs.Passes.{KeepsCalls, KeepsDevices, KeepsLocks, KeepsMark, KeepsSought, SamePass};
@@ -117,7 +118,7 @@ impl Pass {
     )
         requires belongs { Belongs L.contents manager.now self.old }
         requires pinned { IsPinnedFor pinned.tag pinned.frame self.old.tokens }
-        requires unlocked { tokens_of (held_at self.old.tokens pinned.frame) ≡ 1 → (link self.old.view pinned.frame).content ≡ Unlocked }
+        requires unlocked { tokens_of (held_at self.old.tokens pinned.frame) ≡ 1 → HasLock Unlocked pinned.frame self.old }
         ensures belongs { Belongs L.contents manager.now self.new }
         ensures same { SamePass self.old self.new }
         ensures sought { KeepsSought self.old self.new }

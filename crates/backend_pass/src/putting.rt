@@ -89,6 +89,7 @@ impl Pass {
     ghost use Rattle.wal_flush.specs.Inserts.{AddsTorn};
     ghost use Rattle.held_pins.specs.Tokens.{IsPinnedFor};
     ghost use Rattle.buffer_frames.specs.Working.{Made};
+    ghost use Rattle.backend_pass.specs.Locks.{HasLock};
     ghost use Rattle.backend_pass.specs.Managers.{Belongs};
     ghost use Rattle.backend_pass.specs.Passes.{KeepsCalls, KeepsLocks, KeepsSought, SameButTorn};
     ghost use Rattle.buffer_frames.specs.Puts.{IsDoneOrFull, PutAnswer, met_put, put_calls};
@@ -103,7 +104,7 @@ impl Pass {
     ) -> Result<Lsn, PutError>
         requires belongs { Belongs L.contents manager.now self.old }
         requires pinned { IsPinnedFor exclusive.old.pinned.tag exclusive.old.pinned.frame self.old.tokens }
-        requires right { (link self.old.view exclusive.old.pinned.frame).content ≡ content.Exclusive }
+        requires locked { HasLock content.Exclusive exclusive.old.pinned.frame self.old }
         requires sound { is_sound_page page.now ≡ true }
         requires used { is_new_page page.now ≡ false }
         ensures belongs { Belongs L.contents manager.now self.new }

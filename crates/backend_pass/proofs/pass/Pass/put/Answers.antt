@@ -30,7 +30,7 @@ pub put_seated-requires-clause-pinned : goal.put_seated-requires-clause-pinned
 put_seated-requires-clause-pinned g c = subst (λ (p : PassState). IsPinnedFor c.args.exclusive.now.pinned.tag c.args.exclusive.now.pinned.frame p.tokens) (sym c.self.view_is) c.requires.pinned
 
 pub put_seated-requires-clause-right : goal.put_seated-requires-clause-right
-put_seated-requires-clause-right g c = subst (λ (p : PassState). (link p.view c.args.exclusive.now.pinned.frame).content ≡ Exclusive) (sym c.self.view_is) c.requires.right
+put_seated-requires-clause-right g c = subst (λ (p : PassState). (link p.view c.args.exclusive.now.pinned.frame).content ≡ Exclusive) (sym c.self.view_is) c.requires.locked
 
 pub put_seated-requires-clause-sound : goal.put_seated-requires-clause-sound
 put_seated-requires-clause-sound g c = subst (λ (p : Page). is_sound_page p ≡ true) (sym c.copy_from.ensures) c.requires.sound
@@ -81,7 +81,7 @@ returns-in-Ok-clause-same g c =
 pub returns-in-Ok-clause-locks : goal.returns-in-Ok-clause-locks
 returns-in-Ok-clause-locks g c =
     let e = c.in-Ok.ensures in
-    subst (λ (p : PassState). SameLocks p.view (view_in c.put_seated.new.badge.views)) c.self.view_is (locks_put c.args.exclusive.now.pinned.frame (view_in c.self.inside.seat.views) (view_in c.put_seated.new.badge.views) e.puts (subst (λ (p : PassState). (link p.view c.args.exclusive.now.pinned.frame).content ≡ Exclusive) (sym c.self.view_is) c.requires.right) e.right)
+    subst (λ (p : PassState). SameLocks p.view (view_in c.put_seated.new.badge.views)) c.self.view_is (locks_put c.args.exclusive.now.pinned.frame (view_in c.self.inside.seat.views) (view_in c.put_seated.new.badge.views) e.puts (subst (λ (p : PassState). (link p.view c.args.exclusive.now.pinned.frame).content ≡ Exclusive) (sym c.self.view_is) c.requires.locked) e.right)
 
 pub returns-in-Ok-clause-answer : goal.returns-in-Ok-clause-answer
 returns-in-Ok-clause-answer g c =
@@ -108,7 +108,7 @@ returns-in-Err-clause-same g c =
 pub returns-in-Err-clause-locks : goal.returns-in-Err-clause-locks
 returns-in-Err-clause-locks g c =
     let e = c.in-Err.ensures in
-    subst (λ (p : PassState). SameLocks p.view (view_in c.put_seated.new.badge.views)) c.self.view_is (locks_put c.args.exclusive.now.pinned.frame (view_in c.self.inside.seat.views) (view_in c.put_seated.new.badge.views) e.puts (subst (λ (p : PassState). (link p.view c.args.exclusive.now.pinned.frame).content ≡ Exclusive) (sym c.self.view_is) c.requires.right) e.right)
+    subst (λ (p : PassState). SameLocks p.view (view_in c.put_seated.new.badge.views)) c.self.view_is (locks_put c.args.exclusive.now.pinned.frame (view_in c.self.inside.seat.views) (view_in c.put_seated.new.badge.views) e.puts (subst (λ (p : PassState). (link p.view c.args.exclusive.now.pinned.frame).content ≡ Exclusive) (sym c.self.view_is) c.requires.locked) e.right)
 
 pub returns-in-Err-clause-answer : goal.returns-in-Err-clause-answer
 returns-in-Err-clause-answer g c =
