@@ -1,5 +1,5 @@
 //! Recoveries in which a call of a device fails, and recoveries of what is left of a relation.
-use crate::test_hosts::{Call, NONE_FAIL, NOTHING, Stored, answer_of, error_line, failing_of};
+use crate::test_hosts::{Call, NONE_FAIL, answer_of, error_line, failing_of, roomy, stored};
 use crate::test_pages::{dead_items_page, one_page_log, rewritten_page};
 use std::alloc::Global;
 use std::process::Abort;
@@ -71,12 +71,7 @@ pub(crate) fn check_recovery<R: Abort + Threads + Wait + Sync>(
     left: &[u8],
     log: Option<&[u8]>,
 ) -> Result<(), Fail> {
-    let stored = Stored {
-        relation: &[left],
-        log,
-        ..NOTHING
-    };
-    let answer = answer_of(rt, alloc, LINE, stored, NONE_FAIL)?;
+    let answer = answer_of(rt, alloc, LINE, stored(&[left], log), NONE_FAIL)?;
     let (status, out, err) = recovery_by(log);
     answer.check(rt, status, out, err);
     let redone = match log {
@@ -102,12 +97,7 @@ fn check_fault<R: Abort + Threads + Wait + Sync>(
     let failing = failing_of(call, &numbers);
     let log = one_page_log(alloc, 0)?;
     let page = dead_items_page();
-    let stored = Stored {
-        relation: &[&page],
-        log: Some(&log),
-        ..NOTHING
-    };
-    let answer = answer_of(rt, alloc, LINE, stored, failing)?;
+    let answer = answer_of(rt, alloc, LINE, stored(&[&page], Some(&log)), failing)?;
     answer.check(rt, status, text_put(status), error_line(status));
     let ends = (
         answer.has_pages(1, redone, torn),
@@ -143,21 +133,24 @@ fn a_relation_grows_into_its_room(rt: HostRuntime) -> Result<(), Fail> {
     let first = two_pages(alloc, &page, &page)?;
     let longer = two_pages(alloc, &page, &[0; 8192])?;
     let third = two_pages(alloc, &[0; 8192], &rewritten_page(0))?;
-    let stored = Stored {
-        relation: &[&first, &page],
-        space: Some((3, 2)),
-        log: Some(&log),
-    };
 
-    let answer = answer_of(&rt, alloc, line, stored, NONE_FAIL)?;
+    let answer = answer_of(
+        &rt,
+        alloc,
+        line,
+        roomy(&[&first, &page], &log, 3),
+        NONE_FAIL,
+    )?;
     answer.check(&rt, 0, REDONE[1], "");
     assert!(rt; answer.has_segments(&[&first, &longer, &third]));
 
-    let crowded = Stored {
-        space: Some((2, 2)),
-        ..stored
-    };
-    let answer = answer_of(&rt, alloc, line, crowded, NONE_FAIL)?;
+    let answer = answer_of(
+        &rt,
+        alloc,
+        line,
+        roomy(&[&first, &page], &log, 2),
+        NONE_FAIL,
+    )?;
     answer.check(&rt, 5, "", error_line(5));
     assert!(rt; answer.has_segments(&[&first, &page]));
     Ok(())

@@ -1,6 +1,6 @@
 //! Rewrites in which a call of a device fails, and recoveries after them.
 use crate::recover_fault_tests::check_recovery;
-use crate::test_hosts::{Call, NOTHING, Stored, answer_of, error_line, failing_of};
+use crate::test_hosts::{Call, answer_of, error_line, failing_of, stored};
 use crate::test_pages::{dead_items_page, rewrite_log};
 use std::alloc::Global;
 use std::process::Abort;
@@ -87,12 +87,7 @@ fn check_fault<R: Abort + Threads + Wait + Sync>(
     let numbers = [number];
     let failing = failing_of(call, &numbers);
     let pages = four_pages(alloc)?;
-    let stored = Stored {
-        relation: &[&pages],
-        log: Some(OLD_LOG),
-        ..NOTHING
-    };
-    let answer = answer_of(rt, alloc, LINE, stored, failing)?;
+    let answer = answer_of(rt, alloc, LINE, stored(&[&pages], Some(OLD_LOG)), failing)?;
     answer.check(rt, status, text_put(status), error_line(status));
     let whole = rewrite_log(alloc)?;
     let log = match length {

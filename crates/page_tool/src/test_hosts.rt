@@ -89,7 +89,7 @@ fn plan(alloc: Global, failing: &[u64]) -> Result<FaultPlan, Fail> {
 
 /// What a host has before a run.
 #[derive(Clone, Copy)]
-pub(crate) struct Stored<'a> {
+pub(crate) struct Before<'a> {
     /// The segments of the relation of the tests.
     pub relation: &'a [&'a [u8]],
     /// How many segments, and each of how many blocks, it may grow to; `None`: it can't grow.
@@ -98,11 +98,23 @@ pub(crate) struct Stored<'a> {
     pub log: Option<&'a [u8]>,
 }
 
-pub(crate) const NOTHING: Stored<'static> = Stored {
-    relation: &[],
-    space: None,
-    log: None,
-};
+/// A relation of these segments that can't grow, and a log, if there is one.
+pub(crate) fn stored<'a>(relation: &'a [&'a [u8]], log: Option<&'a [u8]>) -> Before<'a> {
+    Before {
+        relation,
+        space: None,
+        log,
+    }
+}
+
+/// A relation of these segments that can have so many, each of two blocks, and a log.
+pub(crate) fn roomy<'a>(relation: &'a [&'a [u8]], log: &'a [u8], count: u32) -> Before<'a> {
+    Before {
+        relation,
+        space: Some((count, 2)),
+        log: Some(log),
+    }
+}
 
 fn segments_of(alloc: Global, relation: &[&[u8]]) -> Result<Vec<Vec<u8>>, Fail> {
     let mut segments = Vec::new(alloc);
@@ -112,18 +124,18 @@ fn segments_of(alloc: Global, relation: &[&[u8]]) -> Result<Vec<Vec<u8>>, Fail> 
     Ok(segments)
 }
 
-fn file_of(alloc: Global, stored: Stored) -> Result<MemFile, Fail> {
+fn file_of(alloc: Global, before: Before) -> Result<MemFile, Fail> {
     let path = String::from_str(alloc, RELATION)?;
-    let segments = segments_of(alloc, stored.relation)?;
-    match stored.space {
+    let segments = segments_of(alloc, before.relation)?;
+    match before.space {
         Some((count, blocks)) => Ok(MemFile::with_space(alloc, path, segments, count, blocks)?),
         None => Ok(MemFile::new(alloc, path, segments)),
     }
 }
 
-fn files_of(alloc: Global, stored: Stored) -> Result<Vec<MemFile>, Fail> {
+fn files_of(alloc: Global, before: Before) -> Result<Vec<MemFile>, Fail> {
     let mut files = Vec::new(alloc);
-    files.push(file_of(alloc, stored)?)?;
+    files.push(file_of(alloc, before)?)?;
     Ok(files)
 }
 
@@ -147,20 +159,20 @@ fn empty_logs(alloc: Global, failing: Failing) -> Result<MemLogs, Fail> {
     Ok(MemLogs::new(alloc, LOG_ROOM, openings, calls, sources))
 }
 
-fn logs_of(alloc: Global, stored: Stored, failing: Failing) -> Result<MemLogs, Fail> {
+fn logs_of(alloc: Global, before: Before, failing: Failing) -> Result<MemLogs, Fail> {
     let mut logs = empty_logs(alloc, failing)?;
-    if let Some(bytes) = stored.log {
+    if let Some(bytes) = before.log {
         logs.put(alloc, LOG, bytes)?;
     }
     Ok(logs)
 }
 
 /// A host that has this.
-pub(crate) fn host_of(alloc: Global, stored: Stored, failing: Failing) -> Result<MemHost, Fail> {
+pub(crate) fn host_of(alloc: Global, before: Before, failing: Failing) -> Result<MemHost, Fail> {
     let openings = plan(alloc, failing.openings)?;
     let lanes = lane_plan(alloc, failing)?;
-    let logs = logs_of(alloc, stored, failing)?;
-    let files = files_of(alloc, stored)?;
+    let logs = logs_of(alloc, before, failing)?;
+    let files = files_of(alloc, before)?;
     Ok(MemHost::new(alloc, files, openings, lanes, logs))
 }
 
@@ -316,14 +328,14 @@ pub(crate) fn answer_at<R: Threads + Wait + Sync, G: Gate + Sync>(
     rt: &R,
     alloc: Global,
     line: &str,
-    stored: Stored,
+    before: Before,
     failing: Failing,
     gate: &G,
 ) -> Result<Answer, Fail> {
     let words = words_of(alloc, line)?;
     let mut out = MemSink::new(alloc, 1 << 20, plan(alloc, failing.puts)?)?;
     let mut err = MemSink::new(alloc, 1 << 16, plan(alloc, &[])?)?;
-    let mut host = host_of(alloc, stored, failing)?;
+    let mut host = host_of(alloc, before, failing)?;
     let status = run(rt, alloc, &words, &mut host, &mut out, &mut err, gate);
     answer_by(alloc, status, &out, &err, &host)
 }
@@ -333,8 +345,8 @@ pub(crate) fn answer_of<R: Threads + Wait + Sync>(
     rt: &R,
     alloc: Global,
     line: &str,
-    stored: Stored,
+    before: Before,
     failing: Failing,
 ) -> Result<Answer, Fail> {
-    answer_at(rt, alloc, line, stored, failing, &OpenGate)
+    answer_at(rt, alloc, line, before, failing, &OpenGate)
 }
