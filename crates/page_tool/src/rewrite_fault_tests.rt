@@ -1,6 +1,6 @@
 //! Rewrites in which a call of a device fails, and recoveries after them.
 use crate::recover_fault_tests::check_recovery;
-use crate::test_hosts::{Call, answer_of, error_line, failing_of, stored};
+use crate::test_hosts::{Answer, Call, Failing, answer_of, error_line, failing_of, stored};
 use crate::test_pages::{dead_items_page, rewrite_log};
 use std::alloc::Global;
 use std::process::Abort;
@@ -76,6 +76,17 @@ fn four_pages(alloc: Global) -> Result<Vec<u8>, Fail> {
     Ok(bytes)
 }
 
+/// Rewrites these pages where these calls fail, with a log, if there is one.
+fn rewrite_over<R: Threads + Wait + Sync>(
+    rt: &R,
+    alloc: Global,
+    pages: &[u8],
+    log: Option<&[u8]>,
+    failing: Failing,
+) -> Result<Answer, Fail> {
+    answer_of(rt, alloc, LINE, stored(&[pages], log), failing)
+}
+
 /// Fails the test unless a rewrite in which the row's call fails ends so, and what it leaves is recovered.
 /// The count of write faults rises with status 5 alone.
 fn check_fault<R: Abort + Threads + Wait + Sync>(
@@ -87,7 +98,7 @@ fn check_fault<R: Abort + Threads + Wait + Sync>(
     let numbers = [number];
     let failing = failing_of(call, &numbers);
     let pages = four_pages(alloc)?;
-    let answer = answer_of(rt, alloc, LINE, stored(&[&pages], Some(OLD_LOG)), failing)?;
+    let answer = rewrite_over(rt, alloc, &pages, Some(OLD_LOG), failing)?;
     answer.check(rt, status, text_put(status), error_line(status));
     let whole = rewrite_log(alloc)?;
     let log = match length {

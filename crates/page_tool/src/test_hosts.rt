@@ -98,7 +98,16 @@ pub(crate) struct Before<'a> {
     pub log: Option<&'a [u8]>,
 }
 
-/// A relation of these segments that can't grow, and a log, if there is one.
+/// A relation of these segments that can't grow, and no log.
+pub(crate) fn pages<'a>(relation: &'a [&'a [u8]]) -> Before<'a> {
+    Before {
+        relation,
+        space: None,
+        log: None,
+    }
+}
+
+/// The same with a log, if there is one.
 pub(crate) fn stored<'a>(relation: &'a [&'a [u8]], log: Option<&'a [u8]>) -> Before<'a> {
     Before {
         relation,

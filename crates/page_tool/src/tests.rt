@@ -2,7 +2,7 @@
 use crate::run::run;
 use crate::test_hosts::{
     Answer, Call, CountingSink, Failing, NONE_FAIL, answer_at, answer_of, error_line, failing_of,
-    host_of, stored, words_of,
+    host_of, pages, words_of,
 };
 use crate::test_pages::{dead_items_page, one_item_page, with_bytes};
 use backend_pass::Pinned;
@@ -158,7 +158,7 @@ fn answer_over<R: Threads + Wait + Sync>(
     bytes: &[u8],
     gate: &HoldingGate,
 ) -> Result<Answer, Fail> {
-    answer_at(rt, alloc, command, stored(&[bytes], None), NONE_FAIL, gate)
+    answer_at(rt, alloc, command, pages(&[bytes]), NONE_FAIL, gate)
 }
 
 /// Runs a command by one worker, and by so many that are held: each block is pinned once, and the output
@@ -217,14 +217,7 @@ fn a_sample_pins_its_blocks(rt: HostRuntime) -> Result<(), Fail> {
     for backends in &WORKERS {
         let gate = HoldingGate::new(Holds::Nobody);
         let line = format!(in alloc; "sample 7 4 --backends {backends}")?;
-        let answer = answer_at(
-            &rt,
-            alloc,
-            line.as_str(),
-            stored(&[], None),
-            NONE_FAIL,
-            &gate,
-        )?;
+        let answer = answer_at(&rt, alloc, line.as_str(), pages(&[]), NONE_FAIL, &gate)?;
         assert_eq!(rt; (answer.status, gate.seen()), (0, (false, 9, 33)), "{line}");
     }
     Ok(())
@@ -265,7 +258,7 @@ fn the_log_is_down_for_the_others(rt: HostRuntime) -> Result<(), Fail> {
         came: AtomicBool::new(false),
     };
     let line = "rewrite base/5/16384 --log w --backends 2";
-    let answer = answer_at(&rt, alloc, line, stored(&[&bytes], None), failing, &gate)?;
+    let answer = answer_at(&rt, alloc, line, pages(&[&bytes]), failing, &gate)?;
     answer.check(&rt, 6, "", error_line(6));
     let log_length = match &answer.log {
         Some(log) => log.len(),
@@ -283,7 +276,7 @@ fn chunks_are_printed_in_order(rt: HostRuntime) -> Result<(), Fail> {
     let alloc = rt.alloc();
     let (bytes, text) = numbered_pages(alloc)?;
     let line = "scan base/5/16384 --backends 4";
-    let answer = answer_of(&rt, alloc, line, stored(&[&bytes], None), NONE_FAIL)?;
+    let answer = answer_of(&rt, alloc, line, pages(&[&bytes]), NONE_FAIL)?;
     answer.check(&rt, 0, text.as_str(), "");
     Ok(())
 }
@@ -296,7 +289,7 @@ fn one_worker_meets_a_fault(rt: HostRuntime) -> Result<(), Fail> {
     let failing = failing_of(Call::Read, &[5]);
     for backends in [2, 7] {
         let line = format!(in alloc; "scan base/5/16384 --lanes 1 --backends {backends}")?;
-        let answer = answer_of(&rt, alloc, line.as_str(), stored(&[&bytes], None), failing)?;
+        let answer = answer_of(&rt, alloc, line.as_str(), pages(&[&bytes]), failing)?;
         let begins = text.as_bytes().starts_with(&answer.out);
         assert_eq!(rt;
             (answer.status, begins, answer.err.as_slice()),
@@ -341,7 +334,7 @@ fn output_begins_at_once(rt: HostRuntime) -> Result<(), Fail> {
         before_16: AtomicU64::new(0),
     };
     let words = words_of(alloc, "scan base/5/16384 --backends 1")?;
-    let mut host = host_of(alloc, stored(&[&bytes], None), NONE_FAIL)?;
+    let mut host = host_of(alloc, pages(&[&bytes]), NONE_FAIL)?;
     let status = run(&rt, alloc, &words, &mut host, &mut out, &mut err, &gate);
     let before_8 = gate.before_8.load(Ordering::SeqCst);
     let before_16 = gate.before_16.load(Ordering::SeqCst);
@@ -389,7 +382,7 @@ fn a_full_window_holds_workers_up(rt: HostRuntime) -> Result<(), Fail> {
         went_on: AtomicBool::new(false),
     };
     let line = "scan base/5/16384 --backends 2";
-    let answer = answer_at(&rt, alloc, line, stored(&[&bytes], None), NONE_FAIL, &gate)?;
+    let answer = answer_at(&rt, alloc, line, pages(&[&bytes]), NONE_FAIL, &gate)?;
     answer.check(&rt, 0, text.as_str(), "");
     let came = gate.came.load(Ordering::SeqCst);
     let went_on = gate.went_on.load(Ordering::SeqCst);
@@ -416,12 +409,12 @@ fn later_pieces_may_fail(rt: HostRuntime) -> Result<(), Fail> {
     let alloc = rt.alloc();
     let bytes = many_pages(alloc)?;
     let line = "scan base/5/16384";
-    let whole = answer_of(&rt, alloc, line, stored(&[&bytes], None), NONE_FAIL)?;
+    let whole = answer_of(&rt, alloc, line, pages(&[&bytes]), NONE_FAIL)?;
     for (backends, put) in &FAILING_PUTS {
         let line = format!(in alloc; "scan base/5/16384 --backends {backends}")?;
         let puts = [*put];
         let failing = failing_of(Call::Put, &puts);
-        let cut = answer_of(&rt, alloc, line.as_str(), stored(&[&bytes], None), failing)?;
+        let cut = answer_of(&rt, alloc, line.as_str(), pages(&[&bytes]), failing)?;
         let (text, piece) = (whole.out.as_slice(), cut.out.as_slice());
         let is_cut = piece.len() > 32768 && piece.len() < text.len() && text.starts_with(piece);
         assert_eq!(rt; (whole.status, cut.status, is_cut), (0, 7, true), "{line}");
@@ -482,7 +475,7 @@ fn stops_at_a_fault(rt: HostRuntime) -> Result<(), Fail> {
     let alloc = rt.alloc();
     let new = [0; 3 * 8192];
     for (line, failing, status, out, err) in &FAULTS {
-        let answer = answer_of(&rt, alloc, line, stored(&[&new], None), *failing)?;
+        let answer = answer_of(&rt, alloc, line, pages(&[&new]), *failing)?;
         answer.check(&rt, *status, out, err);
     }
     Ok(())
