@@ -1,63 +1,77 @@
 //! What a dump prints of a page.
-ghost use Rattle.std.specs.Prelude.{◌≡◌, ◌≤◌, ◌<◌, ◌+◌, ◌-◌, ◌*◌, ◌^◌, ◌++◌, [], ◌∷◌, ℕ, Some, OnOk, OnErr, IfOk, length, true, take, drop};
-ghost use Rattle.page_layout.specs.Dump.{dump_lines_of, hex_digit, hex_of, item_text, pointer_head, pointer_line, pointer_lines, pointer_tail, used_lines};
+ghost use Rattle.std.specs.Prelude.{◌≡◌, ◌≤◌, ◌<◌, ◌+◌, ◌-◌, ◌*◌, ◌^◌, ◌++◌, [], ◌∷◌, ℕ, Some, OnOk, OnErr, IfOk, length, true, take, drop, codes};
+ghost use Rattle.std.specs.Fmt.{decimal};
+ghost use Rattle.page_layout.specs.Text.{joined};
+ghost use Rattle.page_layout.specs.Dump.{dump_lines_of, item_text, pointer_head, pointer_line, pointer_lines, pointer_tail, used_lines};
 ghost use Rattle.page_layout.specs.Fields.{item_count};
 ghost use Rattle.page_layout.specs.Soundness.{is_sound_page};
 
+use crate::hex::append_hex;
+use crate::line::Line;
 use crate::page::{Item, Memory, PAGE_SIZE, Page};
 use crate::text::scan_line;
 use std::alloc::Global;
-use std::fmt;
 
-/// A line pointer by its number and fields; of an item's, the part before its bytes.
-#[derive(Drop)]
-struct PointerHead {
-    number: u16,
-    item: Item,
-}
-
-impl fmt::Display for PointerHead {
-    ghost output = { λ p. Some (pointer_head p.number p.item) };
-
-    #[tactic(auto, unfolding(crate::specs::Dump::pointer_head))]
-    fn fmt<W: fmt::Write>(&self, f: &mut fmt::Formatter<W>) -> fmt::Result {
-        let number = self.number;
-        let Item {
-            offset,
-            state,
-            length,
-        } = self.item;
-        if state == 0 {
-            return write!(f, "  {number} unused\n");
-        }
-        if state == 2 {
-            return write!(f, "  {number} redirect {offset}\n");
-        }
-        if state == 3 {
-            return write!(f, "  {number} dead {offset} {length}\n");
-        }
-        write!(f, "  {number} normal {offset} {length} ")
-    }
-}
-
-/// A digit in lower-case hexadecimal.
-#[tactic(auto, unfolding(crate::specs::Dump::hex_digit))]
-fn hex_digit(n: u8) -> u8
-    requires { n < 16 }
-    ensures { result ≡ hex_digit n }
+/// The line of an unused line pointer.
+fn write_unused(line: &mut Line, number: u16)
+    ensures { line.new ≡ joined (codes "  " ∷ decimal number ∷ codes " unused\n" ∷ []) }
 {
-    if n < 10 { b'0' + n } else { b'a' + (n - 10) }
+    line.begin(b" unused\n");
+    line.put_number(u64::from(number));
+    line.put(b"  ");
 }
 
-/// Adds bytes in lower-case hexadecimal to a text.
-fn append_hex(bytes: &[u8], text: &mut Vec<u8>) -> Result<(), Memory>
-    ensures { OnOk result (text.new.items ≡ text.old.items ++ hex_of bytes.now) }
+/// The line of a redirect.
+fn write_redirect(line: &mut Line, number: u16, offset: u16)
+    ensures { line.new ≡ joined (codes "  " ∷ decimal number ∷ codes " redirect " ∷ decimal offset ∷ codes "\n" ∷ []) }
 {
-    for b in bytes {
-        text.push(hex_digit(*b / 16))?;
-        text.push(hex_digit(*b % 16))?;
+    line.begin(b"\n");
+    line.put_number(u64::from(offset));
+    line.put(b" redirect ");
+    line.put_number(u64::from(number));
+    line.put(b"  ");
+}
+
+/// The line of a dead line pointer.
+fn write_dead(line: &mut Line, number: u16, offset: u16, length: u16)
+    ensures { line.new ≡ joined (codes "  " ∷ decimal number ∷ codes " dead " ∷ decimal offset ∷ codes " " ∷ decimal length ∷ codes "\n" ∷ []) }
+{
+    line.begin(b"\n");
+    line.put_number(u64::from(length));
+    line.put(b" ");
+    line.put_number(u64::from(offset));
+    line.put(b" dead ");
+    line.put_number(u64::from(number));
+    line.put(b"  ");
+}
+
+/// The line of a normal line pointer, before the item's bytes.
+fn write_normal(line: &mut Line, number: u16, offset: u16, length: u16)
+    ensures { line.new ≡ joined (codes "  " ∷ decimal number ∷ codes " normal " ∷ decimal offset ∷ codes " " ∷ decimal length ∷ codes " " ∷ []) }
+{
+    line.begin(b" ");
+    line.put_number(u64::from(length));
+    line.put(b" ");
+    line.put_number(u64::from(offset));
+    line.put(b" normal ");
+    line.put_number(u64::from(number));
+    line.put(b"  ");
+}
+
+/// The line of a line pointer, without an item's bytes.
+#[tactic(auto, unfolding(crate::specs::Dump::pointer_head))]
+fn write_head(line: &mut Line, number: u16, item: Item)
+    ensures { line.new ≡ pointer_head number item }
+{
+    if item.state == 0 {
+        write_unused(line, number);
+    } else if item.state == 2 {
+        write_redirect(line, number, item.offset);
+    } else if item.state == 3 {
+        write_dead(line, number, item.offset, item.length);
+    } else {
+        write_normal(line, number, item.offset, item.length);
     }
-    Ok(())
 }
 
 /// Adds an item's bytes to a text.
@@ -91,33 +105,38 @@ fn append_tail(page: &Page, item: Item, text: &mut Vec<u8>) -> Result<(), Memory
 }
 
 /// Adds the line of the pointer of this number to a text.
-fn append_pointer(alloc: Global, page: &Page, number: u16, text: &mut Vec<u8>) -> Result<(), Memory>
+fn append_pointer(
+    line: &mut Line,
+    page: &Page,
+    number: u16,
+    text: &mut Vec<u8>,
+) -> Result<(), Memory>
     requires sound { is_sound_page page.now ≡ true }
     requires first { 1 ≤ number }
     requires last { number ≤ item_count page.now }
     ensures { OnOk result (text.new.items ≡ text.old.items ++ pointer_line page.now (number - 1)) }
 {
     let item = page.item(number);
-    let head = PointerHead { number, item };
-    let line = format!(in alloc; "{head}")?;
-    text.extend_from_slice(line.as_bytes())?;
+    write_head(line, number, item);
+    text.extend_from_slice(line.bytes())?;
     append_tail(page, item, text)?;
     Ok(())
 }
 
 /// Adds the lines of a page's pointers to a text.
-fn append_pointers(alloc: Global, page: &Page, text: &mut Vec<u8>) -> Result<(), Memory>
+fn append_pointers(page: &Page, text: &mut Vec<u8>) -> Result<(), Memory>
     requires { is_sound_page page.now ≡ true }
     ensures { OnOk result (text.new.items ≡ text.old.items ++ pointer_lines page.now (item_count page.now)) }
 {
+    let mut line = Line::new();
     for place in 0..page.items() {
-        append_pointer(alloc, page, place + 1, text)?;
+        append_pointer(&mut line, page, place + 1, text)?;
     }
     Ok(())
 }
 
 /// Adds the lines of a page's pointers to a text, if the page is sound and not new.
-fn append_used(alloc: Global, page: &Page, text: &mut Vec<u8>) -> Result<(), Memory>
+fn append_used(page: &Page, text: &mut Vec<u8>) -> Result<(), Memory>
     ensures { OnOk result (text.new.items ≡ text.old.items ++ used_lines page.now) }
 {
     if page.is_new() {
@@ -126,7 +145,7 @@ fn append_used(alloc: Global, page: &Page, text: &mut Vec<u8>) -> Result<(), Mem
     if !page.is_sound() {
         return Ok(());
     }
-    append_pointers(alloc, page, text)?;
+    append_pointers(page, text)?;
     Ok(())
 }
 
@@ -140,6 +159,6 @@ pub fn dump_lines(alloc: Global, block: u32, page: &Page, text: &mut Vec<u8>) ->
 {
     let mut lines = Vec::new(alloc);
     scan_line(alloc, block, page, &mut lines)?;
-    append_used(alloc, page, &mut lines)?;
+    append_used(page, &mut lines)?;
     text.extend_from_slice(lines.as_slice())
 }

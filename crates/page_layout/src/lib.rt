@@ -7,7 +7,9 @@
 #![tactic(auto)]
 
 mod dump;
+mod hex;
 mod laws;
+mod line;
 mod outcomes;
 mod page;
 mod rewrite;

@@ -23,13 +23,10 @@ impl PointerCounts {
         ensures counted { self.new ≡ with_pointer self.old state }
         ensures total { total_of self.new ≤ total_of self.old + 1 }
     {
-        match state {
-            0 => self.unused += 1,
-            1 => self.normal += 1,
-            2 => self.redirect += 1,
-            3 => self.dead += 1,
-            _ => {}
-        }
+        self.unused += u16::from(state == 0);
+        self.normal += u16::from(state == 1);
+        self.redirect += u16::from(state == 2);
+        self.dead += u16::from(state == 3);
     }
 }
 

@@ -1,7 +1,8 @@
 //! What a scan prints of a page.
-ghost use Rattle.std.specs.Prelude.{◌≡◌, ◌++◌, Some, OnOk, OnErr};
+ghost use Rattle.std.specs.Prelude.{◌≡◌, ◌≤◌, ◌+◌, ◌++◌, length, Some, OnOk, OnErr};
 ghost use Rattle.page_layout.specs.Text.{header_text, line_of, pointers_text, position_text, scan_line_of, summary_text, used_text};
 
+use crate::line::Line;
 use crate::page::{Header, Lsn, Memory, Page};
 use crate::summary::{PageSummary, PointerCounts, UsedPage};
 use std::alloc::Global;
@@ -97,8 +98,87 @@ pub fn append_line(
     ensures line { OnOk result (text.new.items ≡ text.old.items ++ line_of block summary.now) }
     ensures same { OnErr result (text.new.items ≡ text.old.items) }
 {
-    let line = format!(in alloc; "{block} {summary}\n")?;
-    text.extend_from_slice(line.as_bytes())
+    let mut line = Line::new();
+    line.begin(b"\n");
+    put_summary(&mut line, summary);
+    line.put(b" ");
+    line.put_number(u64::from(block));
+    text.extend_from_slice(line.bytes())
+}
+
+/// Puts how many line pointers there are of each state before a text.
+#[tactic(auto, unfolding(crate::specs::Text::pointers_text))]
+fn put_pointers(line: &mut Line, counts: PointerCounts)
+    requires { length line.old ≤ 16 }
+    ensures line { line.new ≡ pointers_text counts ++ line.old }
+    ensures length { length line.new ≤ 130 }
+{
+    line.put_number(u64::from(counts.unused));
+    line.put(b" unused ");
+    line.put_number(u64::from(counts.dead));
+    line.put(b" dead ");
+    line.put_number(u64::from(counts.redirect));
+    line.put(b" redirect ");
+    line.put_number(u64::from(counts.normal));
+    line.put(b"normal ");
+}
+
+/// Puts a log position before a text.
+#[tactic(auto, unfolding(crate::specs::Text::position_text))]
+fn put_position(line: &mut Line, lsn: Lsn)
+    requires { length line.old ≤ 300 }
+    ensures line { line.new ≡ position_text lsn ++ line.old }
+    ensures length { length line.new ≤ length line.old + 129 }
+{
+    line.put_hex((lsn % 0x1_0000_0000) as u32);
+    line.put(b"/");
+    line.put_hex((lsn / 0x1_0000_0000) as u32);
+}
+
+/// Puts what is printed of a header before a text.
+#[tactic(auto, unfolding(crate::specs::Text::header_text))]
+fn put_header(line: &mut Line, header: Header)
+    requires { length line.old ≤ 160 }
+    ensures line { line.new ≡ header_text header ++ line.old }
+    ensures length { length line.new ≤ 420 }
+{
+    line.put_number(u64::from(header.special));
+    line.put(b" special ");
+    line.put_number(u64::from(header.upper));
+    line.put(b" upper ");
+    line.put_number(u64::from(header.lower));
+    line.put(b" lower ");
+    line.put_number(u64::from(header.flags));
+    line.put(b" flags ");
+    put_position(line, header.lsn);
+    line.put(b"lsn ");
+}
+
+/// Puts what is printed of a used page before a text.
+#[tactic(auto, unfolding(crate::specs::Text::used_text))]
+fn put_used(line: &mut Line, used: &UsedPage)
+    requires { length line.old ≤ 16 }
+    ensures line { line.new ≡ used_text used.now ++ line.old }
+    ensures length { length line.new ≤ 420 }
+{
+    put_pointers(line, used.pointers);
+    line.put(b" ");
+    line.put_number(u64::from(used.items));
+    line.put(b" items ");
+    put_header(line, used.header);
+}
+
+/// Puts what is printed of a page before a text.
+fn put_summary(line: &mut Line, summary: &PageSummary)
+    requires { length line.old ≤ 16 }
+    ensures line { line.new ≡ summary_text summary.now ++ line.old }
+    ensures length { length line.new ≤ 420 }
+{
+    match summary {
+        PageSummary::Invalid => line.put(b"invalid"),
+        PageSummary::New => line.put(b"new"),
+        PageSummary::Used(used) => put_used(line, used),
+    }
 }
 
 /// Adds the line of a block, whose page is this, to a text, or leaves the text as it was.
