@@ -19,7 +19,7 @@ use Rattle.frame_table.proofs.Kept.{frame_step}
 use Rattle.frame_table.proofs.Frames.{Asks, shows_after}
 
 -- the words of a frame lie beside one another
-part_low : (p : FrameWord) (f : ℕ) → (part_place p f ≡ 3 * f + (part_place p f - 3 * f)) × (part_place p f - 3 * f < 3)
+part_low : (p : FrameWord) (f : ℕ) → (part_place p f ≡ 8 * f + (part_place p f - 8 * f)) × (part_place p f - 8 * f < 3)
 part_low state_word f = (omega arith, omega arith)
 part_low tag_word f = (omega arith, omega arith)
 part_low content_word f = (omega arith, omega arith)

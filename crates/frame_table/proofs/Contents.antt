@@ -40,10 +40,10 @@ pub record SameBeside (fr fr' : Frame) : Type 0 where
   pub page : fr'.page ≡ fr.page
 
 -- another content word shows a frame that has what it says
-content_shows : (words : List ℕ) (f n : ℕ) (fr fr' : Frame) → 3 * f + 2 < length words → SaysOf content_word n fr' → SameBeside fr fr' → ShowsFrame words f fr → ShowsFrame (set words (3 * f + 2) n) f fr'
-content_shows words f n fr fr' low says rest h = let e0 : get_or (set words (3 * f + 2) n) (3 * f) 0 ≡ get_or words (3 * f) 0 = get_or-set_other words (3 * f + 2) (3 * f) n 0 (omega arith) in
-    let e1 : get_or (set words (3 * f + 2) n) (3 * f + 1) 0 ≡ get_or words (3 * f + 1) 0 = get_or-set_other words (3 * f + 2) (3 * f + 1) n 0 (omega arith) in
-    let e2 : get_or (set words (3 * f + 2) n) (3 * f + 2) 0 ≡ n = get_or-set_same words (3 * f + 2) n 0 low in record {
+content_shows : (words : List ℕ) (f n : ℕ) (fr fr' : Frame) → 8 * f + 2 < length words → SaysOf content_word n fr' → SameBeside fr fr' → ShowsFrame words f fr → ShowsFrame (set words (8 * f + 2) n) f fr'
+content_shows words f n fr fr' low says rest h = let e0 : get_or (set words (8 * f + 2) n) (8 * f) 0 ≡ get_or words (8 * f) 0 = get_or-set_other words (8 * f + 2) (8 * f) n 0 (omega arith) in
+    let e1 : get_or (set words (8 * f + 2) n) (8 * f + 1) 0 ≡ get_or words (8 * f + 1) 0 = get_or-set_other words (8 * f + 2) (8 * f + 1) n 0 (omega arith) in
+    let e2 : get_or (set words (8 * f + 2) n) (8 * f + 2) 0 ≡ n = get_or-set_same words (8 * f + 2) n 0 low in record {
       word = rest.word ∙ h.word ∙ ap fields (sym e0);
       tag = rest.tag ∙ h.tag ∙ sym e1;
       sharers = says.0 ∙ ap (λ (x : ℕ). x % 2 ^ 18) (sym e2);
@@ -115,7 +115,7 @@ module _ (s : State) (laws : Laws s) (f : ℕ) (below : f < s.pool.core.frames) 
     own_copy right = let c = laws.invariant.pool.pages.columns f below in let e : flag_weight (link v f).copying ≡ 1 = ap flag_weight right in weighs_flag (s.pool.core.frame f).copying (omega (arith, c.copying, e, term_le (λ (u : View). weigh copies (link u f)) s.pool.core.views i v there))
 
 module _ {L G : Type 0} (d : Devices L G) (o : Opening L G) where
-  at_content : (k : FrameKind) (t : table.State (Value L G) View) (s : State) (f n : ℕ) (v : View) → f < o.config.frames → Shows d o t s → AsksContent k s f n v → Asks k t s f (3 * f + 2) n v
+  at_content : (k : FrameKind) (t : table.State (Value L G) View) (s : State) (f n : ℕ) (v : View) → f < o.config.frames → Shows d o t s → AsksContent k s f n v → Asks k t s f (8 * f + 2) n v
   at_content k t s f n v below h a = record {
     allowed = a.allowed;
     around = a.around;
@@ -124,10 +124,10 @@ module _ {L G : Type 0} (d : Devices L G) (o : Opening L G) where
     out = a.out;
   }
 
-  looks_content_at : (t : table.State (Value L G) View) (s : State) (f : ℕ) (v : View) → f < o.config.frames → Shows d o t s → Asks looking_content t s f (3 * f + 2) (get_or t.words (3 * f + 2) 0) v
-  looks_content_at t s f v below h = record { allowed = (tt, tt); around = tt; shows = subst (λ (ws : List ℕ). ShowsFrame ws f (s.pool.core.frame f)) (sym (set-get_or t.words (3 * f + 2) 0)) (h.frame f below); page = refl; out = refl }
+  looks_content_at : (t : table.State (Value L G) View) (s : State) (f : ℕ) (v : View) → f < o.config.frames → Shows d o t s → Asks looking_content t s f (8 * f + 2) (get_or t.words (8 * f + 2) 0) v
+  looks_content_at t s f v below h = record { allowed = (tt, tt); around = tt; shows = subst (λ (ws : List ℕ). ShowsFrame ws f (s.pool.core.frame f)) (sym (set-get_or t.words (8 * f + 2) 0)) (h.frame f below); page = refl; out = refl }
 
-  says_content : (t : table.State (Value L G) View) (s : State) (f : ℕ) → f < o.config.frames → Shows d o t s → SaysOf content_word (get_or t.words (3 * f + 2) 0) (s.pool.core.frame f)
+  says_content : (t : table.State (Value L G) View) (s : State) (f : ℕ) → f < o.config.frames → Shows d o t s → SaysOf content_word (get_or t.words (8 * f + 2) 0) (s.pool.core.frame f)
   says_content t s f below h = let a = h.frame f below in (a.sharers, a.exclusive, a.copying, a.small)
 
   pub looks_content : (slots id f : ℕ) (me : Me (Value L G) View) → f < o.config.frames → me.0.emptied ≡ false → Allows (RuleHolds d o) slots id me (content_place f) (λ n. n) (tells (always looking_content) (step slots (content_place f) 0 0 none) me)
@@ -138,7 +138,7 @@ module _ {L G : Type 0} (d : Devices L G) (o : Opening L G) where
       → ((s : State) (n : ℕ) → Laws s → f < s.pool.core.frames → get_elem? s.pool.core.views id ≡ some me.0 → SaysOf content_word n (s.pool.core.frame f) → AsksContent k s f (g n) me.0)
       → Allows (RuleHolds d o) slots id me (content_place f) g (tells (always k) (step slots (content_place f) a b none) me)
   changes k part slots id f a b g me below live asked = subst (λ (i : ℕ). Allows (RuleHolds d o) slots id me i g (tells (always k) (step slots i a b none) me)) at (acts d o (always k) slots id f a b g me below live
-      (λ t s h laws there small. subst (λ (i : ℕ). Asks k t s f i (g (get_or t.words i 0)) me.0) (sym at) (at_content k t s f (g (get_or t.words (3 * f + 2) 0)) me.0 below h (asked s (get_or t.words (3 * f + 2) 0) laws (let e = h.fixed.frames in omega arith) there (says_content t s f below h)))))
+      (λ t s h laws there small. subst (λ (i : ℕ). Asks k t s f i (g (get_or t.words i 0)) me.0) (sym at) (at_content k t s f (g (get_or t.words (8 * f + 2) 0)) me.0 below h (asked s (get_or t.words (8 * f + 2) 0) laws (let e = h.fixed.frames in omega arith) there (says_content t s f below h)))))
     where
       at : part_place (part_of k) f ≡ content_place f
       at = ap (λ p. part_place p f) part
@@ -155,11 +155,11 @@ module _ {L G : Type 0} (d : Devices L G) (o : Opening L G) where
       at = ap (λ p. part_place p f) part
 
       of_test : (t : table.State (Value L G) View) (s : State) → Shows d o t s → Laws s → get_elem? s.pool.core.views id ≡ some me.0
-          → Asks (chosen (if_found k) was (get_or t.words (3 * f + 2) 0)) t s f (3 * f + 2) (either (eqb (get_or t.words (3 * f + 2) 0) was) new (get_or t.words (3 * f + 2) 0)) me.0
-      of_test t s h laws there = let n : ℕ = get_or t.words (3 * f + 2) 0 in dite (ℕ_discrete n was)
-          (λ hit. subst (λ (b : Bool). Asks (cond b k (load_kind (part_of k))) t s f (3 * f + 2) (either b new n) me.0) (sym (eq-eqb n was hit))
+          → Asks (chosen (if_found k) was (get_or t.words (8 * f + 2) 0)) t s f (8 * f + 2) (either (eqb (get_or t.words (8 * f + 2) 0) was) new (get_or t.words (8 * f + 2) 0)) me.0
+      of_test t s h laws there = let n : ℕ = get_or t.words (8 * f + 2) 0 in dite (ℕ_discrete n was)
+          (λ hit. subst (λ (b : Bool). Asks (cond b k (load_kind (part_of k))) t s f (8 * f + 2) (either b new n) me.0) (sym (eq-eqb n was hit))
           (at_content k t s f new me.0 below h (asked s laws (let e = h.fixed.frames in omega arith) (let e = h.fixed.backends in let q = h.fixed.few_backends in omega arith) there (subst (λ (x : ℕ). SaysOf content_word x (s.pool.core.frame f)) hit (says_content t s f below h)))))
-          (λ miss. subst (λ (b : Bool). Asks (cond b k (load_kind (part_of k))) t s f (3 * f + 2) (either b new n) me.0) (sym (ne_eqb n was miss)) (subst (λ p. Asks (load_kind p) t s f (3 * f + 2) n me.0) (sym part) (looks_content_at t s f me.0 below h)))
+          (λ miss. subst (λ (b : Bool). Asks (cond b k (load_kind (part_of k))) t s f (8 * f + 2) (either b new n) me.0) (sym (ne_eqb n was miss)) (subst (λ p. Asks (load_kind p) t s f (8 * f + 2) n me.0) (sym part) (looks_content_at t s f me.0 below h)))
 
   pub shares_there : (slots id f was : ℕ) (me : Me (Value L G) View) → f < o.config.frames → me.0.emptied ≡ false → CanLock (link me.0 f) → has_exclusive was ≡ false
       → Allows (RuleHolds d o) slots id me (content_place f) (λ n. either (eqb n was) (was + 1) n) (tells (if_found (pages paged.share)) (step slots (content_place f) was (was + 1) none) me)

@@ -38,10 +38,10 @@ use Rattle.frame_table.specs.Kinds.{FrameKind, pins, pages, IsAllowed, IsAllowed
 use Rattle.table_rule.specs.Shows.{ShowsFrame, ShowsLatches, is_taken, is_out, IsHome, Devices, Gives, GivesPage, GivesMap, GivesLane, GivesLog, KeepsOpening, Shows}
 
 -- a word that none of the frame's three is leaves what they show
-pub frame_else : (words : List ℕ) (i n g : ℕ) (fr : Frame) → ¬ (i ≡ 3 * g) → ¬ (i ≡ 3 * g + 1) → ¬ (i ≡ 3 * g + 2) → ShowsFrame words g fr → ShowsFrame (set words i n) g fr
-frame_else words i n g fr a b c h = let e0 : get_or (set words i n) (3 * g) 0 ≡ get_or words (3 * g) 0 = get_or-set_other words i (3 * g) n 0 (λ e. a (sym e)) in
-    let e1 : get_or (set words i n) (3 * g + 1) 0 ≡ get_or words (3 * g + 1) 0 = get_or-set_other words i (3 * g + 1) n 0 (λ e. b (sym e)) in
-    let e2 : get_or (set words i n) (3 * g + 2) 0 ≡ get_or words (3 * g + 2) 0 = get_or-set_other words i (3 * g + 2) n 0 (λ e. c (sym e)) in record {
+pub frame_else : (words : List ℕ) (i n g : ℕ) (fr : Frame) → ¬ (i ≡ 8 * g) → ¬ (i ≡ 8 * g + 1) → ¬ (i ≡ 8 * g + 2) → ShowsFrame words g fr → ShowsFrame (set words i n) g fr
+frame_else words i n g fr a b c h = let e0 : get_or (set words i n) (8 * g) 0 ≡ get_or words (8 * g) 0 = get_or-set_other words i (8 * g) n 0 (λ e. a (sym e)) in
+    let e1 : get_or (set words i n) (8 * g + 1) 0 ≡ get_or words (8 * g + 1) 0 = get_or-set_other words i (8 * g + 1) n 0 (λ e. b (sym e)) in
+    let e2 : get_or (set words i n) (8 * g + 2) 0 ≡ get_or words (8 * g + 2) 0 = get_or-set_other words i (8 * g + 2) n 0 (λ e. c (sym e)) in record {
       word = h.word ∙ ap fields (sym e0);
       tag = h.tag ∙ sym e1;
       sharers = h.sharers ∙ ap (λ (x : ℕ). x % 2 ^ 18) (sym e2);
@@ -51,7 +51,7 @@ frame_else words i n g fr a b c h = let e0 : get_or (set words i n) (3 * g) 0 �
     }
 
 -- A step leaves the words after those of the frames
-pub latches_else : (n lanes : ℕ) (words : List ℕ) (i m : ℕ) (s s' : State) → i < 3 * n → ((x : Turn) → is_taken x s' ≡ is_taken x s) → words_of s' ≡ words_of s → ShowsLatches n lanes words s → ShowsLatches n lanes (set words i m) s'
+pub latches_else : (n lanes : ℕ) (words : List ℕ) (i m : ℕ) (s s' : State) → i < 8 * n → ((x : Turn) → is_taken x s' ≡ is_taken x s) → words_of s' ≡ words_of s → ShowsLatches n lanes words s → ShowsLatches n lanes (set words i m) s'
 latches_else n lanes words i m s s' low same kept h = record {
   latch = λ x has. get_or-set_other words i (latch_place n x) m 0 (behind x) ∙ h.latch x has ∙ ap flag_weight (sym (same x));
   word = λ w has. get_or-set_other words i (word_place n w) m 0 (λ e. let after = word_behind n w in omega arith) ∙ h.word w has ∙ ap (word_in w) (sym kept);
@@ -227,7 +227,7 @@ module _ {L G : Type 0} (d : Devices L G) (o : Opening L G) where
   }
 
   -- A table shows the state after a step at a frame, if its word shows the frame
-  pub shows_after : (k : FrameKind) (t : table.State (Value L G) View) (s : State) (id f i n : ℕ) (c : List (ℕ × Value L G)) (v : View) → Shows d o t s → get_elem? s.pool.core.views id ≡ some v → f < o.config.frames → i ≡ 3 * f + (i - 3 * f) → i - 3 * f < 3
+  pub shows_after : (k : FrameKind) (t : table.State (Value L G) View) (s : State) (id f i n : ℕ) (c : List (ℕ × Value L G)) (v : View) → Shows d o t s → get_elem? s.pool.core.views id ≡ some v → f < o.config.frames → i ≡ 8 * f + (i - 8 * f) → i - 8 * f < 3
       → Asks k t s f i n v → Shows d o (stepped t i n id c (view_after k s f v) keeps) (state_after k s id f v)
   shows_after k t s id f i n c v h there below is low a = let w : View = view_after k s f v in record {
     fixed = fixed_after k s id f v h.fixed;

@@ -124,11 +124,11 @@ module _ {L G : Type 0} (d : Devices L G) (o : Opening L G) where
   })
 
   -- another tag word shows a frame with this tag
-  tag_shows : (words : List ℕ) (f n : ℕ) (fr : Frame) → 3 * f + 1 < length words → ShowsFrame words f fr → ShowsFrame (set words (3 * f + 1) n) f (record fr { tag = n })
-  tag_shows words f n fr low h = let e0 : get_or (set words (3 * f + 1) n) (3 * f) 0 ≡ get_or words (3 * f) 0 = get_or-set_other words (3 * f + 1) (3 * f) n 0 (omega arith) in
-      let e2 : get_or (set words (3 * f + 1) n) (3 * f + 2) 0 ≡ get_or words (3 * f + 2) 0 = get_or-set_other words (3 * f + 1) (3 * f + 2) n 0 (omega arith) in record {
+  tag_shows : (words : List ℕ) (f n : ℕ) (fr : Frame) → 8 * f + 1 < length words → ShowsFrame words f fr → ShowsFrame (set words (8 * f + 1) n) f (record fr { tag = n })
+  tag_shows words f n fr low h = let e0 : get_or (set words (8 * f + 1) n) (8 * f) 0 ≡ get_or words (8 * f) 0 = get_or-set_other words (8 * f + 1) (8 * f) n 0 (omega arith) in
+      let e2 : get_or (set words (8 * f + 1) n) (8 * f + 2) 0 ≡ get_or words (8 * f + 2) 0 = get_or-set_other words (8 * f + 1) (8 * f + 2) n 0 (omega arith) in record {
         word = h.word ∙ ap fields (sym e0);
-        tag = sym (get_or-set_same words (3 * f + 1) n 0 low);
+        tag = sym (get_or-set_same words (8 * f + 1) n 0 low);
         sharers = h.sharers ∙ ap (λ (x : ℕ). x % 2 ^ 18) (sym e2);
         exclusive = h.exclusive ∙ ap (bit 18) (sym e2);
         copying = h.copying ∙ ap (bit 19) (sym e2);
@@ -140,7 +140,7 @@ module _ {L G : Type 0} (d : Devices L G) (o : Opening L G) where
   tag_loads slots id f me below live right = acts d o (always (pins pin.load_tag)) slots id f 0 0 (λ n. n) me below live (λ t s h laws there small. record {
     allowed = right;
     around = tt;
-    shows = subst (λ (ws : List ℕ). ShowsFrame ws f (s.pool.core.frame f)) (sym (set-get_or t.words (3 * f + 1) 0)) (h.frame f below);
+    shows = subst (λ (ws : List ℕ). ShowsFrame ws f (s.pool.core.frame f)) (sym (set-get_or t.words (8 * f + 1) 0)) (h.frame f below);
     page = refl;
     out = refl;
   })
@@ -215,7 +215,7 @@ module _ {L G : Type 0} (d : Devices L G) (o : Opening L G) where
   erases_there slots id f me below live alone can = acts d o (always (pins pin.erase_tag)) slots id f 18446744073709551615 0 (λ _. 18446744073709551615) me below live (λ u s h laws there small.
       let inside : f < s.pool.core.frames = (let e = h.fixed.frames in omega arith) in of_tag u s h laws there inside (link me.0 f).tag refl)
     where
-      of_tag : (u : table.State (Value L G) View) (s : State) → Shows d o u s → Laws s → get_elem? s.pool.core.views id ≡ some me.0 → f < s.pool.core.frames → (x : Option ℕ) → (link me.0 f).tag ≡ x → Asks (pins pin.erase_tag) u s f (3 * f + 1) 18446744073709551615 me.0
+      of_tag : (u : table.State (Value L G) View) (s : State) → Shows d o u s → Laws s → get_elem? s.pool.core.views id ≡ some me.0 → f < s.pool.core.frames → (x : Option ℕ) → (link me.0 f).tag ≡ x → Asks (pins pin.erase_tag) u s f (8 * f + 1) 18446744073709551615 me.0
       of_tag u s h laws there inside None e = absurd (can.read e)
       of_tag u s h laws there inside (Some tag) e = let mine = alone_there s id f me.0 laws there inside alone in let known = known_there s id f tag me.0 laws there inside e in let may = can.latch tag e in
           let at : tag_partition tag ≡ s.pool.core.partition_of (s.pool.core.frame f).tag = ap (λ (g : ℕ → ℕ). g tag) (sym h.fixed.partition_of) ∙ ap s.pool.core.partition_of (sym known.1) in record {

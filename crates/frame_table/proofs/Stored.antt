@@ -65,7 +65,7 @@ module _ {L G : Type 0} (d : Devices L G) (o : Opening L G) where
   -- What an operation on a state word stores, if it keeps the rule and tells the kind k, in any table: what k makes of a frame with the word found
   pub must_store : (k : FrameKind) → part_of k ≡ state_word → k ≢ pins pin.load_state → MustStore d o k (Makes k)
   must_store k part moves choice slots id f a b g me t at below h0 allows is =
-      let n : ℕ = get_or t.words (3 * f) 0 in
+      let n : ℕ = get_or t.words (8 * f) 0 in
       let h = h0.held in
       let r = allows t h h0.wide h0.there h0.small in
       let w : View = r.0 in
@@ -75,7 +75,7 @@ module _ {L G : Type 0} (d : Devices L G) (o : Opening L G) where
       let listed : w.changes ≡ me.0.changes ++ record { frame = f; found = (did.state.pool.core.frame f).word; left = (frame_after k did.state f).word } ∷ [] = ap (λ (v : View). v.changes) did.after ∙ lists_change k part moves did.state f me.0 in
       let here : get_elem? h.state.pool.core.views id ≡ some me.0 = ap (λ (l : List View). get_elem? l id) (sym h.shows.views) ∙ h0.there in
       let trail : Follows h'.state.pool.core.frame (set h.state.pool.core.views id w) = subst (Follows h'.state.pool.core.frame) (sym h'.shows.views ∙ ap (λ (l : List View). set l id w) h.shows.views) h'.laws.trail.words in
-      let shown : (h'.state.pool.core.frame f).word ≡ fields (g n) = (h'.shows.frame f below).word ∙ ap fields (get_or-set_same t.words (3 * f) (g n) 0 (let e = h.shows.words in omega arith)) in
+      let shown : (h'.state.pool.core.frame f).word ≡ fields (g n) = (h'.shows.frame f below).word ∙ ap fields (get_or-set_same t.words (8 * f) (g n) 0 (let e = h.shows.words in omega arith)) in
       record {
         state = did.state;
         was = was;

@@ -39,10 +39,10 @@ pub record SameRest (fr fr' : Frame) : Type 0 where
   pub page : fr'.page ≡ fr.page
 
 -- another state word shows a frame that has its fields
-state_shows : (words : List ℕ) (f n : ℕ) (fr fr' : Frame) → 3 * f < length words → fr'.word ≡ fields n → SameRest fr fr' → ShowsFrame words f fr → ShowsFrame (set words (3 * f) n) f fr'
-state_shows words f n fr fr' low word rest h = let e1 : get_or (set words (3 * f) n) (3 * f + 1) 0 ≡ get_or words (3 * f + 1) 0 = get_or-set_other words (3 * f) (3 * f + 1) n 0 (omega arith) in
-    let e2 : get_or (set words (3 * f) n) (3 * f + 2) 0 ≡ get_or words (3 * f + 2) 0 = get_or-set_other words (3 * f) (3 * f + 2) n 0 (omega arith) in record {
-      word = word ∙ ap fields (sym (get_or-set_same words (3 * f) n 0 low));
+state_shows : (words : List ℕ) (f n : ℕ) (fr fr' : Frame) → 8 * f < length words → fr'.word ≡ fields n → SameRest fr fr' → ShowsFrame words f fr → ShowsFrame (set words (8 * f) n) f fr'
+state_shows words f n fr fr' low word rest h = let e1 : get_or (set words (8 * f) n) (8 * f + 1) 0 ≡ get_or words (8 * f + 1) 0 = get_or-set_other words (8 * f) (8 * f + 1) n 0 (omega arith) in
+    let e2 : get_or (set words (8 * f) n) (8 * f + 2) 0 ≡ get_or words (8 * f + 2) 0 = get_or-set_other words (8 * f) (8 * f + 2) n 0 (omega arith) in record {
+      word = word ∙ ap fields (sym (get_or-set_same words (8 * f) n 0 low));
       tag = rest.tag ∙ h.tag ∙ sym e1;
       sharers = rest.sharers ∙ h.sharers ∙ ap (λ (x : ℕ). x % 2 ^ 18) (sym e2);
       exclusive = rest.exclusive ∙ h.exclusive ∙ ap (bit 18) (sym e2);
@@ -59,7 +59,7 @@ pub record AsksWord (k : FrameKind) (s : State) (f n : ℕ) (v : View) : Type 0 
   pub out : (link_after k s f v).out ≡ (link v f).out
 
 module _ {L G : Type 0} (d : Devices L G) (o : Opening L G) where
-  pub at_word : (k : FrameKind) (t : table.State (Value L G) View) (s : State) (f n : ℕ) (v : View) → f < o.config.frames → Shows d o t s → AsksWord k s f n v → Asks k t s f (3 * f) n v
+  pub at_word : (k : FrameKind) (t : table.State (Value L G) View) (s : State) (f n : ℕ) (v : View) → f < o.config.frames → Shows d o t s → AsksWord k s f n v → Asks k t s f (8 * f) n v
   at_word k t s f n v below h a = record {
     allowed = a.allowed;
     around = a.around;
@@ -68,11 +68,11 @@ module _ {L G : Type 0} (d : Devices L G) (o : Opening L G) where
     out = a.out;
   }
 
-  looks_at : (t : table.State (Value L G) View) (s : State) (f : ℕ) (v : View) → f < o.config.frames → Shows d o t s → Asks looking t s f (3 * f) (get_or t.words (3 * f) 0) v
-  looks_at t s f v below h = record { allowed = tt; around = tt; shows = subst (λ (ws : List ℕ). ShowsFrame ws f (s.pool.core.frame f)) (sym (set-get_or t.words (3 * f) 0)) (h.frame f below); page = refl; out = refl }
+  looks_at : (t : table.State (Value L G) View) (s : State) (f : ℕ) (v : View) → f < o.config.frames → Shows d o t s → Asks looking t s f (8 * f) (get_or t.words (8 * f) 0) v
+  looks_at t s f v below h = record { allowed = tt; around = tt; shows = subst (λ (ws : List ℕ). ShowsFrame ws f (s.pool.core.frame f)) (sym (set-get_or t.words (8 * f) 0)) (h.frame f below); page = refl; out = refl }
 
   -- whatever the state, what the state word says of its frame
-  says : (t : table.State (Value L G) View) (s : State) (f : ℕ) → f < o.config.frames → Shows d o t s → (s.pool.core.frame f).word ≡ fields (get_or t.words (3 * f) 0)
+  says : (t : table.State (Value L G) View) (s : State) (f : ℕ) → f < o.config.frames → Shows d o t s → (s.pool.core.frame f).word ≡ fields (get_or t.words (8 * f) 0)
   says t s f below h = (h.frame f below).word
 
   pub looks : (slots id f : ℕ) (me : Me (Value L G) View) → f < o.config.frames → me.0.emptied ≡ false → Allows (RuleHolds d o) slots id me (state_place f) (λ n. n) (tells (always looking) (step slots (state_place f) 0 0 none) me)
@@ -100,10 +100,10 @@ module _ {L G : Type 0} (d : Devices L G) (o : Opening L G) where
       at = ap (λ p. part_place p f) part
 
       of_test : (t : table.State (Value L G) View) (s : State) → Shows d o t s → Laws s → get_elem? s.pool.core.views id ≡ some me.0
-          → Asks (chosen (if_found k) was (get_or t.words (3 * f) 0)) t s f (3 * f) (either (eqb (get_or t.words (3 * f) 0) was) new (get_or t.words (3 * f) 0)) me.0
-      of_test t s h laws there = let n : ℕ = get_or t.words (3 * f) 0 in dite (ℕ_discrete n was)
-          (λ hit. subst (λ (b : Bool). Asks (cond b k (load_kind (part_of k))) t s f (3 * f) (either b new n) me.0) (sym (eq-eqb n was hit)) (at_word k t s f new me.0 below h (asked s laws there h.fixed.partition_of (let e = h.fixed.frames in omega arith) (says t s f below h ∙ ap fields hit))))
-          (λ miss. subst (λ (b : Bool). Asks (cond b k (load_kind (part_of k))) t s f (3 * f) (either b new n) me.0) (sym (ne_eqb n was miss)) (subst (λ p. Asks (load_kind p) t s f (3 * f) n me.0) (sym part) (looks_at t s f me.0 below h)))
+          → Asks (chosen (if_found k) was (get_or t.words (8 * f) 0)) t s f (8 * f) (either (eqb (get_or t.words (8 * f) 0) was) new (get_or t.words (8 * f) 0)) me.0
+      of_test t s h laws there = let n : ℕ = get_or t.words (8 * f) 0 in dite (ℕ_discrete n was)
+          (λ hit. subst (λ (b : Bool). Asks (cond b k (load_kind (part_of k))) t s f (8 * f) (either b new n) me.0) (sym (eq-eqb n was hit)) (at_word k t s f new me.0 below h (asked s laws there h.fixed.partition_of (let e = h.fixed.frames in omega arith) (says t s f below h ∙ ap fields hit))))
+          (λ miss. subst (λ (b : Bool). Asks (cond b k (load_kind (part_of k))) t s f (8 * f) (either b new n) me.0) (sym (ne_eqb n was miss)) (subst (λ p. Asks (load_kind p) t s f (8 * f) n me.0) (sym part) (looks_at t s f me.0 below h)))
 
   pub pins_there : (ring : Bool) (slots id f was new : ℕ) (me : Me (Value L G) View) → f < o.config.frames → me.0.emptied ≡ false → (link me.0 f).role ≡ Absent → has_locked was ≡ false → has_tag was ≡ true → fields new ≡ pinned_fields ring (fields was)
       → Allows (RuleHolds d o) slots id me (state_place f) (λ n. either (eqb n was) new n) (tells (if_found (pins (pin.pin ring))) (step slots (state_place f) was new none) me)
@@ -128,14 +128,14 @@ module _ {L G : Type 0} (d : Devices L G) (o : Opening L G) where
   -- locking a header: where it was locked, this is a load
   pub locks_there : (slots id f : ℕ) (me : Me (Value L G) View) → f < o.config.frames → me.0.emptied ≡ false → HoldsNoHeader me.0
       → Allows (RuleHolds d o) slots id me (state_place f) (λ n. bit_or n 4194304) (tells (if_unlocked (pins pin.lock_header)) (step slots (state_place f) 4194304 0 none) me)
-  locks_there slots id f me below live headless = acts d o (if_unlocked (pins pin.lock_header)) slots id f 4194304 0 (λ n. bit_or n 4194304) me below live (λ t s h laws there small. let n : ℕ = get_or t.words (3 * f) 0 in
+  locks_there slots id f me below live headless = acts d o (if_unlocked (pins pin.lock_header)) slots id f 4194304 0 (λ n. bit_or n 4194304) me below live (λ t s h laws there small. let n : ℕ = get_or t.words (8 * f) 0 in
       of_lock t s n h (says t s f below h) (has_locked n) refl)
     where
       set_already : (n : ℕ) → has_locked n ≡ true → fields (bit_or n 4194304) ≡ fields n
       set_already n e = sets_flag Locked n ∙ (λ i. record (fields n) { locked = sym e i })
 
       of_lock : (t : table.State (Value L G) View) (s : State) (n : ℕ) → Shows d o t s → (s.pool.core.frame f).word ≡ fields n → (b : Bool) → has_locked n ≡ b
-          → Asks (cond b looking (pins pin.lock_header)) t s f (3 * f) (bit_or n 4194304) me.0
+          → Asks (cond b looking (pins pin.lock_header)) t s f (8 * f) (bit_or n 4194304) me.0
       of_lock t s n h is true e = at_word looking t s f (bit_or n 4194304) me.0 below h record { allowed = tt; around = tt; word = is ∙ sym (set_already n e); rest = record { tag = refl; sharers = refl; exclusive = refl; copying = refl; page = refl }; out = refl }
       of_lock t s n h is false e = at_word (pins pin.lock_header) t s f (bit_or n 4194304) me.0 below h record {
         allowed = record { unlocked = ap (λ (w : StateWord). w.locked) is ∙ e };
@@ -155,7 +155,7 @@ module _ {L G : Type 0} (d : Devices L G) (o : Opening L G) where
 
   pub unlocks_there : (slots id f : ℕ) (me : Me (Value L G) View) → f < o.config.frames → me.0.emptied ≡ false → (link me.0 f).header ≢ None → (link me.0 f).pending ≡ false
       → Allows (RuleHolds d o) slots id me (state_place f) (λ n. bit_and n 18446744073705357311) (tells (always (pins pin.unlock_header)) (step slots (state_place f) 18446744073705357311 0 none) me)
-  unlocks_there slots id f me below live held settled = acts d o (always (pins pin.unlock_header)) slots id f 18446744073705357311 0 (λ n. bit_and n 18446744073705357311) me below live (λ t s h laws there small. let n : ℕ = get_or t.words (3 * f) 0 in
+  unlocks_there slots id f me below live held settled = acts d o (always (pins pin.unlock_header)) slots id f 18446744073705357311 0 (λ n. bit_and n 18446744073705357311) me below live (λ t s h laws there small. let n : ℕ = get_or t.words (8 * f) 0 in
       at_word (pins pin.unlock_header) t s f (bit_and n 18446744073705357311) me.0 below h record {
         allowed = record { held = held_word s id f me.0 laws there (let e = h.fixed.frames in omega arith) held; settled = settled };
         around = tt;

@@ -22,7 +22,7 @@ impl<L: BlockLane, G: LogDevice> FrameTable<L, G> {
     pub(crate) fn latch(&self, turn: Turn) -> usize
         ensures place { result ≡ latch_place (frames_of self.now) turn }
     {
-        let frames = 3 * self.config.frames as usize;
+        let frames = 8 * self.config.frames as usize;
         match turn {
             Turn::Partition(partition) => frames + partition as usize,
             Turn::Lane(lane) => frames + FIRST_LANE + lane as usize,

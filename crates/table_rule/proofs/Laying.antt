@@ -23,21 +23,20 @@ use Rattle.table_rule.specs.Laid.{AreBlank, AreFresh, AreMaps, AddsMaps, home_la
 pub blank_none : AreBlank [] 0
 blank_none = record { wide = refl; states = λ f h. absurd (omega arith); tags = λ f h. absurd (omega arith); contents = λ f h. absurd (omega arith) }
 
+-- the words of one frame, and five that nothing uses: each frame has a line of the cache to itself
+abbrev pub blank_frame : List ℕ
+blank_frame = 0 ∷ 18446744073709551615 ∷ 0 ∷ 0 ∷ 0 ∷ 0 ∷ 0 ∷ 0 ∷ []
+
 -- one more frame
-pub blank_more : (ws : List ℕ) (n : ℕ) → AreBlank ws n → AreBlank (((ws ++ 0 ∷ []) ++ 18446744073709551615 ∷ []) ++ 0 ∷ []) (n + 1)
-blank_more ws n h = let wide = h.wide in let all : List ℕ = ((ws ++ 0 ∷ []) ++ 18446744073709551615 ∷ []) ++ 0 ∷ [] in
-    let same : all ≡ ws ++ 0 ∷ 18446744073709551615 ∷ 0 ∷ [] = joined ws in
-    let old : (i : ℕ) → i < 3 * n → get_or all i 0 ≡ get_or ws i 0 = (λ i low. ap (λ (l : List ℕ). get_or l i 0) same ∙ get_or_append_left ws (0 ∷ 18446744073709551615 ∷ 0 ∷ []) 0 i (omega arith)) in
-    let new : (k i : ℕ) → i ≡ length ws + k → get_or all i 0 ≡ get_or (0 ∷ 18446744073709551615 ∷ 0 ∷ []) k 0 = (λ k i e. ap (λ (l : List ℕ). get_or l i 0) same ∙ ap (λ (j : ℕ). get_or (ws ++ 0 ∷ 18446744073709551615 ∷ 0 ∷ []) j 0) e ∙ get_or-append-add ws (0 ∷ 18446744073709551615 ∷ 0 ∷ []) k 0) in record {
-      wide = ap (λ (l : List ℕ). length l) same ∙ (let a = length-append ws (0 ∷ 18446744073709551615 ∷ 0 ∷ []) in omega arith);
-      states = λ f below. dite (ℕ_discrete f n) (λ e. new 0 (3 * f) (omega arith)) (λ o. old (3 * f) (omega arith) ∙ h.states f (omega arith));
-      tags = λ f below. dite (ℕ_discrete f n) (λ e. new 1 (3 * f + 1) (omega arith)) (λ o. old (3 * f + 1) (omega arith) ∙ h.tags f (omega arith));
-      contents = λ f below. dite (ℕ_discrete f n) (λ e. new 2 (3 * f + 2) (omega arith)) (λ o. old (3 * f + 2) (omega arith) ∙ h.contents f (omega arith));
+pub blank_more : (ws : List ℕ) (n : ℕ) → AreBlank ws n → AreBlank (ws ++ blank_frame) (n + 1)
+blank_more ws n h = let wide = h.wide in
+    let old : (i : ℕ) → i < 8 * n → get_or (ws ++ blank_frame) i 0 ≡ get_or ws i 0 = (λ i low. get_or_append_left ws blank_frame 0 i (omega arith)) in
+    let new : (k i : ℕ) → i ≡ length ws + k → get_or (ws ++ blank_frame) i 0 ≡ get_or blank_frame k 0 = (λ k i e. ap (λ (j : ℕ). get_or (ws ++ blank_frame) j 0) e ∙ get_or-append-add ws blank_frame k 0) in record {
+      wide = (let a = length-append ws blank_frame in omega arith);
+      states = λ f below. dite (ℕ_discrete f n) (λ e. new 0 (8 * f) (omega arith)) (λ o. old (8 * f) (omega arith) ∙ h.states f (omega arith));
+      tags = λ f below. dite (ℕ_discrete f n) (λ e. new 1 (8 * f + 1) (omega arith)) (λ o. old (8 * f + 1) (omega arith) ∙ h.tags f (omega arith));
+      contents = λ f below. dite (ℕ_discrete f n) (λ e. new 2 (8 * f + 2) (omega arith)) (λ o. old (8 * f + 2) (omega arith) ∙ h.contents f (omega arith));
     }
-  where
-    joined : (l : List ℕ) → ((l ++ 0 ∷ []) ++ 18446744073709551615 ∷ []) ++ 0 ∷ [] ≡ l ++ 0 ∷ 18446744073709551615 ∷ 0 ∷ []
-    joined [] = refl
-    joined (x ∷ l) = ap (λ (m : List ℕ). x ∷ m) (joined l)
 
 module _ {L G : Type 0} where
   pub maps_none : (n : ℕ) (before : List (Value L G)) → AddsMaps n 0 before before

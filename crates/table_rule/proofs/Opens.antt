@@ -86,20 +86,20 @@ module _ (words : List ℕ) (n base : ℕ) (h : AreOpening words n base) where
   joined : words ≡ h.blank ++ behind
   joined = h.is ∙ append_assoc h.blank (replicate latch_count 0) (opening_numbers n base)
 
-  in_frames : (i : ℕ) → i < 3 * n → get_or words i 0 ≡ get_or h.blank i 0
+  in_frames : (i : ℕ) → i < 8 * n → get_or words i 0 ≡ get_or h.blank i 0
   in_frames i low = ap (λ (l : List ℕ). get_or l i 0) joined ∙ get_or_append_left h.blank behind 0 i (let e = h.frames.wide in omega arith)
 
-  in_rest : (i j : ℕ) → i ≡ 3 * n + j → get_or words i 0 ≡ get_or behind j 0
-  in_rest i j e = ap (λ (l : List ℕ). get_or l i 0) joined ∙ get_or-append_right h.blank behind (3 * n) i 0 h.frames.wide (omega arith) ∙ ap (λ (k : ℕ). get_or behind k 0) {x = i - 3 * n} {y = j} (omega arith)
+  in_rest : (i j : ℕ) → i ≡ 8 * n + j → get_or words i 0 ≡ get_or behind j 0
+  in_rest i j e = ap (λ (l : List ℕ). get_or l i 0) joined ∙ get_or-append_right h.blank behind (8 * n) i 0 h.frames.wide (omega arith) ∙ ap (λ (k : ℕ). get_or behind k 0) {x = i - 8 * n} {y = j} (omega arith)
 
-  in_latches : (i j : ℕ) → i ≡ 3 * n + j → j < latch_count → get_or words i 0 ≡ 0
+  in_latches : (i j : ℕ) → i ≡ 8 * n + j → j < latch_count → get_or words i 0 ≡ 0
   in_latches i j e low = in_rest i j e ∙ get_or_append_left (replicate latch_count 0) (opening_numbers n base) 0 j low ∙ get_or-replicate latch_count j 0 0 low
 
   wide : length words ≡ word_count n
   wide = ap (λ (l : List ℕ). length l) joined ∙ (let a = length-append h.blank behind in let b = h.frames.wide in let zero : ℕ = 0 in let c = length-replicate (hint_count n) zero in omega arith)
 
   shows_blank : (f : ℕ) (p : Page) → f < n → ShowsFrame words f (empty_frame p)
-  shows_blank f p below = let s = in_frames (3 * f) (omega arith) ∙ h.frames.states f below in let t = in_frames (3 * f + 1) (omega arith) ∙ h.frames.tags f below in let c = in_frames (3 * f + 2) (omega arith) ∙ h.frames.contents f below in record {
+  shows_blank f p below = let s = in_frames (8 * f) (omega arith) ∙ h.frames.states f below in let t = in_frames (8 * f + 1) (omega arith) ∙ h.frames.tags f below in let c = in_frames (8 * f + 2) (omega arith) ∙ h.frames.contents f below in record {
     word = zero_fields ∙ ap fields (sym s);
     tag = sym t;
     sharers = sym (ap (λ (x : ℕ). x % 2 ^ 18) c);

@@ -9,7 +9,7 @@ use Rattle.table_rule.specs.declared.turn.Turn.TheVariants as turn
 use Rattle.table_rule.specs.Layout.{latch_place, first_word, word_place, word_count, HasWord}
 use Rattle.table_rule.specs.Shows.{HasTurn}
 
-pub latch_low : (n lanes : ℕ) (x : Turn) → lanes ≤ 16 → HasTurn lanes x → (3 * n ≤ latch_place n x) × (latch_place n x < first_word n)
+pub latch_low : (n lanes : ℕ) (x : Turn) → lanes ≤ 16 → HasTurn lanes x → (8 * n ≤ latch_place n x) × (latch_place n x < first_word n)
 latch_low n lanes (turn.Partition p) few has = (omega arith, omega arith)
 latch_low n lanes (turn.Lane q) few has = (omega arith, omega arith)
 latch_low n lanes turn.Log few has = (omega arith, omega arith)
@@ -28,7 +28,7 @@ one_or_apart n end_word end_word has also = inl (refl, refl)
 one_or_apart n flushed_word flushed_word has also = inl (refl, refl)
 one_or_apart n hand_word hand_word has also = inl (refl, refl)
 one_or_apart n (hint_word a) (hint_word b) has also = dite (ℕ_discrete a b)
-    (λ e. inl (eq-eqb a b e, ap (λ (k : ℕ). 3 * n + 148 + k) e))
+    (λ e. inl (eq-eqb a b e, ap (λ (k : ℕ). 8 * n + 148 + k) e))
     (λ o. inr (ne_eqb a b o, λ e. o (omega arith)))
 one_or_apart n _ _ has also = inr (refl, λ e. omega arith)
 

@@ -17,7 +17,7 @@ use Rattle.table_rule.specs.Shows.{GivesMap}
 
 -- the words of n frames without pins and tags
 pub record AreBlank (words : List ℕ) (n : ℕ) : Type 0 where
-  pub wide : length words ≡ 3 * n
+  pub wide : length words ≡ 8 * n
   pub states : (f : ℕ) → f < n → slice_index words (state_place f) ≡ 0
   pub tags : (f : ℕ) → f < n → slice_index words (tag_place f) ≡ no_tag
   pub contents : (f : ℕ) → f < n → slice_index words (content_place f) ≡ 0

@@ -8,37 +8,37 @@ use Rattle.table_rule.specs.declared.turn.Place.TheVariants.{Page, Of}
 use Rattle.table_rule.specs.declared.turn.Turn.{Turn}
 use Rattle.table_rule.specs.declared.turn.Turn.TheVariants.{Partition, Lane, Log}
 
--- the words of the frame f: its state word, its tag word, and its content word
+-- the words of the frame f: its state word, its tag word, and its content word, and five that aren't used, so that frames share no cache line
 abbrev pub state_place : ℕ → ℕ
-state_place f = 3 * f
+state_place f = 8 * f
 
 abbrev pub tag_place : ℕ → ℕ
-tag_place f = 3 * f + 1
+tag_place f = 8 * f + 1
 
 abbrev pub content_place : ℕ → ℕ
-content_place f = 3 * f + 2
+content_place f = 8 * f + 2
 
 -- the word of a latch
 abbrev pub latch_place : ℕ → Turn → ℕ
-latch_place n (Partition p) = 3 * n + p
-latch_place n (Lane q) = 3 * n + 128 + q
-latch_place n Log = 3 * n + 144
+latch_place n (Partition p) = 8 * n + p
+latch_place n (Lane q) = 8 * n + 128 + q
+latch_place n Log = 8 * n + 144
 
 abbrev pub latch_count : ℕ
 latch_count = 145
 
 -- the other words, which follow those of the latches
 abbrev pub first_word : ℕ → ℕ
-first_word n = 3 * n + latch_count
+first_word n = 8 * n + latch_count
 
 abbrev pub word_place : ℕ → Word → ℕ
-word_place n end_word = 3 * n + 145
-word_place n flushed_word = 3 * n + 146
-word_place n hand_word = 3 * n + 147
-word_place n (hint_word number) = 3 * n + 148 + number
+word_place n end_word = 8 * n + 145
+word_place n flushed_word = 8 * n + 146
+word_place n hand_word = 8 * n + 147
+word_place n (hint_word number) = 8 * n + 148 + number
 
 abbrev pub word_count : ℕ → ℕ
-word_count n = 3 * n + 148 + hint_count n
+word_count n = 8 * n + 148 + hint_count n
 
 -- which of them a table of n frames has
 abbrev pub HasWord : ℕ → Word → Type 0

@@ -30,9 +30,7 @@ fn blank_words(alloc: Global, frames: u32) -> Result<Vec<u64>, AllocError>
 {
     let mut words = Vec::new(alloc);
     for _ in 0..frames {
-        words.push(0)?;
-        words.push(u64::MAX)?;
-        words.push(0)?;
+        words.extend_from_slice(&[0, u64::MAX, 0, 0, 0, 0, 0, 0])?;
     }
     Ok(words)
 }

@@ -23,47 +23,47 @@ pub const OTHER_SLOTS: usize = LOG_PLACE + 2;
 pub fn state_place(frame: u32) -> usize
     ensures { result ≡ layout.state_place frame }
 {
-    3 * frame as usize
+    8 * frame as usize
 }
 
 /// The place of its tag word.
 pub fn tag_place(frame: u32) -> usize
     ensures { result ≡ layout.tag_place frame }
 {
-    3 * frame as usize + 1
+    8 * frame as usize + 1
 }
 
 /// The place of its content word.
 pub fn content_place(frame: u32) -> usize
     ensures { result ≡ layout.content_place frame }
 {
-    3 * frame as usize + 2
+    8 * frame as usize + 2
 }
 
 /// The place of the log's end, in a table of so many frames.
 pub fn end_place(frames: u32) -> usize
     ensures { result ≡ layout.end_place frames }
 {
-    3 * frames as usize + LOG_PLACE + 1
+    8 * frames as usize + LOG_PLACE + 1
 }
 
 /// The place of the flushed position.
 pub fn flushed_place(frames: u32) -> usize
     ensures { result ≡ layout.flushed_place frames }
 {
-    3 * frames as usize + LOG_PLACE + 2
+    8 * frames as usize + LOG_PLACE + 2
 }
 
 /// The place of the clock's hand.
 pub fn hand_place(frames: u32) -> usize
     ensures { result ≡ layout.hand_place frames }
 {
-    3 * frames as usize + LOG_PLACE + 3
+    8 * frames as usize + LOG_PLACE + 3
 }
 
 /// The place of a hint word.
 pub fn hint_place(frames: u32, number: u32) -> usize
     ensures { result ≡ layout.hint_place frames number }
 {
-    3 * frames as usize + LOG_PLACE + 4 + number as usize
+    8 * frames as usize + LOG_PLACE + 4 + number as usize
 }
