@@ -17,6 +17,9 @@ use std::sync::Wait;
 use std::thread;
 use table_rule::{FIRST_LANE, LOG_PLACE, Turn, Value};
 
+/// How often a backend yields before it sleeps until the log's latch is left.
+const YIELDS: u32 = 50;
+
 impl<L: BlockLane, G: LogDevice> FrameTable<L, G> {
     /// The place of a latch's word.
     pub(crate) fn latch(&self, turn: Turn) -> usize
@@ -70,13 +73,26 @@ impl<L: BlockLane, G: LogDevice> FrameTable<L, G> {
         ensures did { DidTurn true turn seat.old.me.0 seat.new.me.0 }
     {
         let place = self.latch(turn);
+        let mut tries: u32 = 0;
         for _ in rt.forever() {
             if self.try_take::<Brand>(seat, turn, place) {
                 return;
             }
-            thread::yield_now();
+            self.pause(rt, turn, place, tries);
+            tries = tries.saturating_add(1);
         }
         unreachable!()
+    }
+
+    /// Lets another backend run before the next try. The log's holder may be in a sync: after some tries this backend
+    /// sleeps until the latch is left.
+    fn pause<R: Wait>(&self, rt: &R, turn: Turn, place: usize, tries: u32)
+        requires { place < word_count (frames_of self.now) }
+    {
+        match turn {
+            Turn::Log if tries >= YIELDS => self.table.shared.park(rt, place, 1),
+            _ => thread::yield_now(),
+        }
     }
 
     fn leave_at<D: AtTurn>(&self, seat: &mut Seat<Value<L, G>, View>, _turn: Turn, place: usize)
@@ -99,6 +115,17 @@ impl<L: BlockLane, G: LogDevice> FrameTable<L, G> {
         ensures turned { IsTurned false turn seat.old.me.0 seat.new.me.0 }
         ensures did { DidTurn false turn seat.old.me.0 seat.new.me.0 }
     {
-        self.leave_at::<Brand>(seat, turn, self.latch(turn))
+        let place = self.latch(turn);
+        self.leave_at::<Brand>(seat, turn, place);
+        self.wake(turn, place);
+    }
+
+    /// Wakes a backend that sleeps until the log's latch is left, if there is one.
+    fn wake(&self, turn: Turn, place: usize)
+        requires { place < word_count (frames_of self.now) }
+    {
+        if let Turn::Log = turn {
+            self.table.shared.wake_one(place);
+        }
     }
 }
