@@ -20,10 +20,10 @@ use Rattle.frame_table.specs.declared.table.FrameTable.{FrameTable}
 use Rattle.frame_table.specs.Opened.{WasSoundAtOpening}
 use Rattle.frame_table.specs.Seats.{OnlyRises, base_of, frames_of, lanes_in, relations_of}
 use Rattle.wal_flush.specs.declared.flushes.FlushLog.TheVariants as log
-use Rattle.held_pins.specs.Tokens.{HeldFrame, IsNew, IsPinnedFor, Tokens, held_at, tokens_more, tokens_of, tokens_with}
-use Rattle.held_pins.specs.Rests.{HasNoDevice, HasNoLatch, LinksRest, OnlyTokens, kept_by_calls}
-use Rattle.held_pins.proofs.HeldLists.{more_tags, with_here, with_past}
-use Rattle.held_pins.proofs.Keeping.{rests_more, rests_more_pinned}
+use Rattle.buffer_frames.specs.Tokens.{HeldFrame, IsNew, IsPinnedFor, Tokens, held_at, tokens_more, tokens_of, tokens_with}
+use Rattle.buffer_frames.specs.Rests.{HasNoDevice, HasNoLatch, LinksRest, OnlyTokens, kept_by_calls}
+use Rattle.buffer_frames.proofs.HeldLists.{more_tags, with_here, with_past}
+use Rattle.buffer_frames.proofs.Keeping.{rests_more, rests_more_pinned}
 use Rattle.buffer_frames.specs.declared.flushing.FrameFlushError.TheVariants as flush
 use Rattle.buffer_frames.specs.declared.hinting.HintSeen.{HintSeen}
 use Rattle.buffer_frames.specs.declared.victims.VictimError.TheVariants as victim

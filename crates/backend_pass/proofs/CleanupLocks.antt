@@ -13,9 +13,9 @@ use Rattle.page_core.specs.Steps.{MayWait}
 use Rattle.frame_table.specs.Content.{exclusive_link}
 use Rattle.frame_table.specs.Seats.{Looked, SameMarks, Touches}
 use Rattle.cleanup_lock.specs.Cleanup.{CanLockForCleanup}
-use Rattle.held_pins.specs.Rests.{LinkRests, OnlyTokens}
-use Rattle.held_pins.specs.Tokens.{HeldFrame, IsPinnedFor, Tokens, held_at}
-use Rattle.held_pins.proofs.Keeping.{devices_touched, latches_same, link_looked, rests_touched}
+use Rattle.buffer_frames.specs.Rests.{LinkRests, OnlyTokens}
+use Rattle.buffer_frames.specs.Tokens.{HeldFrame, IsPinnedFor, Tokens, held_at}
+use Rattle.buffer_frames.proofs.Keeping.{devices_touched, latches_same, link_looked, rests_touched}
 use Rattle.backend_pass.specs.Passes.{IsNumbered}
 use Rattle.backend_pass.proofs.Relocking.{can_lock}
 

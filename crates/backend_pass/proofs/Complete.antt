@@ -10,7 +10,7 @@ use Rattle.pin_core.specs.declared.view.FailedCalls.{FailedCalls}
 use Rattle.pin_core.specs.declared.view.View.{View}
 use Rattle.frame_table.specs.declared.table.FrameTable.{FrameTable}
 use Rattle.wal_flush.specs.declared.flushes.FlushLog.TheVariants as log
-use Rattle.held_pins.specs.Tokens.{Tokens, count_of}
+use Rattle.buffer_frames.specs.Tokens.{Tokens, count_of}
 use Rattle.buffer_frames.specs.declared.flushing.FrameFlushError.TheVariants as flush
 use Rattle.buffer_frames.specs.Loading.{WasUnsoundAtOpening}
 use Rattle.buffer_frames.specs.VictimChoices.{ChoiceState, LeavesDirty}

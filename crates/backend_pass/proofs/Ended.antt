@@ -35,9 +35,9 @@ use Rattle.history_core.proofs.Rest.{whole}
 use Rattle.table_rule.specs.declared.opening.Opening.{Opening}
 use Rattle.table_rule.specs.Shows.{Devices}
 use Rattle.frame_table.specs.Closes.{Closes}
-use Rattle.held_pins.specs.Tokens.{no_tokens}
-use Rattle.held_pins.specs.Rests.{OnlyTokens}
-use Rattle.held_pins.proofs.Resting.{rests_hold_nothing}
+use Rattle.buffer_frames.specs.Tokens.{no_tokens}
+use Rattle.buffer_frames.specs.Rests.{OnlyTokens}
+use Rattle.buffer_frames.proofs.Resting.{rests_hold_nothing}
 use Rattle.backend_pass.specs.Passes.{PassState}
 use Rattle.backend_pass.specs.Managers.{AreFronted, IsFirstAt, first_in, others_in}
 use Rattle.backend_pass.specs.Closing.{ClosesAll, ClosesPass, EachPass, NothingPut, NothingWritten, PutNothing, PassTore, TookEach, calls_of_passes, joined_views, met_by_passes, torn_of_passes}

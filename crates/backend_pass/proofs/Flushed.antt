@@ -11,7 +11,7 @@ use Rattle.pin_core.specs.declared.view.View.{View}
 use Rattle.table_rule.specs.Blocks.{has_block, has_named, is_block}
 use Rattle.frame_table.specs.declared.table.FrameTable.{FrameTable}
 use Rattle.frame_table.specs.Seats.{frames_of, relations_of}
-use Rattle.held_pins.specs.Tokens.{IsPinnedFor}
+use Rattle.buffer_frames.specs.Tokens.{IsPinnedFor}
 use Rattle.buffer_frames.specs.Flushing.{FlushAnswer, met_flushing}
 use Rattle.buffer_frames.specs.Working.{met_log}
 use Rattle.backend_pass.specs.declared.errors.FlushError.{FlushError}

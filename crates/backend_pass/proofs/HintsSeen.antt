@@ -27,7 +27,7 @@ use Rattle.frame_table.proofs.Told.{grows, looks_touch, self_after}
 use Rattle.map_partitions.specs.Hints.{StoresHint, hint_number}
 use Rattle.map_partitions.specs.Partition.{WentAndCame}
 use Rattle.buffer_frames.specs.VictimChoices.{ChoiceState}
-use Rattle.held_pins.specs.Tokens.{Tokens}
+use Rattle.buffer_frames.specs.Tokens.{Tokens}
 use Rattle.buffer_frames.specs.declared.hinting.HintSeen.{HintSeen}
 use Rattle.buffer_frames.specs.declared.hinting.HintSeen.TheVariants.{Unused, Had}
 use Rattle.buffer_frames.specs.Hinting.{SeesHint, TakesTurns}

@@ -10,7 +10,7 @@ use Rattle.pin_core.specs.declared.view.LaneHold.{LaneHold}
 use Rattle.pin_core.specs.declared.view.LogHold.{LogHold}
 use Rattle.pin_core.specs.State.{emptied_view, joined_view, sum_of_met, no_partition, idle, no_lane}
 use Rattle.pin_core.specs.Steps.{HoldsNothing, HoldsNothingAt}
-use Rattle.held_pins.specs.Tokens.{no_tokens}
+use Rattle.buffer_frames.specs.Tokens.{no_tokens}
 use Rattle.backend_pass.specs.Passes.{PassState}
 use Rattle.history_core.specs.Log.{IsFront}
 use Rattle.backend_pass.specs.Managers.{AreFronted, AreOthers, AreSpent, IsFirstAt, first_in, is_first, others_in}

@@ -16,9 +16,9 @@ use Rattle.frame_table.specs.Opened.{WasSoundAtOpening}
 use Rattle.frame_table.specs.Seats.{base_of, frames_of, relations_of}
 use Rattle.wal_flush.specs.declared.inserts.InsertError.{InsertError}
 use Rattle.wal_flush.specs.declared.inserts.InsertError.TheVariants.{LogFull, LogDown, LogFault}
-use Rattle.held_pins.specs.Rests.{SameLocks}
-use Rattle.held_pins.specs.Tokens.{HeldFrame, Tokens, held_at}
-use Rattle.held_pins.proofs.Keeping.{same_locks_at}
+use Rattle.buffer_frames.specs.Rests.{SameLocks}
+use Rattle.buffer_frames.specs.Tokens.{HeldFrame, Tokens, held_at}
+use Rattle.buffer_frames.proofs.Keeping.{same_locks_at}
 use Rattle.clock_sweep.proofs.FreeLists.{list_same}
 use Rattle.backend_pass.specs.declared.manager.Manager.{Manager}
 use Rattle.backend_pass.specs.declared.met.Shown.{Shown}

@@ -8,9 +8,9 @@ use Rattle.pin_core.specs.declared.view.Call.TheVariants as call
 use Rattle.pin_core.specs.declared.view.View.{View}
 use Rattle.pin_core.specs.State.{Page, link}
 use Rattle.frame_table.specs.Seats.{base_of}
-use Rattle.held_pins.specs.Tokens.{HeldFrame, IsPinnedFor, Tokens, held_at}
-use Rattle.held_pins.specs.Rests.{LinkRests, OnlyTokens}
-use Rattle.held_pins.proofs.Keeping.{beside, beside_kept, devices_same, latches_same, rests_with}
+use Rattle.buffer_frames.specs.Tokens.{HeldFrame, IsPinnedFor, Tokens, held_at}
+use Rattle.buffer_frames.specs.Rests.{LinkRests, OnlyTokens}
+use Rattle.buffer_frames.proofs.Keeping.{beside, beside_kept, devices_same, latches_same, rests_with}
 use Rattle.clock_sweep.specs.CensusList.{CensusList}
 use Rattle.clock_sweep.specs.FreeFrames.{QueueState, lasting}
 use Rattle.clock_sweep.proofs.FreeLists.{list_same}

@@ -16,12 +16,12 @@ use Rattle.frame_table.specs.WordSteps.{begin_checkpoint, load_hand, view_of}
 use Rattle.frame_table.proofs.Rising.{grows_loads, rises_by}
 use Rattle.wal_flush.specs.declared.flushes.FlushLog.{FlushLog}
 use Rattle.wal_flush.specs.declared.flushes.FlushLog.TheVariants.{LogShort, LogDown, LogFault}
-use Rattle.held_pins.specs.Rests.{SameLocks, kept_by_calls}
+use Rattle.buffer_frames.specs.Rests.{SameLocks, kept_by_calls}
 use Rattle.buffer_frames.specs.Flushing.{met_flushing}
 use Rattle.buffer_frames.proofs.Written.{flushed_met}
-use Rattle.buffer_sync.specs.declared.syncing.Synced.{Synced}
-use Rattle.buffer_sync.specs.declared.syncing.SyncOnly.{SyncOnly}
-use Rattle.buffer_sync.specs.Syncs.{AreAlone, SyncsFrame, synced_work}
+use Rattle.buffer_frames.specs.declared.syncing.Synced.{Synced}
+use Rattle.buffer_frames.specs.declared.syncing.SyncOnly.{SyncOnly}
+use Rattle.buffer_frames.specs.Syncs.{AreAlone, SyncsFrame, synced_work}
 use Rattle.clock_sweep.specs.CensusList.{CensusList}
 use Rattle.clock_sweep.specs.FreeFrames.{QueueState}
 use Rattle.backend_pass.proofs.Owning.{beside_of, own_in}

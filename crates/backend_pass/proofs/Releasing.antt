@@ -11,10 +11,10 @@ use Rattle.pin_core.specs.declared.view.View.{View}
 use Rattle.pin_core.specs.State.{link}
 use Rattle.segment_store.specs.Contents.{Pages}
 use Rattle.frame_table.specs.Seats.{Looked, MayUnpin, OnlyRises, SameMarks, SameSelf, Touches, unpinned_link, base_of, relations_of}
-use Rattle.held_pins.specs.Tokens.{HeldFrame, Tokens, held_at, tokens_less, tokens_more, tokens_of}
-use Rattle.held_pins.specs.Rests.{HasAtMostLock, LinkRests, OnlyTokens, role_of}
-use Rattle.held_pins.proofs.HeldLists.{less_others, less_tag, more_tags}
-use Rattle.held_pins.proofs.Keeping.{beside, beside_touched, devices_touched, latches_same, link_looked, rests_less, rests_without}
+use Rattle.buffer_frames.specs.Tokens.{HeldFrame, Tokens, held_at, tokens_less, tokens_more, tokens_of}
+use Rattle.buffer_frames.specs.Rests.{HasAtMostLock, LinkRests, OnlyTokens, role_of}
+use Rattle.buffer_frames.proofs.HeldLists.{less_others, less_tag, more_tags}
+use Rattle.buffer_frames.proofs.Keeping.{beside, beside_touched, devices_touched, latches_same, link_looked, rests_less, rests_without}
 use Rattle.frame_table.proofs.Rising.{rises_none, rises_touched}
 use Rattle.clock_sweep.proofs.FreeLists.{list_same}
 use Rattle.backend_pass.proofs.Owning.{beside_of, own_in}

@@ -10,9 +10,9 @@ use Rattle.pin_core.specs.declared.view.View.{View}
 use Rattle.pin_core.specs.State.{link}
 use Rattle.frame_table.specs.Content.{CanLock}
 use Rattle.frame_table.specs.Seats.{SameMarks, Touches}
-use Rattle.held_pins.specs.Tokens.{HeldFrame, Tokens, held_at}
-use Rattle.held_pins.specs.Rests.{LinkRests, OnlyTokens, role_of}
-use Rattle.held_pins.proofs.Keeping.{devices_touched, latches_same, rests_touched}
+use Rattle.buffer_frames.specs.Tokens.{HeldFrame, Tokens, held_at}
+use Rattle.buffer_frames.specs.Rests.{LinkRests, OnlyTokens, role_of}
+use Rattle.buffer_frames.proofs.Keeping.{devices_touched, latches_same, rests_touched}
 use Rattle.backend_pass.specs.Locks.{ChangesLock}
 use Rattle.backend_pass.specs.Passes.{PassState}
 use Rattle.backend_pass.proofs.Releasing.{AreHeld}

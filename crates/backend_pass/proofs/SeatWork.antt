@@ -22,11 +22,11 @@ use Rattle.wal_flush.specs.declared.flushes.FlushLog.{FlushLog}
 use Rattle.wal_flush.specs.declared.flushes.FlushedBy.{FlushedBy}
 use Rattle.wal_flush.specs.Flushes.{FlushRefused, FlushSeesEnd, Flushed, as_looked, flushed_view, unflushed_view}
 use Rattle.wal_flush.specs.Latched.{KeepsWork}
-use Rattle.held_pins.specs.Rests.{HasNoDevice, HasNoLatch, LinkRests, LinksRest, OnlyTokens}
-use Rattle.held_pins.specs.Tokens.{Tokens, held_at}
-use Rattle.held_pins.proofs.Keeping.{devices_same, latches_same, links_same}
+use Rattle.buffer_frames.specs.Rests.{HasNoDevice, HasNoLatch, LinkRests, LinksRest, OnlyTokens}
+use Rattle.buffer_frames.specs.Tokens.{Tokens, held_at}
+use Rattle.buffer_frames.proofs.Keeping.{devices_same, latches_same, links_same}
 use Rattle.buffer_frames.specs.Working.{Within}
-use Rattle.buffer_sync.specs.Syncs.{LeavesLane, NotesBlock, SeesNotDirty, synced_work}
+use Rattle.buffer_frames.specs.Syncs.{LeavesLane, NotesBlock, SeesNotDirty, synced_work}
 use Rattle.backend_pass.specs.Passes.{view_in}
 use Rattle.backend_pass.specs.Seats.{HasSeat}
 use Rattle.backend_pass.proofs.Seated.{Worked, worked}

@@ -5,8 +5,8 @@ use Rattle.atomic_table.specs.declared.shared.Seat.{Seat}
 use Rattle.pin_core.specs.declared.view.View.{View}
 use Rattle.table_rule.specs.declared.value.Value.{Value}
 use Rattle.frame_table.specs.Seats.{SameSeat}
-use Rattle.held_pins.specs.Rests.{OnlyTokens}
-use Rattle.held_pins.specs.Tokens.{Tokens}
+use Rattle.buffer_frames.specs.Rests.{OnlyTokens}
+use Rattle.buffer_frames.specs.Tokens.{Tokens}
 use Rattle.backend_pass.specs.Passes.{PassState, SameButTorn, SamePass, view_in}
 use Rattle.backend_pass.specs.Seats.{HasSeat, SameBadge}
 use Rattle.backend_pass.proofs.Keeping.{pass_on}

@@ -13,9 +13,9 @@ use Rattle.frame_table.specs.declared.table.FrameTable.{FrameTable}
 use Rattle.clock_sweep.specs.declared.sweep.Sweep.{Sweep}
 use Rattle.frame_table.specs.FrameSteps.{split_view}
 use Rattle.frame_table.specs.Seats.{base_of, frames_of, lanes_in}
-use Rattle.held_pins.specs.Tokens.{HeldFrame, held_at, no_tokens}
-use Rattle.held_pins.specs.Rests.{OnlyTokens}
-use Rattle.held_pins.proofs.Resting.{new_has_no_tokens}
+use Rattle.buffer_frames.specs.Tokens.{HeldFrame, held_at, no_tokens}
+use Rattle.buffer_frames.specs.Rests.{OnlyTokens}
+use Rattle.buffer_frames.proofs.Resting.{new_has_no_tokens}
 use Rattle.buffer_frames.specs.declared.hinting.HintSeen.TheVariants.{Unused}
 use Rattle.backend_pass.specs.declared.pass_memory.PassMemory.{PassMemory}
 use Rattle.backend_pass.specs.declared.manager.Manager.{Manager}

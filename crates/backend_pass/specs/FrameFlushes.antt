@@ -15,7 +15,7 @@ use Rattle.buffer_frames.specs.declared.flushing.FrameFlushError.TheVariants as 
 use Rattle.buffer_frames.specs.declared.flushing.FlushedPage.{FlushedPage}
 use Rattle.buffer_frames.specs.declared.flushing.FlushedPage.TheVariants as flushed
 use Rattle.buffer_frames.specs.Flushing.{EndedInError, met_refused}
-use Rattle.buffer_sync.specs.Syncs.{WritesBlock}
+use Rattle.buffer_frames.specs.Syncs.{WritesBlock}
 use Rattle.backend_pass.specs.declared.errors.FlushError.{FlushError}
 use Rattle.backend_pass.specs.declared.errors.FlushError.TheVariants.{WriteFault, LogFault, LogDown, LogShort}
 use Rattle.backend_pass.specs.declared.met.Shown.{Shown}

@@ -19,7 +19,7 @@ use Rattle.clock_sweep.specs.FreeFrames.{all_parts}
 use Rattle.clock_sweep.specs.FreeLists.{IsFreeList}
 use Rattle.frame_table.specs.Opened.{WasSoundAtOpening}
 use Rattle.frame_table.specs.Seats.{base_of, frames_of, lanes_in, relations_of}
-use Rattle.held_pins.specs.Tokens.{HeldFrame, held_at, no_tokens}
+use Rattle.buffer_frames.specs.Tokens.{HeldFrame, held_at, no_tokens}
 use Rattle.buffer_frames.specs.declared.hinting.HintSeen.TheVariants.{Unused}
 use Rattle.backend_pass.specs.declared.manager.Manager.{Manager}
 use Rattle.backend_pass.specs.Passes.{PassState}

@@ -5,9 +5,9 @@ use Rattle.pin_core.specs.declared.view.View.{View}
 use Rattle.pin_core.specs.State.{emptied_view}
 use Rattle.clock_sweep.specs.CensusList.{CensusList}
 use Rattle.clock_sweep.specs.FreeFrames.{QueueState, lasting}
-use Rattle.held_pins.specs.Tokens.{HeldFrame, no_tokens}
+use Rattle.buffer_frames.specs.Tokens.{HeldFrame, no_tokens}
 use Rattle.frame_table.specs.Seats.{OnlyRises}
-use Rattle.held_pins.specs.Rests.{OnlyTokens, SameLocks}
+use Rattle.buffer_frames.specs.Rests.{OnlyTokens, SameLocks}
 use Rattle.wal_flush.specs.declared.inserts.InsertError.{InsertError}
 use Rattle.wal_flush.specs.declared.inserts.InsertError.TheVariants.{LogFull, LogDown, LogFault}
 use Rattle.buffer_frames.specs.declared.hinting.HintSeen.{HintSeen}

@@ -16,7 +16,7 @@ use Rattle.frame_table.specs.declared.table.FrameTable.{FrameTable}
 use Rattle.frame_table.specs.Opened.{WasSoundAtOpening}
 use Rattle.frame_table.specs.Seats.{frames_of, lanes_in, relations_of}
 use Rattle.wal_flush.specs.declared.flushes.FlushLog.TheVariants as log
-use Rattle.held_pins.specs.Tokens.{Tokens, count_of, held_at, tokens_with}
+use Rattle.buffer_frames.specs.Tokens.{Tokens, count_of, held_at, tokens_with}
 use Rattle.buffer_frames.specs.declared.flushing.FrameFlushError.TheVariants as flush
 use Rattle.buffer_frames.specs.declared.hinting.HintSeen.{HintSeen}
 use Rattle.buffer_frames.specs.declared.victims.VictimError.{VictimError}

@@ -4,8 +4,8 @@ use Rattle.atomic_table.specs.Seated.{TableId}
 use Rattle.atomic_table.specs.declared.badge.Badge.{Badge}
 use Rattle.atomic_table.specs.declared.shared.Seat.{Seat}
 use Rattle.pin_core.specs.declared.view.View.{View}
-use Rattle.held_pins.specs.Tokens.{Tokens}
-use Rattle.held_pins.specs.Rests.{OnlyTokens}
+use Rattle.buffer_frames.specs.Tokens.{Tokens}
+use Rattle.buffer_frames.specs.Rests.{OnlyTokens}
 use Rattle.backend_pass.specs.Passes.{view_in}
 
 -- The badge is of a pass at the table: it has one view, which holds what the pass's tokens say and nothing else

@@ -16,7 +16,7 @@ impl Pass {
     ghost use Rattle.pin_core.specs.declared.view.Content.TheVariants as lock;
     ghost use Rattle.pin_core.specs.State.{link};
     ghost use Rattle.cleanup_lock.specs.Cleanup.{GrantsCleanup, GrantsTry, RefusesCleanup, RefusesTry, local_pins, refused_tokens, tried_local_pins};
-    ghost use Rattle.held_pins.specs.Tokens.{IsPinnedFor, held_at, tokens_of};
+    ghost use Rattle.buffer_frames.specs.Tokens.{IsPinnedFor, held_at, tokens_of};
     ghost use Rattle.backend_pass.specs.Cleanups.{why_of};
     ghost use Rattle.backend_pass.specs.Locks.{ChangesLock, HasLock, IsTagged};
     ghost use Rattle.backend_pass.specs.Managers.{Belongs};

@@ -2,8 +2,8 @@
 ghost use Rattle.std.specs.Prelude.{◌≡◌, ◌<◌, []};
 ghost use Rattle.clock_sweep.specs.FreeLists.{IsOfSweep};
 ghost use Rattle.frame_table.specs.Seats.{Fits, SameSeat};
-ghost use Rattle.held_pins.specs.Tokens.{no_tokens};
-ghost use Rattle.held_pins.specs.Rests.{OnlyTokens};
+ghost use Rattle.buffer_frames.specs.Tokens.{no_tokens};
+ghost use Rattle.buffer_frames.specs.Rests.{OnlyTokens};
 ghost use Rattle.backend_pass.specs.Managers.{HaveQueues, AreSpent, IsFirstAt, first_in, is_first};
 ghost use Rattle.backend_pass.specs.Closing.{joined_queues, joined_views};
 

@@ -32,8 +32,7 @@ mod seats;
 mod syncs;
 mod tokens;
 
-pub use buffer_frames::HintSeen;
-pub use buffer_sync::{SyncOnly, Synced};
+pub use buffer_frames::{HintSeen, SyncOnly, Synced};
 pub use cleanup_lock::{CleanupError, TryCleanup};
 pub use content_locks::TryLock;
 pub use errors::{FlushError, ReadError, Refused, Setting, StartError, StartRefused};

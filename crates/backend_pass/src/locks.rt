@@ -19,7 +19,7 @@ impl Pass {
     ghost use Rattle.frame_table.specs.FrameSteps.{Did};
     ghost use Rattle.frame_table.specs.Kinds.{pages};
     ghost use Rattle.content_locks.specs.Locks.{LocksAtOnce, LocksContent, RefusesLock, ShowsExclusive, ShowsLock};
-    ghost use Rattle.held_pins.specs.Tokens.{IsPinnedFor};
+    ghost use Rattle.buffer_frames.specs.Tokens.{IsPinnedFor};
     ghost use Rattle.backend_pass.specs.Locks.{ChangesLock, HasLock};
     ghost use Rattle.backend_pass.specs.Managers.{Belongs};
     ghost use Rattle.backend_pass.specs.Passes.{KeepsCalls, KeepsDevices, KeepsLocks, KeepsMark, KeepsSought, SamePass};

@@ -6,11 +6,10 @@ use crate::met::{Met, Shown};
 use crate::pinned::Pinned;
 use crate::seats::{return_seat, take_seat};
 use atomic_table::Badge;
-use buffer_frames::{HintSeen, Sought};
+use buffer_frames::{HeldPins, HintSeen, Sought};
 use cleanup_lock::unpin_and_wake;
 use clock_sweep::{Census, QueuePass};
 use crossbeam_utils::CachePadded;
-use held_pins::HeldPins;
 use log_device::LogDevice;
 use page_layout::{Lsn, Page};
 use pin_core::View;
@@ -34,7 +33,7 @@ pub struct Pass {
 impl Model for Pass {
     ghost use Rattle.std.specs.Prelude.{◌≡◌, ◌≤◌, ◌∷◌, [], vec_capacity};
     ghost use Rattle.crossbeam_utils.specs.Padded.{padded_value};
-    ghost use Rattle.held_pins.specs.Rests.{OnlyTokens};
+    ghost use Rattle.buffer_frames.specs.Rests.{OnlyTokens};
     ghost use Rattle.buffer_frames.specs.Outside.{shown_count};
     ghost use Rattle.backend_pass.specs.Passes.{IsNumbered, IsShown, PassState, view_in};
 
@@ -66,7 +65,7 @@ impl Pass {
     ghost use Rattle.pin_core.specs.declared.view.Content.TheVariants.{Unlocked};
     ghost use Rattle.pin_core.specs.State.{link};
     ghost use Rattle.cleanup_lock.specs.Waking.{Woken};
-    ghost use Rattle.held_pins.specs.Tokens.{IsPinnedFor, held_at, tokens_less, tokens_of};
+    ghost use Rattle.buffer_frames.specs.Tokens.{IsPinnedFor, held_at, tokens_less, tokens_of};
     ghost use Rattle.backend_pass.specs.Locks.{HasLock};
     ghost use Rattle.backend_pass.specs.Managers.{Belongs};
     ghost use Rattle.buffer_frames.specs.Outside.{shown_count};

@@ -3,8 +3,8 @@ ghost use Rattle.std.specs.Prelude.{◌≡◌, ◌≤◌, [], IfOk, vec_capacity
 ghost use Rattle.clock_sweep.specs.CensusList.{new_census};
 
 use crate::marked::MarkedFrame;
+use buffer_frames::HeldPins;
 use clock_sweep::Census;
-use held_pins::HeldPins;
 use page_layout::Page;
 use std::alloc::{AllocError, Global};
 

@@ -3,10 +3,10 @@ ghost use Rattle.std.specs.Prelude.{◌≡◌, true, is_some};
 ghost use Rattle.block_tag.specs.Names.{lane_number, names_block};
 ghost use Rattle.table_rule.specs.Blocks.{has_block};
 ghost use Rattle.frame_table.specs.Seats.{OnlyRises, frames_of, lanes_in, relations_of};
-ghost use Rattle.held_pins.specs.Rests.{HasNoDevice, HasNoLatch, SameLocks};
+ghost use Rattle.buffer_frames.specs.Rests.{HasNoDevice, HasNoLatch, SameLocks};
 ghost use Rattle.clock_sweep.specs.FreeFrames.{SameQueue};
 ghost use Rattle.clock_sweep.specs.FreeLists.{IsFreeList};
-ghost use Rattle.held_pins.specs.Tokens.{IsNew};
+ghost use Rattle.buffer_frames.specs.Tokens.{IsNew};
 ghost use Rattle.buffer_frames.specs.Hinting.{TakesTurns};
 ghost use Rattle.buffer_frames.specs.Outside.{kept_by_block_reads, ring_shape, shown_count};
 ghost use Rattle.buffer_frames.specs.Reads.{CensusRead, ReadAnswer, ReadCalls, ReadNotes, met_read_block};
@@ -25,11 +25,11 @@ use access_rings::Ring;
 use atomic_table::Badge;
 use block_tag::Tag;
 use buffer_frames::{
-    BlockError, FrameFlushError, HintSeen, PinnedBlock, Sought, VictimError, read_block,
+    BlockError, FrameFlushError, HeldPins, HintSeen, MOST_TOKENS, PinnedBlock, Sought, VictimError,
+    read_block,
 };
 use clock_sweep::{Census, QueuePass};
 use crossbeam_utils::CachePadded;
-use held_pins::{HeldPins, MOST_TOKENS};
 use log_device::LogDevice;
 use page_layout::Page;
 use pin_core::View;
@@ -172,7 +172,7 @@ impl Pass {
     ghost use Rattle.table_rule.specs.Blocks.{has_block};
     ghost use Rattle.frame_table.specs.Opened.{WasSoundAtOpening};
     ghost use Rattle.frame_table.specs.Seats.{frames_of, relations_of};
-    ghost use Rattle.held_pins.specs.Tokens.{IsNew, IsPinnedFor, count_of, held_at, tokens_less, tokens_more, tokens_of};
+    ghost use Rattle.buffer_frames.specs.Tokens.{IsNew, IsPinnedFor, count_of, held_at, tokens_less, tokens_more, tokens_of};
     ghost use Rattle.buffer_frames.specs.Hinting.{TakesTurns};
     ghost use Rattle.buffer_frames.specs.Outside.{ring_shape, shown_count};
     ghost use Rattle.buffer_frames.specs.declared.hinting.HintSeen.TheVariants.{Unused};

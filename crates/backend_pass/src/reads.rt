@@ -17,7 +17,7 @@ impl Pass {
     ghost use Rattle.std.specs.Prelude.{◌≡◌, ◌≢◌, ℕ};
     ghost use Rattle.pin_core.specs.declared.view.Content.TheVariants as lock;
     ghost use Rattle.pin_core.specs.State.{link};
-    ghost use Rattle.held_pins.specs.Tokens.{IsPinnedFor};
+    ghost use Rattle.buffer_frames.specs.Tokens.{IsPinnedFor};
     ghost use Rattle.backend_pass.specs.Locks.{HasLock};
     ghost use Rattle.backend_pass.specs.Managers.{Belongs};
     ghost use Rattle.buffer_frames.specs.PageReads.{ReadsPage, ReadsUnder, SharesToRead};

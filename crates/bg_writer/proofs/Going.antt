@@ -17,11 +17,11 @@ use Rattle.buffer_frames.specs.Flushing.{WentToLane, log_syncs, met_flushing}
 use Rattle.buffer_frames.specs.Working.{IsFlushCall, KeepsNotes, Made}
 use Rattle.buffer_frames.proofs.Notes.{notes_on, notes_same}
 use Rattle.buffer_frames.proofs.WorkSteps.{made_none, made_on}
-use Rattle.buffer_sync.specs.declared.syncing.SyncOnly.TheVariants.{NotRecentlyUsed}
-use Rattle.buffer_sync.specs.declared.syncing.Synced.{Synced}
-use Rattle.buffer_sync.specs.declared.syncing.Synced.TheVariants.{Skipped, Clean, Written}
-use Rattle.buffer_sync.specs.Syncs.{EndsSync, SyncsFrame, WritesPages, pages_written}
-use Rattle.buffer_sync.proofs.PagesWritten.{pages_written-append}
+use Rattle.buffer_frames.specs.declared.syncing.SyncOnly.TheVariants.{NotRecentlyUsed}
+use Rattle.buffer_frames.specs.declared.syncing.Synced.{Synced}
+use Rattle.buffer_frames.specs.declared.syncing.Synced.TheVariants.{Skipped, Clean, Written}
+use Rattle.buffer_frames.specs.Syncs.{EndsSync, SyncsFrame, WritesPages, pages_written}
+use Rattle.buffer_frames.proofs.PagesWritten.{pages_written-append}
 use Rattle.backend_pass.specs.declared.errors.FlushError.{FlushError}
 use Rattle.backend_pass.specs.declared.manager.Manager.{Manager}
 use Rattle.backend_pass.specs.FrameFlushes.{RefusesFrame, frame_answer, frame_refusal}

@@ -7,10 +7,10 @@ use Rattle.frame_table.specs.Seats.{OnlyRises, frames_of}
 use Rattle.frame_table.specs.WordSteps.{DidWord, load_hand}
 use Rattle.clock_sweep.specs.Keeping.{SamePins}
 use Rattle.buffer_frames.specs.Flushing.{EndedInError}
-use Rattle.buffer_sync.specs.declared.syncing.SyncOnly.TheVariants.{NotRecentlyUsed}
-use Rattle.buffer_sync.specs.declared.syncing.Synced.{Synced}
-use Rattle.buffer_sync.specs.declared.syncing.Synced.TheVariants.{Skipped, Clean, Written}
-use Rattle.buffer_sync.specs.Syncs.{SyncsFrame}
+use Rattle.buffer_frames.specs.declared.syncing.SyncOnly.TheVariants.{NotRecentlyUsed}
+use Rattle.buffer_frames.specs.declared.syncing.Synced.{Synced}
+use Rattle.buffer_frames.specs.declared.syncing.Synced.TheVariants.{Skipped, Clean, Written}
+use Rattle.buffer_frames.specs.Syncs.{SyncsFrame}
 use Rattle.backend_pass.specs.declared.errors.FlushError.{FlushError}
 use Rattle.backend_pass.specs.FrameFlushes.{frame_refusal}
 use Rattle.bg_writer.specs.declared.reports.Round.{Round}

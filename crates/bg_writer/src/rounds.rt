@@ -4,7 +4,7 @@ ghost use Rattle.pin_core.specs.State.{link};
 ghost use Rattle.clock_sweep.specs.Keeping.{SamePins};
 ghost use Rattle.buffer_frames.specs.Flushing.{met_flushing};
 ghost use Rattle.buffer_frames.specs.Working.{KeepsNotes};
-ghost use Rattle.buffer_sync.specs.Syncs.{WritesPages};
+ghost use Rattle.buffer_frames.specs.Syncs.{WritesPages};
 ghost use Rattle.backend_pass.specs.FrameFlushes.{IsOkOrShort, RefusesFrame, frame_answer};
 ghost use Rattle.backend_pass.specs.Managers.{Belongs};
 ghost use Rattle.backend_pass.specs.Passes.{KeepsCallers, KeepsMark, NoDeviceFails, SamePass};

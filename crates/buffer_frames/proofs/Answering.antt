@@ -34,10 +34,10 @@ use Rattle.page_core.specs.Kinds.{share}
 use Rattle.wal_flush.specs.declared.flushes.FlushLog.{FlushLog}
 use Rattle.wal_flush.specs.declared.flushes.FlushLog.TheVariants.{LogShort, LogDown, LogFault}
 use Rattle.wal_flush.specs.Flushes.{FlushRefused}
-use Rattle.held_pins.specs.Rests.{LinkRests}
-use Rattle.held_pins.specs.Tokens.{HeldFrame, IsPinnedFor, Tokens, held_at}
+use Rattle.buffer_frames.specs.Rests.{LinkRests}
+use Rattle.buffer_frames.specs.Tokens.{HeldFrame, IsPinnedFor, Tokens, held_at}
 use Rattle.frame_table.proofs.Rising.{rises_none, rises_on}
-use Rattle.held_pins.proofs.Keeping.{beside_kept}
+use Rattle.buffer_frames.proofs.Keeping.{beside_kept}
 use Rattle.buffer_frames.specs.declared.flushing.FrameFlushError.{FrameFlushError}
 use Rattle.buffer_frames.specs.declared.flushing.FrameFlushError.TheVariants.{Log, WriteFault}
 use Rattle.buffer_frames.specs.declared.flushing.FlushedPage.{FlushedPage}

@@ -9,9 +9,9 @@ use Rattle.pin_core.specs.declared.view.Content.TheVariants.{Unlocked}
 use Rattle.pin_core.specs.State.{link}
 use Rattle.pin_core.proofs.Views.{link_same}
 use Rattle.frame_table.specs.Seats.{Looked, unpinned_link}
-use Rattle.held_pins.specs.Rests.{HasAtMostLock, LinkRests, LinksRest, LinksRestBeside, role_of}
-use Rattle.held_pins.specs.Tokens.{HeldFrame, Tokens, held_at}
-use Rattle.held_pins.proofs.Keeping.{beside_kept, calm_looked, rests_with}
+use Rattle.buffer_frames.specs.Rests.{HasAtMostLock, LinkRests, LinksRest, LinksRestBeside, role_of}
+use Rattle.buffer_frames.specs.Tokens.{HeldFrame, Tokens, held_at}
+use Rattle.buffer_frames.proofs.Keeping.{beside_kept, calm_looked, rests_with}
 use Rattle.buffer_frames.specs.Stages.{HasVictim, Pins}
 
 -- a latch is left, or taken

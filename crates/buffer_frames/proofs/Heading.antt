@@ -12,9 +12,9 @@ use Rattle.pin_core.specs.Steps.{HasNoVictim, HoldsNoHeader}
 use Rattle.pin_core.proofs.Views.{link_same}
 use Rattle.frame_table.specs.Seats.{HoldsNumber, HoldsWord, IsWordOf, Looked, assigned_link, cleared_link, locked_link, stored_link, unlocked_link, victim_link}
 use Rattle.clock_sweep.specs.Keeping.{GetsHeader}
-use Rattle.held_pins.specs.Rests.{HasAtMostLock, LinksRest, LinksRestBeside}
-use Rattle.held_pins.specs.Tokens.{Tokens, held_at}
-use Rattle.held_pins.proofs.Keeping.{beside, beside_kept, beside_looked}
+use Rattle.buffer_frames.specs.Rests.{HasAtMostLock, LinksRest, LinksRestBeside}
+use Rattle.buffer_frames.specs.Tokens.{Tokens, held_at}
+use Rattle.buffer_frames.proofs.Keeping.{beside, beside_kept, beside_looked}
 use Rattle.buffer_frames.specs.Stages.{HasVictim, Pins}
 use Rattle.buffer_frames.proofs.Calm.{none_absent, not_victim}
 

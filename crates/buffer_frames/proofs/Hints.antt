@@ -10,7 +10,7 @@ use Rattle.frame_table.specs.declared.pin.Pin.{Pin}
 use Rattle.frame_table.specs.Seats.{Grows}
 use Rattle.frame_table.proofs.Rising.{grows_loads, grows_steps}
 use Rattle.map_partitions.specs.Hints.{LoadsHint, StoresHint, hint_number, hint_value}
-use Rattle.held_pins.specs.Tokens.{Tokens, held_at}
+use Rattle.buffer_frames.specs.Tokens.{Tokens, held_at}
 use Rattle.buffer_frames.specs.declared.hinting.HintSeen.{HintSeen}
 use Rattle.buffer_frames.specs.declared.hinting.HintSeen.TheVariants.{Unused, Nothing, Own, Had}
 use Rattle.buffer_frames.specs.Hinting.{HasByHint, NotesHint, LeavesHint, PinsHinted, SeesHint, SeesOther, TakesTurns}

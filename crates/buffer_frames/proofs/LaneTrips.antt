@@ -26,7 +26,7 @@ use Rattle.table_rule.specs.TakenLanes.{IsBlockOf, page_held, taken_lane}
 use Rattle.frame_table.specs.Latches.{DidTurn, IsTurned, SameWork}
 use Rattle.frame_table.specs.LaneWork.{IsNoted, IsTakenLane, LaneStep, MayNote, MayNoteRead, MayNoteWrite, MayReturn, back_lane, back_view, is_sync, lane_device_calls, lane_read_link, met_of, out_lane, out_view, swept_lane, unwritten_link, written_link}
 use Rattle.frame_table.specs.Seats.{ListsOnly, OnlyRises, SameMarks, view_marks}
-use Rattle.held_pins.specs.Rests.{HasNoDevice, kept_by_calls}
+use Rattle.buffer_frames.specs.Rests.{HasNoDevice, kept_by_calls}
 use Rattle.frame_table.proofs.Rising.{rises_back, rises_on, rises_out, rises_turned}
 use Rattle.frame_table.proofs.LogWork.{met_none}
 use Rattle.frame_table.proofs.Told.{lists_same}

@@ -17,7 +17,7 @@ use Rattle.table_rule.specs.Layout.{tag_partition}
 use Rattle.frame_table.specs.Seats.{Finds, Lacks, Looked, MayChange, NamesIn, RemembersNoOther, unpinned_link}
 use Rattle.frame_table.specs.Latches.{DidTurn, IsTurned, MapStep, back_hold, held_part}
 use Rattle.map_partitions.specs.Partition.{HoldsLatch}
-use Rattle.held_pins.specs.Rests.{HasNoLatch, HasOneLatch}
+use Rattle.buffer_frames.specs.Rests.{HasNoLatch, HasOneLatch}
 use Rattle.buffer_frames.specs.Lookups.{UnderPartition}
 
 -- Work under a latch: it is taken, the work done, and it is left

@@ -1,3 +1,6 @@
+pub mod HeldLists
+pub mod Keeping
+pub mod Resting
 pub mod Outside
 pub mod SameLocks
 pub mod Calm
@@ -18,3 +21,6 @@ pub mod PageReading
 pub mod PagePuts
 pub mod Hints
 pub mod Bringing
+pub mod HasTags
+pub mod Passing
+pub mod PagesWritten

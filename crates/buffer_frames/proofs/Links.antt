@@ -17,8 +17,8 @@ use Rattle.frame_table.specs.FrameSteps.{Did}
 use Rattle.frame_table.specs.Seats.{Looked, locked_link, unlocked_link}
 use Rattle.content_locks.specs.Locks.{CanCopy, copied_link}
 use Rattle.frame_table.proofs.Told.{link_is}
-use Rattle.held_pins.specs.Tokens.{Tokens}
-use Rattle.held_pins.proofs.Keeping.{beside_kept, calm_looked}
+use Rattle.buffer_frames.specs.Tokens.{Tokens}
+use Rattle.buffer_frames.proofs.Keeping.{beside_kept, calm_looked}
 use Rattle.buffer_frames.proofs.LaneTrips.{write_noted_link}
 use Rattle.buffer_frames.specs.Stages.{IsPinned, IsRead, IsReading, IsSharing, Pins}
 use Rattle.buffer_frames.specs.Working.{WorksAt}

@@ -12,8 +12,8 @@ use Rattle.frame_table.specs.declared.table.FrameTable.{FrameTable}
 use Rattle.frame_table.specs.Seats.{OnlyRises, Touches, frames_of}
 use Rattle.frame_table.proofs.Rising.{rises_none, rises_on}
 use Rattle.frame_table.proofs.Told.{lists_none}
-use Rattle.held_pins.specs.Rests.{LinksRest}
-use Rattle.held_pins.specs.Tokens.{Tokens}
+use Rattle.buffer_frames.specs.Rests.{LinksRest}
+use Rattle.buffer_frames.specs.Tokens.{Tokens}
 use Rattle.buffer_frames.specs.declared.hinting.HintSeen.{HintSeen}
 use Rattle.buffer_frames.specs.declared.victims.VictimError.{VictimError}
 use Rattle.buffer_frames.specs.Bringing.{PushesNone}

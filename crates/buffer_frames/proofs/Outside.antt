@@ -10,8 +10,8 @@ use Rattle.frame_table.proofs.Rising.{rises_by}
 use Rattle.frame_table.proofs.Told.{grows_on}
 use Rattle.table_rule.specs.declared.turn.Turn.TheVariants.{Partition}
 use Rattle.clock_sweep.specs.Keeping.{SameAside}
-use Rattle.held_pins.specs.Rests.{Stands, kept_by_calls}
-use Rattle.held_pins.proofs.Keeping.{devices_same, stands_on}
+use Rattle.buffer_frames.specs.Rests.{Stands, kept_by_calls}
+use Rattle.buffer_frames.proofs.Keeping.{devices_same, stands_on}
 use Rattle.access_rings.specs.RingState.{RingState, ring_after_keep, ring_after_rejection}
 use Rattle.clock_sweep.specs.Choosing.{ring_gone_on, ring_keeping}
 use Rattle.buffer_frames.specs.Outside.{RingShape, chosen_of, kept_by_block_reads, outside_of, ring_shape, searched_of, shape_of, shown_count}

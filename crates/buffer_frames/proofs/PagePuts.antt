@@ -26,10 +26,10 @@ use Rattle.wal_flush.specs.declared.inserts.InsertError.{InsertError}
 use Rattle.wal_flush.specs.declared.inserts.InsertError.TheVariants.{LogFull, LogDown, LogFault}
 use Rattle.wal_flush.specs.Inserts.{AddsTorn, CanInsert, InsertRefused, Inserts, InsertSeesEnd, inserted_view, refused_view}
 use Rattle.wal_flush.specs.Latched.{as_counted}
-use Rattle.held_pins.specs.Rests.{HasNoDevice, LinkRests, LinksRest}
-use Rattle.held_pins.specs.Tokens.{HeldFrame, IsPinnedFor, Tokens, held_at}
+use Rattle.buffer_frames.specs.Rests.{HasNoDevice, LinkRests, LinksRest}
+use Rattle.buffer_frames.specs.Tokens.{HeldFrame, IsPinnedFor, Tokens, held_at}
 use Rattle.frame_table.proofs.Rising.{rises_on, rises_touched}
-use Rattle.held_pins.proofs.Keeping.{beside, beside_kept, devices_same, devices_touched, link_looked, links_same, rests_with}
+use Rattle.buffer_frames.proofs.Keeping.{beside, beside_kept, devices_same, devices_touched, link_looked, links_same, rests_with}
 use Rattle.buffer_frames.specs.Working.{Made}
 use Rattle.buffer_frames.specs.Puts.{AppliesImage, DidPut, PutRefused, PutsAt, PutsPage, RefusalShows, kept_by_puts, met_put, put_calls}
 

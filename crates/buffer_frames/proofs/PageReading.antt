@@ -26,8 +26,8 @@ use Rattle.frame_table.specs.Kinds.{pages}
 use Rattle.frame_table.specs.Seats.{OnlyRises, SameMarks, Touches, view_marks}
 use Rattle.frame_table.specs.WordSteps.{DidWord, IsCopied, read_end, read_of, view_of}
 use Rattle.content_locks.specs.Locks.{CanCopy, Copies, LocksContent, copied_link}
-use Rattle.held_pins.specs.Tokens.{HeldFrame}
-use Rattle.held_pins.specs.Rests.{HasAtMostLock, LinkRests}
+use Rattle.buffer_frames.specs.Tokens.{HeldFrame}
+use Rattle.buffer_frames.specs.Rests.{HasAtMostLock, LinkRests}
 use Rattle.frame_table.proofs.Rising.{rises_by, rises_on, rises_touched}
 use Rattle.buffer_frames.specs.PageReads.{OnlyReads, ReadsPage, ReadsUnder, SharesToRead, kept_by_reads}
 

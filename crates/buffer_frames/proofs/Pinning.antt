@@ -9,9 +9,9 @@ use Rattle.pin_core.specs.declared.view.Link.{Link}
 use Rattle.pin_core.specs.declared.view.View.{View}
 use Rattle.pin_core.specs.State.{link}
 use Rattle.frame_table.specs.Seats.{Looked, RemembersNoOther, mapped_link, pinned_link, read_link}
-use Rattle.held_pins.specs.Rests.{HasAtMostLock, LinksRest}
-use Rattle.held_pins.specs.Tokens.{HeldFrame, IsNew, Tokens, held_at}
-use Rattle.held_pins.proofs.Keeping.{beside, beside_kept, calm_looked}
+use Rattle.buffer_frames.specs.Rests.{HasAtMostLock, LinksRest}
+use Rattle.buffer_frames.specs.Tokens.{HeldFrame, IsNew, Tokens, held_at}
+use Rattle.buffer_frames.proofs.Keeping.{beside, beside_kept, calm_looked}
 use Rattle.buffer_frames.specs.Stages.{Pins}
 
 -- a frame that the map gives for a block that callers have no pin of isn't pinned

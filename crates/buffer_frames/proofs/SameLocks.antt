@@ -10,9 +10,9 @@ use Rattle.frame_table.specs.Latches.{SameWork, view_counted}
 use Rattle.table_rule.specs.declared.turn.Turn.TheVariants.{Partition}
 use Rattle.frame_table.specs.Seats.{Looked, assigned_link, cleared_link, locked_link, stored_link, unlocked_link, victim_link}
 use Rattle.clock_sweep.specs.Keeping.{GetsHeader}
-use Rattle.held_pins.specs.Rests.{SameLocks}
-use Rattle.held_pins.specs.Tokens.{Tokens}
-use Rattle.held_pins.proofs.Keeping.{same_locks_at, same_locks_linked, same_locks_on}
+use Rattle.buffer_frames.specs.Rests.{SameLocks}
+use Rattle.buffer_frames.specs.Tokens.{Tokens}
+use Rattle.buffer_frames.proofs.Keeping.{same_locks_at, same_locks_linked, same_locks_on}
 use Rattle.buffer_frames.specs.Stages.{HasVictim, Pins}
 use Rattle.buffer_frames.specs.Working.{WorksAt}
 use Rattle.buffer_frames.proofs.Outside.{links_worked}

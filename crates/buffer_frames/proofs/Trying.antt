@@ -19,8 +19,8 @@ use Rattle.clock_sweep.specs.CensusList.{CensusList}
 use Rattle.clock_sweep.specs.Choosing.{ring_gone_on, ring_keeping}
 use Rattle.clock_sweep.specs.FreeFrames.{QueueState}
 use Rattle.frame_table.proofs.Rising.{rises_none, rises_on}
-use Rattle.held_pins.specs.Rests.{LinksRest}
-use Rattle.held_pins.specs.Tokens.{Tokens}
+use Rattle.buffer_frames.specs.Rests.{LinksRest}
+use Rattle.buffer_frames.specs.Tokens.{Tokens}
 use Rattle.buffer_frames.specs.declared.flushing.FrameFlushError.{FrameFlushError}
 use Rattle.buffer_frames.specs.declared.flushing.VictimPage.{VictimPage}
 use Rattle.buffer_frames.specs.declared.victims.VictimError.{VictimError}

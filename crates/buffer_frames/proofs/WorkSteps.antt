@@ -10,11 +10,11 @@ use Rattle.page_core.specs.Steps.{HasNoIo, IsWriteOf}
 use Rattle.pin_core.specs.declared.view.Io.TheVariants.{Quiet}
 use Rattle.state_word.specs.declared.word.StateWord.{StateWord}
 use Rattle.frame_table.specs.Seats.{MarksBegun, MarksEnded, OnlyRises, SameMarks, SameSelf, Touches, ViewMarks}
-use Rattle.held_pins.specs.Rests.{HasNoDevice, HasNoLatch, LinksRestBeside}
-use Rattle.held_pins.specs.Tokens.{Tokens}
+use Rattle.buffer_frames.specs.Rests.{HasNoDevice, HasNoLatch, LinksRestBeside}
+use Rattle.buffer_frames.specs.Tokens.{Tokens}
 use Rattle.frame_table.proofs.Rising.{rises_none, rises_on, rises_touched}
 use Rattle.frame_table.proofs.Told.{lists_on}
-use Rattle.held_pins.proofs.Keeping.{kept_self, latches_same}
+use Rattle.buffer_frames.proofs.Keeping.{kept_self, latches_same}
 use Rattle.buffer_frames.specs.Working.{Made, Within, WorksAt}
 
 pub works_touched : (f : ℕ) (v w : View) → Touches f v w → w.dirtied_or_synced ≡ v.dirtied_or_synced → WorksAt f v w

@@ -20,8 +20,8 @@ use Rattle.wal_flush.specs.Latched.{KeepsWork}
 use Rattle.wal_flush.specs.Latched.{kept_of as log_kept}
 use Rattle.wal_flush.proofs.Listing.{flushed_lists}
 use Rattle.wal_flush.proofs.Rising.{flushed_rises}
-use Rattle.held_pins.specs.Rests.{Stands, kept_by_calls}
-use Rattle.held_pins.proofs.Keeping.{devices_same, stands_on}
+use Rattle.buffer_frames.specs.Rests.{Stands, kept_by_calls}
+use Rattle.buffer_frames.proofs.Keeping.{devices_same, stands_on}
 use Rattle.buffer_frames.specs.Flushing.{CallsLane, LogRefuses, LogShows, WentToLane, met_refused, log_syncs, syncs_refused}
 use Rattle.buffer_frames.specs.declared.flushing.FrameFlushError.TheVariants.{Log}
 use Rattle.buffer_frames.specs.Working.{Made, Within, WorksAt}

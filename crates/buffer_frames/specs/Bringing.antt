@@ -18,7 +18,7 @@ use Rattle.map_partitions.specs.Hints.{StoresHint}
 use Rattle.map_partitions.specs.Partition.{WentAndCame}
 use Rattle.cleanup_lock.specs.Waking.{Woken}
 use Rattle.clock_sweep.specs.FreeFrames.{ListHad, QueueState, pushing}
-use Rattle.held_pins.specs.Tokens.{Tokens}
+use Rattle.buffer_frames.specs.Tokens.{Tokens}
 use Rattle.buffer_frames.specs.Lookups.{SeesNone, UnderPartition}
 use Rattle.buffer_frames.specs.Outside.{searched_of}
 use Rattle.buffer_frames.specs.Stages.{Pins}

@@ -11,7 +11,7 @@ use Rattle.frame_table.specs.Kinds.{pins}
 use Rattle.frame_table.specs.FrameSteps.{Did, Refuses, looking}
 use Rattle.map_partitions.specs.Hints.{LoadsHint, hint_number}
 use Rattle.cleanup_lock.specs.Waking.{Woken}
-use Rattle.held_pins.specs.Tokens.{Tokens, held_at}
+use Rattle.buffer_frames.specs.Tokens.{Tokens, held_at}
 use Rattle.buffer_frames.specs.declared.hinting.HintSeen.{HintSeen}
 use Rattle.buffer_frames.specs.declared.hinting.HintSeen.TheVariants.{Unused, Nothing, Own, Locked, Untagged, Changed, Other, Had}
 

@@ -1,3 +1,5 @@
+pub mod Tokens
+pub mod Rests
 pub mod Stages
 pub mod Working
 pub mod Loading
@@ -11,3 +13,4 @@ pub mod Victims
 pub mod Reads
 pub mod PageReads
 pub mod Puts
+pub mod Syncs

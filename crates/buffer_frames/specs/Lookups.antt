@@ -12,7 +12,7 @@ use Rattle.frame_table.specs.FrameSteps.{Tried}
 use Rattle.frame_table.specs.Latches.{DidTurn}
 use Rattle.map_partitions.specs.Hints.{StoresHint}
 use Rattle.map_partitions.specs.Partition.{WentAndCame}
-use Rattle.held_pins.specs.Tokens.{Tokens}
+use Rattle.buffer_frames.specs.Tokens.{Tokens}
 use Rattle.buffer_frames.specs.declared.hinting.HintSeen.{HintSeen}
 use Rattle.buffer_frames.specs.declared.hinting.HintSeen.TheVariants.{Had}
 use Rattle.buffer_frames.specs.Hinting.{HasByHint, SeesHint}

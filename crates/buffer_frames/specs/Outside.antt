@@ -2,7 +2,7 @@
 use Rattle.std.specs.Prelude.{ℕ, min, [], length, Option, option_map}
 use Rattle.pin_core.specs.declared.view.View.{View}
 use Rattle.history_core.specs.State.{last_count}
-use Rattle.held_pins.specs.Rests.{kept_by_calls}
+use Rattle.buffer_frames.specs.Rests.{kept_by_calls}
 use Rattle.access_rings.specs.declared.ring.RingKind.{RingKind}
 use Rattle.access_rings.specs.RingState.{RingState}
 

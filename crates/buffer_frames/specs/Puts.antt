@@ -20,7 +20,7 @@ use Rattle.wal_flush.specs.declared.inserts.InsertError.{InsertError}
 use Rattle.wal_flush.specs.declared.inserts.InsertError.TheVariants.{LogFull, LogDown, LogFault}
 use Rattle.wal_flush.specs.Inserts.{InsertRefused, Inserts}
 use Rattle.frame_table.specs.Seats.{OnlyRises}
-use Rattle.held_pins.specs.Rests.{kept_by_calls}
+use Rattle.buffer_frames.specs.Rests.{kept_by_calls}
 use Rattle.buffer_frames.specs.Working.{met_log}
 
 -- What a put keeps of a view: what calls keep, but its mark, what it read and put, its front, and the records that it failed to append

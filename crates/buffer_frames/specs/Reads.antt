@@ -14,8 +14,8 @@ use Rattle.frame_table.specs.declared.pin.Pin.{Pin}
 use Rattle.frame_table.specs.declared.table.FrameTable.{FrameTable}
 use Rattle.frame_table.specs.Opened.{WasSoundAtOpening}
 use Rattle.frame_table.specs.Seats.{OnlyRises, frames_of}
-use Rattle.held_pins.specs.Rests.{LinksRest}
-use Rattle.held_pins.specs.Tokens.{Tokens}
+use Rattle.buffer_frames.specs.Rests.{LinksRest}
+use Rattle.buffer_frames.specs.Tokens.{Tokens}
 use Rattle.buffer_frames.specs.declared.hinting.HintSeen.{HintSeen}
 use Rattle.buffer_frames.specs.declared.loading.LoadError.{LoadError}
 use Rattle.buffer_frames.specs.declared.loading.LoadError.TheVariants as load

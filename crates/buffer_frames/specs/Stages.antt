@@ -7,8 +7,8 @@ use Rattle.pin_core.specs.declared.view.Role.TheVariants.{Absent, HandedOut, Vic
 use Rattle.pin_core.specs.declared.view.Link.{Link}
 use Rattle.pin_core.specs.declared.view.View.{View}
 use Rattle.pin_core.specs.State.{link}
-use Rattle.held_pins.specs.Rests.{HasAtMostLock, LinksRestBeside}
-use Rattle.held_pins.specs.Tokens.{Tokens, held_at}
+use Rattle.buffer_frames.specs.Rests.{HasAtMostLock, LinksRestBeside}
+use Rattle.buffer_frames.specs.Tokens.{Tokens, held_at}
 
 -- The frame f is pinned for the tag, with no token of the pin given yet
 pub record Pins (tag f : ℕ) (t : Tokens) (v : View) : Type 0 where

@@ -8,8 +8,8 @@ use Rattle.frame_table.specs.declared.pin.Pin.{Pin}
 use Rattle.frame_table.specs.declared.table.FrameTable.{FrameTable}
 use Rattle.frame_table.specs.Seats.{frames_of}
 use Rattle.clock_sweep.specs.CensusList.{CensusList, new_census}
-use Rattle.held_pins.specs.Rests.{LinksRest}
-use Rattle.held_pins.specs.Tokens.{Tokens}
+use Rattle.buffer_frames.specs.Rests.{LinksRest}
+use Rattle.buffer_frames.specs.Tokens.{Tokens}
 use Rattle.buffer_frames.specs.declared.victims.Freed.{Freed}
 use Rattle.buffer_frames.specs.declared.victims.Freed.TheVariants.{Again, Ready, Refused}
 use Rattle.buffer_frames.specs.declared.victims.VictimError.{VictimError}

@@ -12,7 +12,7 @@ use Rattle.pin_core.specs.declared.view.View.{View}
 use Rattle.pin_core.specs.State.{link}
 use Rattle.frame_table.specs.Seats.{ListsOnly, OnlyRises}
 use Rattle.content_locks.specs.Io.{EndsIo}
-use Rattle.held_pins.specs.Rests.{kept_by_calls}
+use Rattle.buffer_frames.specs.Rests.{kept_by_calls}
 
 -- Work at the frame f, and at devices for its page: the view has at other frames, and at the partitions, what it had
 pub record WorksAt (f : ℕ) (v w : View) : Type 0 where

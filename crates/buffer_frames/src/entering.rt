@@ -14,8 +14,8 @@ ghost use Rattle.map_partitions.specs.Partition.{HoldsLatch};
 ghost use Rattle.clock_sweep.specs.FreeFrames.{SameQueue};
 ghost use Rattle.clock_sweep.specs.FreeLists.{IsFreeList};
 ghost use Rattle.cleanup_lock.specs.Waking.{Woken};
-ghost use Rattle.held_pins.specs.Rests.{HasNoLatch, HasOneLatch, LinksRest, SameLocks, Stands};
-ghost use Rattle.held_pins.specs.Tokens.{IsNew};
+ghost use Rattle.buffer_frames.specs.Rests.{HasNoLatch, HasOneLatch, LinksRest, SameLocks, Stands};
+ghost use Rattle.buffer_frames.specs.Tokens.{IsNew};
 ghost use Rattle.buffer_frames.specs.Hinting.{NotesHint};
 ghost use Rattle.buffer_frames.specs.Outside.{outside_of, searched_of, shown_count};
 ghost use Rattle.buffer_frames.specs.Bringing.{Brings, EntersAndStores, PutsBack};
@@ -24,12 +24,12 @@ ghost use Rattle.buffer_frames.specs.VictimChoices.{FindsInUse, UnpinsVictim, Is
 ghost use Rattle.buffer_frames.specs.Working.{Within};
 
 use crate::lookup::{pin_found, take_counted};
+use crate::pins::HeldPins;
 use atomic_table::Seat;
 use block_tag::Tag;
 use cleanup_lock::unpin_and_wake;
 use clock_sweep::{QueuePass, Sweep};
 use frame_table::{FrameTable, Pin, Value};
-use held_pins::HeldPins;
 use log_device::LogDevice;
 use map_partitions::{enter, find, give_turn, store_hint};
 use pin_core::View;

@@ -3,17 +3,17 @@ ghost use Rattle.std.specs.Prelude.{◌≡◌, ◌<◌, None, IfErr, IfOk, Match
 ghost use Rattle.block_tag.specs.Names.{packed_tag};
 ghost use Rattle.frame_table.specs.Seats.{Grows, SameSeat, Touches, frames_of};
 ghost use Rattle.cleanup_lock.specs.Waking.{Woken};
-ghost use Rattle.held_pins.specs.Rests.{HasNoLatch, LinksRest, SameLocks, Stands};
-ghost use Rattle.held_pins.specs.Tokens.{held_at};
+ghost use Rattle.buffer_frames.specs.Rests.{HasNoLatch, LinksRest, SameLocks, Stands};
+ghost use Rattle.buffer_frames.specs.Tokens.{held_at};
 ghost use Rattle.buffer_frames.specs.Hinting.{HasByHint, PinsHinted, SeesHint, SeesOther, refused_hint};
 ghost use Rattle.buffer_frames.specs.Outside.{outside_of};
 ghost use Rattle.buffer_frames.specs.Stages.{Pins};
 
+use crate::pins::HeldPins;
 use atomic_table::Seat;
 use block_tag::Tag;
 use cleanup_lock::unpin_and_wake;
 use frame_table::{FrameTable, Pin, TryPin, Value};
-use held_pins::HeldPins;
 use log_device::LogDevice;
 use map_partitions::load_hint;
 use pin_core::View;

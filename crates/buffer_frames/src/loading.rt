@@ -7,16 +7,16 @@ ghost use Rattle.pin_core.specs.State.{link};
 ghost use Rattle.table_rule.specs.Blocks.{has_block};
 ghost use Rattle.frame_table.specs.Opened.{WasSoundAtOpening};
 ghost use Rattle.frame_table.specs.Seats.{Looked, SameSeat, frames_of, lanes_in, relations_of};
-ghost use Rattle.held_pins.specs.Rests.{HasNoLatch, LinksRestBeside, Stands};
+ghost use Rattle.buffer_frames.specs.Rests.{HasNoLatch, LinksRestBeside, Stands};
 ghost use Rattle.buffer_frames.specs.Loading.{EndsUnread, LoadShows, loading_calls, met_lane_read, met_loading, reading_calls};
 ghost use Rattle.buffer_frames.specs.Stages.{IsRead, IsReading, Pins};
 ghost use Rattle.buffer_frames.specs.Working.{Made, WorksAt};
 
+use crate::pins::HeldPins;
 use atomic_table::Seat;
 use block_tag::{Tag, lane_of};
 use content_locks::{Direction, IoRight, end_io, page_back, page_out, start_io};
 use frame_table::{FrameTable, Turn, Value};
-use held_pins::HeldPins;
 use log_device::LogDevice;
 use page_layout::Page;
 use pin_core::View;

@@ -5,7 +5,7 @@ ghost use Rattle.pin_core.specs.State.{link};
 ghost use Rattle.frame_table.specs.Content.{CanLock, unshared_link};
 ghost use Rattle.frame_table.specs.Seats.{CanStep, SameSeat};
 ghost use Rattle.content_locks.specs.Locks.{CanCopy, copied_link};
-ghost use Rattle.held_pins.specs.Rests.{HasAtMostLock};
+ghost use Rattle.buffer_frames.specs.Rests.{HasAtMostLock};
 ghost use Rattle.buffer_frames.specs.PageReads.{OnlyReads, ReadsPage, ReadsUnder, SharesToRead};
 
 use atomic_table::Seat;

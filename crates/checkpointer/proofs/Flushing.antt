@@ -15,11 +15,11 @@ use Rattle.frame_table.specs.declared.table.FrameTable.{FrameTable}
 use Rattle.frame_table.specs.Seats.{lanes_in}
 use Rattle.buffer_frames.specs.Flushing.{WentToLane, log_syncs}
 use Rattle.buffer_frames.proofs.WorkSteps.{made_on}
-use Rattle.buffer_sync.specs.declared.syncing.SyncOnly.TheVariants.{Needed}
-use Rattle.buffer_sync.specs.declared.syncing.Synced.{Synced}
-use Rattle.buffer_sync.specs.declared.syncing.Synced.TheVariants.{Skipped, Clean, Written}
-use Rattle.buffer_sync.specs.Syncs.{SyncsFrame, pages_written}
-use Rattle.buffer_sync.proofs.PagesWritten.{pages_written-append}
+use Rattle.buffer_frames.specs.declared.syncing.SyncOnly.TheVariants.{Needed}
+use Rattle.buffer_frames.specs.declared.syncing.Synced.{Synced}
+use Rattle.buffer_frames.specs.declared.syncing.Synced.TheVariants.{Skipped, Clean, Written}
+use Rattle.buffer_frames.specs.Syncs.{SyncsFrame, pages_written}
+use Rattle.buffer_frames.proofs.PagesWritten.{pages_written-append}
 use Rattle.checkpointer.specs.Stages.{IsFlush, FlushesPages, pages_by}
 
 pub flushes_none : (v w : View) → Made [] v w → FlushesPages 0 v w

@@ -14,7 +14,7 @@ use Rattle.pin_core.specs.declared.view.View.{View}
 use Rattle.pin_core.specs.State.{link}
 use Rattle.frame_table.specs.Seats.{ListsOnly}
 use Rattle.buffer_frames.specs.Working.{KeepsNotes}
-use Rattle.buffer_sync.specs.Syncs.{NotesBlock, SeesNotDirty}
+use Rattle.buffer_frames.specs.Syncs.{NotesBlock, SeesNotDirty}
 use Rattle.backend_pass.specs.declared.marked.MarkedFrame.{MarkedFrame}
 use Rattle.backend_pass.specs.Passes.{PassState}
 use Rattle.checkpointer.specs.Marked.{AreInside, AreMarked, HasVisited, HasNoneLeft, IsMarked, HasNoneToWrite, KeepsEachNote, NotesInOrder, sees_clean, notes_dirty}

@@ -8,8 +8,8 @@ use Rattle.frame_table.specs.declared.table.FrameTable.{FrameTable}
 use Rattle.frame_table.specs.Seats.{OnlyRises}
 use Rattle.frame_table.proofs.Rising.{rises_on}
 use Rattle.buffer_frames.specs.Flushing.{EndedInError, met_refused}
-use Rattle.buffer_sync.specs.declared.syncing.SyncOnly.TheVariants.{Needed}
-use Rattle.buffer_sync.specs.Syncs.{SyncsFrame}
+use Rattle.buffer_frames.specs.declared.syncing.SyncOnly.TheVariants.{Needed}
+use Rattle.buffer_frames.specs.Syncs.{SyncsFrame}
 use Rattle.backend_pass.specs.declared.errors.FlushError.{FlushError}
 use Rattle.backend_pass.specs.declared.errors.FlushError.TheVariants as flush
 use Rattle.backend_pass.specs.declared.manager.Manager.{Manager}

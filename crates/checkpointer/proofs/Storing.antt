@@ -8,7 +8,7 @@ use Rattle.pin_core.specs.State.{lane_hold}
 use Rattle.history_core.specs.Promises.{AreDurable, AreStored, AreSynced}
 use Rattle.history_core.specs.State.{State}
 use Rattle.history_core.proofs.Promises.{seen_durable, sweeps}
-use Rattle.buffer_sync.specs.Syncs.{LeavesLane}
+use Rattle.buffer_frames.specs.Syncs.{LeavesLane}
 use Rattle.backend_pass.specs.Closing.{HasSwept}
 use Rattle.checkpointer.specs.Checkpoints.{StoresUpTo}
 

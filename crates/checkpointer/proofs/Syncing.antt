@@ -11,7 +11,7 @@ use Rattle.frame_table.specs.Latches.{work_of}
 use Rattle.frame_table.specs.Seats.{OnlyRises}
 use Rattle.buffer_frames.specs.Working.{Made}
 use Rattle.buffer_frames.proofs.WorkSteps.{made_on}
-use Rattle.buffer_sync.specs.Syncs.{synced_work}
+use Rattle.buffer_frames.specs.Syncs.{synced_work}
 use Rattle.checkpointer.specs.Marked.{HasNoneLeft}
 use Rattle.checkpointer.specs.Stages.{syncs_below}
 use Rattle.checkpointer.proofs.Ended.{swept_to}

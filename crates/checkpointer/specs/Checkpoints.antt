@@ -8,7 +8,7 @@ use Rattle.frame_table.specs.Seats.{OnlyRises, lanes_in}
 use Rattle.frame_table.specs.WordSteps.{DidWord, begin_checkpoint, view_of}
 use Rattle.wal_flush.specs.Flushes.{Flushed}
 use Rattle.buffer_frames.specs.Working.{Made}
-use Rattle.buffer_sync.specs.Syncs.{LeavesLane}
+use Rattle.buffer_frames.specs.Syncs.{LeavesLane}
 use Rattle.backend_pass.specs.Closing.{HasSwept}
 use Rattle.checkpointer.specs.declared.ending.Checkpoint.{Checkpoint}
 use Rattle.checkpointer.specs.Stages.{syncs_below}

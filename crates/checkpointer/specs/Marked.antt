@@ -8,7 +8,7 @@ use Rattle.pin_core.specs.declared.view.View.{View}
 use Rattle.pin_core.specs.State.{link}
 use Rattle.frame_table.specs.Seats.{ListsOnly}
 use Rattle.buffer_frames.specs.Working.{KeepsNotes, Made}
-use Rattle.buffer_sync.specs.Syncs.{NotesBlock, SeesNotDirty}
+use Rattle.buffer_frames.specs.Syncs.{NotesBlock, SeesNotDirty}
 use Rattle.backend_pass.specs.declared.marked.MarkedFrame.{MarkedFrame}
 
 -- no frame is left for the view's checkpoint to write

@@ -11,8 +11,8 @@ use Rattle.wal_flush.specs.declared.flushes.FlushLog.TheVariants as log
 use Rattle.wal_flush.specs.Flushes.{FlushRefused, Flushed}
 use Rattle.buffer_frames.specs.Flushing.{EndedInError, met_refused, syncs_refused}
 use Rattle.buffer_frames.specs.Working.{Made, met_log, met_write}
-use Rattle.buffer_sync.specs.declared.syncing.SyncOnly.TheVariants.{Needed}
-use Rattle.buffer_sync.specs.Syncs.{SyncsFrame}
+use Rattle.buffer_frames.specs.declared.syncing.SyncOnly.TheVariants.{Needed}
+use Rattle.buffer_frames.specs.Syncs.{SyncsFrame}
 use Rattle.backend_pass.specs.declared.errors.FlushError.{FlushError}
 use Rattle.backend_pass.specs.declared.errors.FlushError.TheVariants as flush
 use Rattle.backend_pass.specs.declared.manager.Manager.{Manager}

@@ -5,10 +5,10 @@ use Rattle.pin_core.specs.declared.view.View.{View}
 use Rattle.frame_table.specs.declared.table.FrameTable.{FrameTable}
 use Rattle.frame_table.specs.Seats.{frames_of}
 use Rattle.frame_table.specs.WordSteps.{begin_checkpoint, view_of}
-use Rattle.buffer_sync.specs.declared.syncing.SyncOnly.TheVariants.{Needed}
-use Rattle.buffer_sync.specs.declared.syncing.Synced.{Synced}
-use Rattle.buffer_sync.specs.declared.syncing.Synced.TheVariants.{Skipped}
-use Rattle.buffer_sync.specs.Syncs.{SyncsFrame}
+use Rattle.buffer_frames.specs.declared.syncing.SyncOnly.TheVariants.{Needed}
+use Rattle.buffer_frames.specs.declared.syncing.Synced.{Synced}
+use Rattle.buffer_frames.specs.declared.syncing.Synced.TheVariants.{Skipped}
+use Rattle.buffer_frames.specs.Syncs.{SyncsFrame}
 use Rattle.backend_pass.specs.declared.marked.MarkedFrame.{MarkedFrame}
 use Rattle.checkpointer.specs.Marked.{ListsDirty}
 use Rattle.checkpointer.specs.Stages.{FlushesPages}

@@ -13,7 +13,7 @@ use Rattle.pin_core.specs.declared.view.View.{View}
 use Rattle.pin_core.specs.State.{link}
 use Rattle.pin_core.proofs.Views.{link_new}
 use Rattle.frame_table.specs.Seats.{base_of, frames_of, lanes_in}
-use Rattle.held_pins.specs.Tokens.{IsPinnedFor, tokens_less}
+use Rattle.buffer_frames.specs.Tokens.{IsPinnedFor, tokens_less}
 use Rattle.backend_pass.specs.declared.manager.Manager.{Manager}
 use Rattle.backend_pass.specs.declared.pinned.Pinned.{Pinned}
 use Rattle.backend_pass.specs.Locks.{ChangesLock, HasLock}

@@ -11,8 +11,8 @@ use Rattle.pin_core.specs.State.{link}
 use Rattle.pin_core.proofs.Views.{link_new}
 use Rattle.frame_table.specs.Seats.{base_of, frames_of, lanes_in}
 use Rattle.block_tag.specs.declared.tag.Tag.{Tag}
-use Rattle.held_pins.specs.Tokens.{HeldFrame, IsPinnedFor, Tokens, held_at, tokens_less, tokens_of}
-use Rattle.held_pins.proofs.HeldLists.{less_others}
+use Rattle.buffer_frames.specs.Tokens.{HeldFrame, IsPinnedFor, Tokens, held_at, tokens_less, tokens_of}
+use Rattle.buffer_frames.proofs.HeldLists.{less_others}
 use Rattle.backend_pass.specs.declared.manager.Manager.{Manager}
 use Rattle.backend_pass.specs.declared.pinned.Pinned.{Pinned}
 use Rattle.backend_pass.specs.Locks.{ChangesLock, HasLock}

@@ -2,7 +2,7 @@
 ghost use Rattle.std.specs.Prelude.{◌≡◌};
 ghost use Rattle.std.specs.Thread.{IsSync};
 ghost use Rattle.pin_core.specs.declared.view.Content.TheVariants.{Unlocked};
-ghost use Rattle.held_pins.specs.Tokens.{IsPinnedFor};
+ghost use Rattle.buffer_frames.specs.Tokens.{IsPinnedFor};
 ghost use Rattle.backend_pass.specs.Locks.{HasLock};
 ghost use Rattle.backend_pass.specs.Managers.{Belongs};
 ghost use Rattle.manager_tests.specs.Bench.{IsFree, IsFreeIn, IsUnlocked, Returns};

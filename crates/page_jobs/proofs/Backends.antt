@@ -12,7 +12,7 @@ use Rattle.pin_core.specs.declared.view.FailedCalls.{FailedCalls}
 use Rattle.pin_core.specs.declared.view.View.{View}
 use Rattle.history_core.specs.Log.{IsFront, writes_in}
 use Rattle.frame_table.specs.Seats.{base_of}
-use Rattle.held_pins.specs.Tokens.{no_tokens}
+use Rattle.buffer_frames.specs.Tokens.{no_tokens}
 use Rattle.backend_pass.specs.declared.errors.FlushError.{FlushError}
 use Rattle.backend_pass.specs.declared.errors.FlushError.TheVariants as flush
 use Rattle.backend_pass.specs.declared.errors.ReadError.{ReadError}

@@ -25,7 +25,7 @@ use Rattle.pin_core.specs.declared.view.View.{View}
 use Rattle.pin_core.specs.State.{Page, link}
 use Rattle.frame_table.specs.Seats.{relations_of}
 use Rattle.frame_table.proofs.Rising.{rises_on}
-use Rattle.held_pins.specs.Tokens.{IsPinnedFor, Tokens, no_tokens, tokens_less}
+use Rattle.buffer_frames.specs.Tokens.{IsPinnedFor, Tokens, no_tokens, tokens_less}
 use Rattle.wal_flush.specs.declared.inserts.InsertError.{InsertError}
 use Rattle.wal_flush.specs.declared.inserts.InsertError.TheVariants.{LogFull, LogDown, LogFault}
 use Rattle.wal_flush.specs.Inserts.{AddsTorn}

@@ -15,7 +15,7 @@ use Rattle.pin_core.specs.declared.view.View.{View}
 use Rattle.pin_core.specs.State.{Page}
 use Rattle.frame_table.specs.Opened.{WasAtOpening}
 use Rattle.frame_table.specs.Seats.{lanes_in}
-use Rattle.held_pins.specs.Tokens.{IsNew, Tokens, no_tokens, tokens_less}
+use Rattle.buffer_frames.specs.Tokens.{IsNew, Tokens, no_tokens, tokens_less}
 use Rattle.backend_pass.specs.declared.errors.ReadError.{ReadError}
 use Rattle.backend_pass.specs.declared.errors.ReadError.TheVariants as read
 use Rattle.backend_pass.specs.declared.manager.Manager.{Manager}

@@ -7,7 +7,7 @@ use Rattle.page_layout.specs.declared.scan.ScanTotals.{ScanTotals}
 use Rattle.page_layout.specs.Scan.{IsWithin, sum_of_totals}
 use Rattle.segment_store.specs.Contents.{Pages}
 use Rattle.frame_table.specs.Seats.{OnlyRises, relations_of}
-use Rattle.held_pins.specs.Tokens.{no_tokens}
+use Rattle.buffer_frames.specs.Tokens.{no_tokens}
 use Rattle.backend_pass.specs.declared.errors.ReadError.{ReadError}
 use Rattle.backend_pass.specs.declared.manager.Manager.{Manager}
 use Rattle.backend_pass.specs.Passes.{PassState}

@@ -14,7 +14,7 @@ use Rattle.pin_core.specs.declared.view.Call.TheVariants.{Read}
 use Rattle.pin_core.specs.declared.view.View.{View}
 use Rattle.pin_core.specs.State.{Page, link}
 use Rattle.frame_table.specs.Seats.{OnlyRises, relations_of}
-use Rattle.held_pins.specs.Tokens.{IsPinnedFor, no_tokens, tokens_less}
+use Rattle.buffer_frames.specs.Tokens.{IsPinnedFor, no_tokens, tokens_less}
 use Rattle.wal_flush.specs.declared.inserts.InsertError.{InsertError}
 use Rattle.wal_flush.specs.declared.inserts.InsertError.TheVariants as put
 use Rattle.cleanup_lock.specs.Cleanup.{GrantsCleanup}

@@ -2,7 +2,7 @@
 ghost use Rattle.std.specs.Prelude.{◌≡◌, ◌<◌, ◌≤◌, ◌+◌, ◌^◌, [], ◌∷◌, Ok, IfErr, IfOk};
 ghost use Rattle.block_tag.specs.Catalogue.{blocks_at};
 ghost use Rattle.pin_core.specs.declared.view.Content.TheVariants as content;
-ghost use Rattle.held_pins.specs.Tokens.{IsPinnedFor, no_tokens, tokens_less};
+ghost use Rattle.buffer_frames.specs.Tokens.{IsPinnedFor, no_tokens, tokens_less};
 ghost use Rattle.backend_pass.specs.Locks.{HasLock};
 ghost use Rattle.backend_pass.specs.Managers.{Belongs};
 ghost use Rattle.page_layout.specs.Outcomes.{IsRewriteWithin, no_rewrite_totals};

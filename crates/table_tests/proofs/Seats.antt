@@ -26,8 +26,8 @@ use Rattle.frame_table.proofs.Told.{looks_link, touches_on}
 use Rattle.frame_table.proofs.SameSeats.{same_seat_on}
 use Rattle.segment_store.specs.Contents.{Pages}
 use Rattle.block_tag.specs.declared.tag.Tag.{Tag}
-use Rattle.held_pins.specs.Rests.{HasNoLatch, LinkRests, LinksRest, OnlyTokens, Stands}
-use Rattle.held_pins.specs.Tokens.{Tokens, held_at, no_tokens}
+use Rattle.buffer_frames.specs.Rests.{HasNoLatch, LinkRests, LinksRest, OnlyTokens, Stands}
+use Rattle.buffer_frames.specs.Tokens.{Tokens, held_at, no_tokens}
 use Rattle.buffer_frames.specs.declared.reading.BlockError.{BlockError}
 use Rattle.buffer_frames.specs.declared.reading.BlockError.TheVariants.{NoFrame, ReadFault, Unsound}
 use Rattle.buffer_frames.specs.Reads.{ReadAnswer}
@@ -35,7 +35,7 @@ use Rattle.buffer_frames.specs.Stages.{Pins}
 use Rattle.clock_sweep.specs.Keeping.{GetsHeader}
 use Rattle.buffer_frames.proofs.Calm.{pins_unpinned, victim_unpinned}
 use Rattle.buffer_frames.proofs.Heading.{victim_pinned}
-use Rattle.held_pins.proofs.Resting.{new_has_no_tokens, rests_hold_nothing}
+use Rattle.buffer_frames.proofs.Resting.{new_has_no_tokens, rests_hold_nothing}
 use Rattle.table_tests.specs.Work.{IsFresh, KeepsSeat, SeatHoldsNothing}
 
 module _ {L G : Type 0} (t : FrameTable L G) where

@@ -6,8 +6,8 @@ use Rattle.pin_core.specs.Steps.{HoldsNothing}
 use Rattle.table_rule.specs.declared.value.Value.{Value}
 use Rattle.frame_table.specs.declared.table.FrameTable.{FrameTable}
 use Rattle.frame_table.specs.Seats.{Fits}
-use Rattle.held_pins.specs.Rests.{OnlyTokens}
-use Rattle.held_pins.specs.Tokens.{no_tokens}
+use Rattle.buffer_frames.specs.Rests.{OnlyTokens}
+use Rattle.buffer_frames.specs.Tokens.{no_tokens}
 
 module _ {L G : Type 0} where
   abbrev pub backends_of : FrameTable L G → ℕ

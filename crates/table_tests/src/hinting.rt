@@ -3,15 +3,14 @@ ghost use Rattle.std.specs.Prelude.{◌≡◌, ◌<◌};
 ghost use Rattle.clock_sweep.specs.FreeLists.{IsFreeList};
 ghost use Rattle.frame_table.specs.Closes.{CanClose};
 ghost use Rattle.frame_table.specs.Seats.{frames_of};
-ghost use Rattle.held_pins.specs.Tokens.{no_tokens};
+ghost use Rattle.buffer_frames.specs.Tokens.{no_tokens};
 ghost use Rattle.table_tests.specs.Work.{IsFresh, KeepsSeat, SeatHoldsNothing, backends_of};
 
 use crate::fixture::{Table, TableSeat};
 use block_tag::{Fork, RelNo, Tag};
-use buffer_frames::{HintSeen, PinnedBlock, Sought, read_block};
+use buffer_frames::{HeldPins, HintSeen, PinnedBlock, Sought, read_block};
 use cleanup_lock::unpin_and_wake;
 use clock_sweep::{Census, QueuePass, Sweep};
-use held_pins::HeldPins;
 use map_partitions::store_hint;
 use page_layout::Page;
 use std::alloc::{AllocError, Global};

@@ -5,7 +5,7 @@ use Rattle.pin_core.specs.declared.view.Content.TheVariants.{Unlocked}
 use Rattle.pin_core.specs.declared.view.View.{View}
 use Rattle.pin_core.specs.State.{link}
 use Rattle.frame_table.specs.Seats.{lanes_in}
-use Rattle.held_pins.specs.Rests.{HasNoDevice, HasNoLatch, LinksRest}
+use Rattle.buffer_frames.specs.Rests.{HasNoDevice, HasNoLatch, LinksRest}
 use Rattle.buffer_frames.specs.declared.flushing.FlushedPage.TheVariants.{Written}
 use Rattle.buffer_frames.specs.Flushing.{EndedInError, EndedWritten, FlushAnswer, met_flushing}
 use Rattle.buffer_frames.specs.Working.{KeepsNotes, WorksAt}

@@ -3,8 +3,8 @@ use Rattle.pin_core.specs.declared.view.Content.TheVariants.{Exclusive}
 use Rattle.pin_core.specs.declared.view.View.{View}
 use Rattle.pin_core.specs.State.{link}
 use Rattle.frame_table.specs.Seats.{relations_of}
-use Rattle.held_pins.specs.Rests.{HasNoDevice, HasNoLatch, LinksRest}
-use Rattle.held_pins.proofs.Keeping.{latches_same}
+use Rattle.buffer_frames.specs.Rests.{HasNoDevice, HasNoLatch, LinksRest}
+use Rattle.buffer_frames.proofs.Keeping.{latches_same}
 use Rattle.block_tag.specs.Names.{packed_tag}
 use Rattle.wal_flush.specs.Inserts.{AddsTorn}
 use Rattle.buffer_frames.specs.Working.{Made}

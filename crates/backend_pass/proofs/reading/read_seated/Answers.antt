@@ -3,7 +3,7 @@ use Rattle.std.specs.Prelude.{is_some}
 use Rattle.block_tag.specs.Names.{lane_number}
 use Rattle.pin_core.specs.declared.view.View.{View}
 use Rattle.frame_table.specs.Seats.{OnlyRises, frames_of, lanes_in}
-use Rattle.held_pins.specs.Rests.{HasNoDevice, HasNoLatch, LinksRest, SameLocks}
+use Rattle.buffer_frames.specs.Rests.{HasNoDevice, HasNoLatch, LinksRest, SameLocks}
 use Rattle.buffer_frames.specs.Outside.{kept_by_block_reads, shown_count}
 use Rattle.buffer_frames.specs.Hinting.{TakesTurns}
 use Rattle.buffer_frames.specs.Reads.{ReadAnswer, ReadCalls, ReadNotes, met_read_block}

@@ -3,7 +3,7 @@ use Rattle.std.specs.Prelude.{vec_capacity}
 use Rattle.clock_sweep.specs.CensusList.{new_census}
 use Rattle.clock_sweep.specs.FreeLists.{IsFreeList}
 use Rattle.frame_table.specs.Seats.{frames_of}
-use Rattle.held_pins.specs.Tokens.{no_tokens}
+use Rattle.buffer_frames.specs.Tokens.{no_tokens}
 use Rattle.buffer_frames.specs.declared.hinting.HintSeen.TheVariants.{Unused}
 use Rattle.backend_pass.specs.PassMemories.{AreForFrames}
 use Rattle.backend_pass.proofs.Starting.{OthersAreNew, first_at}

@@ -4,7 +4,7 @@ use Rattle.frame_table.proofs.Told.{grows_on}
 use Rattle.buffer_frames.proofs.Bringing.{chooses_unpushed, leaves_unpushed}
 use Rattle.buffer_frames.proofs.Heading.{victim_pinned}
 use Rattle.buffer_frames.proofs.Outside.{shape_keeping}
-use Rattle.held_pins.proofs.Keeping.{same_locks_looked}
+use Rattle.buffer_frames.proofs.Keeping.{same_locks_looked}
 use Rattle.buffer_frames.proofs.SameLocks.{same_locks_chosen}
 use Rattle.buffer_frames.proofs.Trying.{chosen_pin, chosen_ring}
 use Rattle.buffer_frames.proofs.WorkSteps.{made_none}

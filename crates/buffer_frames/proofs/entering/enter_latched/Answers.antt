@@ -13,7 +13,7 @@ use Rattle.buffer_frames.specs.VictimChoices.{FindsInUse, IsAssigned}
 use Rattle.buffer_frames.specs.Working.{Within}
 use Rattle.buffer_frames.proofs.WorkSteps.{within_on}
 use Rattle.buffer_frames.proofs.Outside.{grows_outside, links_worked, outside_worked}
-use Rattle.held_pins.proofs.Keeping.{latch_same, same_locks_on}
+use Rattle.buffer_frames.proofs.Keeping.{latch_same, same_locks_on}
 use Rattle.buffer_frames.proofs.SameLocks.{same_locks_mapped}
 use Rattle.buffer_frames.proofs.entering.enter_latched.Goals as goal
 

@@ -4,7 +4,7 @@ use Rattle.frame_table.specs.Seats.{frames_of}
 use Rattle.map_partitions.specs.Hints.{StoresHint}
 use Rattle.frame_table.proofs.SameSeats.{same_seat_on}
 use Rattle.buffer_frames.specs.Bringing.{Brings}
-use Rattle.held_pins.proofs.Keeping.{latches_same, links_same, same_locks_linked, same_locks_on}
+use Rattle.buffer_frames.proofs.Keeping.{latches_same, links_same, same_locks_linked, same_locks_on}
 use Rattle.buffer_frames.proofs.Calm.{none_if, pins_worked}
 use Rattle.buffer_frames.proofs.Hints.{store_links, store_partitions, store_searched}
 use Rattle.buffer_frames.proofs.Latching.{latch_left_as, under_partition}

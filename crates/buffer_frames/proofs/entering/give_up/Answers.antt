@@ -1,7 +1,7 @@
 use Rattle.buffer_frames.proofs.Calm.{victim_unpinned}
 use Rattle.buffer_frames.proofs.Heading.{headless_victim}
 use Rattle.buffer_frames.proofs.Latching.{remembers_unpinned}
-use Rattle.held_pins.proofs.Keeping.{same_locks_at}
+use Rattle.buffer_frames.proofs.Keeping.{same_locks_at}
 use Rattle.buffer_frames.proofs.entering.give_up.Goals as goal
 
 pub returns-clause-rests : goal.returns-clause-rests

@@ -2,7 +2,7 @@ use Rattle.block_tag.specs.Names.{packed_tag}
 use Rattle.frame_table.proofs.Told.{grows_on}
 use Rattle.buffer_frames.proofs.Bringing.{put_back}
 use Rattle.buffer_frames.proofs.Latching.{finds_same}
-use Rattle.held_pins.proofs.Keeping.{same_locks_on}
+use Rattle.buffer_frames.proofs.Keeping.{same_locks_on}
 use Rattle.buffer_frames.proofs.entering.pin_other.Goals as goal
 
 pub returns-clause-grows : goal.returns-clause-grows

@@ -3,7 +3,7 @@ use Rattle.block_tag.specs.Names.{packed_tag}
 use Rattle.pin_core.specs.declared.view.Link.{Link}
 use Rattle.pin_core.specs.declared.view.View.{View}
 use Rattle.pin_core.specs.State.{link}
-use Rattle.held_pins.proofs.Keeping.{stands_self}
+use Rattle.buffer_frames.proofs.Keeping.{stands_self}
 use Rattle.buffer_frames.proofs.Links.{sharing_unlocked}
 use Rattle.buffer_frames.proofs.WorkSteps.{headless, made_none, works_marked, works_on}
 use Rattle.frame_table.proofs.Rising.{rises_none, rises_touched}

@@ -1,5 +1,5 @@
 use Rattle.pin_core.specs.State.{link}
-use Rattle.held_pins.proofs.Keeping.{beside, beside_kept, rests_with}
+use Rattle.buffer_frames.proofs.Keeping.{beside, beside_kept, rests_with}
 use Rattle.buffer_frames.proofs.Answering.{pinned_of_rests, rests_of_pinned}
 use Rattle.buffer_frames.proofs.WorkSteps.{latches_worked}
 use Rattle.buffer_frames.proofs.flushing.flush_frame.Goals as goal

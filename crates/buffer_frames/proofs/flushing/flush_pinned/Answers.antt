@@ -5,7 +5,7 @@ use Rattle.pin_core.specs.declared.view.View.{View}
 use Rattle.pin_core.specs.State.{link}
 use Rattle.frame_table.specs.Seats.{lanes_in}
 use Rattle.frame_table.proofs.Rising.{rises_none, rises_touched}
-use Rattle.held_pins.proofs.Keeping.{beside_kept, stands_self}
+use Rattle.buffer_frames.proofs.Keeping.{beside_kept, stands_self}
 use Rattle.buffer_frames.specs.Flushing.{met_flushing}
 use Rattle.buffer_frames.proofs.Answering.{error_after, flush_between, written_after}
 use Rattle.buffer_frames.proofs.Links.{sharing_taken}

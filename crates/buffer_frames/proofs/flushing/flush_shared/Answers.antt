@@ -7,9 +7,9 @@ use Rattle.pin_core.specs.declared.view.View.{View}
 use Rattle.pin_core.specs.State.{link}
 use Rattle.frame_table.specs.Seats.{ViewMarks, lanes_in}
 use Rattle.content_locks.specs.Io.{FindsNothing}
-use Rattle.held_pins.specs.Rests.{LinksRestBeside}
+use Rattle.buffer_frames.specs.Rests.{LinksRestBeside}
 use Rattle.frame_table.proofs.Rising.{rises_none, rises_touched}
-use Rattle.held_pins.proofs.Keeping.{beside_kept, stands_self}
+use Rattle.buffer_frames.proofs.Keeping.{beside_kept, stands_self}
 use Rattle.buffer_frames.specs.declared.flushing.FlushedPage.TheVariants.{Written, Clean}
 use Rattle.buffer_frames.specs.Flushing.{CopiesAnd, EndedInError, EndedWritten, WriteAnswer, met_refused}
 use Rattle.buffer_frames.specs.Stages.{IsSharing}

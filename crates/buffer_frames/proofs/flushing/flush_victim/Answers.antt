@@ -7,7 +7,7 @@ use Rattle.pin_core.specs.State.{link}
 use Rattle.frame_table.specs.Seats.{lanes_in}
 use Rattle.frame_table.proofs.Told.{looked_same}
 use Rattle.frame_table.proofs.Rising.{rises_none, rises_touched}
-use Rattle.held_pins.proofs.Keeping.{beside_kept, stands_self}
+use Rattle.buffer_frames.proofs.Keeping.{beside_kept, stands_self}
 use Rattle.buffer_frames.specs.declared.flushing.FlushedPage.TheVariants.{Written}
 use Rattle.buffer_frames.specs.Flushing.{clean, flushed, locked, rejected}
 use Rattle.buffer_frames.specs.Flushing.{met_refused}

@@ -5,7 +5,7 @@ use Rattle.pin_core.specs.declared.view.Io.TheVariants.{Quiet}
 use Rattle.pin_core.specs.declared.view.Link.{Link}
 use Rattle.pin_core.specs.declared.view.View.{View}
 use Rattle.pin_core.specs.State.{link}
-use Rattle.held_pins.proofs.Keeping.{stands_self}
+use Rattle.buffer_frames.proofs.Keeping.{stands_self}
 use Rattle.buffer_frames.specs.Flushing.{RejectsVictim, covered, elsewhere, other_kind}
 use Rattle.buffer_frames.proofs.flushing.is_rejected.Goals.{then-not-from_ring-via-then-not-from_ring, then-not-from_ring-via-else-not-from_ring+then-ne}
 use Rattle.buffer_frames.specs.Stages.{IsSharing}

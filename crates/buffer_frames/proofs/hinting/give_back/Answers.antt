@@ -1,6 +1,6 @@
 use Rattle.block_tag.specs.Names.{packed_tag}
 use Rattle.buffer_frames.proofs.Calm.{pins_unpinned}
-use Rattle.held_pins.proofs.Keeping.{same_locks_at}
+use Rattle.buffer_frames.proofs.Keeping.{same_locks_at}
 use Rattle.buffer_frames.proofs.WorkSteps.{headless}
 use Rattle.buffer_frames.proofs.hinting.give_back.Goals as goal
 

@@ -3,9 +3,9 @@ use Rattle.block_tag.specs.declared.tag.Tag.{Tag}
 use Rattle.block_tag.specs.Names.{packed_tag}
 use Rattle.frame_table.proofs.Told.{grows_on}
 use Rattle.frame_table.proofs.SameSeats.{same_seat_on}
-use Rattle.held_pins.proofs.Keeping.{latches_same, same_locks_at, same_locks_on}
+use Rattle.buffer_frames.proofs.Keeping.{latches_same, same_locks_at, same_locks_on}
 use Rattle.cleanup_lock.specs.Waking.{Woken}
-use Rattle.held_pins.proofs.HeldLists.{other_tag}
+use Rattle.buffer_frames.proofs.HeldLists.{other_tag}
 use Rattle.buffer_frames.specs.Hinting.{PinsHinted}
 use Rattle.buffer_frames.specs.Stages.{Pins}
 use Rattle.buffer_frames.proofs.Outside.{outside_step, stands_outside}

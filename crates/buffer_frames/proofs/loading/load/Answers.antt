@@ -1,8 +1,8 @@
 use Rattle.std.proofs.Common.{ℕ, true, subst, sym, ◌∙◌}
 use Rattle.block_tag.specs.Names.{packed_tag}
 use Rattle.pin_core.specs.State.{link}
-use Rattle.held_pins.specs.Rests.{LinksRestBeside}
-use Rattle.held_pins.proofs.Keeping.{beside_kept, stands_self}
+use Rattle.buffer_frames.specs.Rests.{LinksRestBeside}
+use Rattle.buffer_frames.proofs.Keeping.{beside_kept, stands_self}
 use Rattle.buffer_frames.specs.Stages.{IsRead, IsReading}
 use Rattle.buffer_frames.specs.Working.{WorksAt}
 use Rattle.buffer_frames.proofs.Links.{begun_fresh, pins_worked, read_looked, read_of_pins, reading_begun}

@@ -1,7 +1,7 @@
 use Rattle.std.proofs.Common.{ap, ◌∙◌}
 use Rattle.atomic_table.specs.Table.{rest}
 use Rattle.pin_core.specs.declared.view.View.{View}
-use Rattle.held_pins.proofs.Keeping.{devices_self}
+use Rattle.buffer_frames.proofs.Keeping.{devices_self}
 use Rattle.buffer_frames.proofs.WorkSteps.{made_none, works_marked, works_on}
 use Rattle.buffer_frames.proofs.loading.put_page.Goals as goal
 

@@ -1,6 +1,6 @@
 use Rattle.std.proofs.Common.{ℕ, subst, sym, ◌∙◌}
-use Rattle.held_pins.specs.Rests.{LinksRestBeside}
-use Rattle.held_pins.proofs.Keeping.{beside_kept, stands_self}
+use Rattle.buffer_frames.specs.Rests.{LinksRestBeside}
+use Rattle.buffer_frames.proofs.Keeping.{beside_kept, stands_self}
 use Rattle.buffer_frames.specs.Working.{WorksAt}
 use Rattle.buffer_frames.proofs.WorkSteps.{headless, works_ended, works_marked, works_on}
 use Rattle.frame_table.proofs.Rising.{rises_on, rises_touched}

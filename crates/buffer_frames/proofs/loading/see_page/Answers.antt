@@ -1,4 +1,4 @@
-use Rattle.held_pins.proofs.Keeping.{stands_self}
+use Rattle.buffer_frames.proofs.Keeping.{stands_self}
 use Rattle.buffer_frames.proofs.WorkSteps.{made_touched, works_marked}
 use Rattle.buffer_frames.proofs.loading.see_page.Goals as goal
 

@@ -5,7 +5,7 @@ use Rattle.frame_table.specs.Seats.{frames_of}
 use Rattle.frame_table.proofs.SameSeats.{same_seat_on}
 use Rattle.frame_table.proofs.Told.{grows_on}
 use Rattle.map_partitions.specs.Hints.{StoresHint}
-use Rattle.held_pins.proofs.Keeping.{latches_same, same_locks_linked, same_locks_on}
+use Rattle.buffer_frames.proofs.Keeping.{latches_same, same_locks_linked, same_locks_on}
 use Rattle.buffer_frames.specs.declared.hinting.HintSeen.TheVariants.{Had}
 use Rattle.buffer_frames.specs.Lookups.{LooksUp, by_hint, by_map, by_none}
 use Rattle.buffer_frames.proofs.Calm.{pins_worked}

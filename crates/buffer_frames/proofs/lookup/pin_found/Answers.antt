@@ -1,8 +1,8 @@
 use Rattle.std.proofs.Common.{ap, ◌∙◌}
 use Rattle.block_tag.specs.Names.{packed_tag}
-use Rattle.held_pins.specs.Rests.{role_of}
+use Rattle.buffer_frames.specs.Rests.{role_of}
 use Rattle.buffer_frames.proofs.Pinning.{none_given, pins_mapped}
-use Rattle.held_pins.proofs.Keeping.{same_locks_at}
+use Rattle.buffer_frames.proofs.Keeping.{same_locks_at}
 use Rattle.buffer_frames.proofs.lookup.pin_found.Goals as goal
 
 pub pin-requires-clause-absent : goal.pin-requires-clause-absent

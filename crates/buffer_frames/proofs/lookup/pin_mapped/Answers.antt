@@ -2,7 +2,7 @@ use Rattle.std.proofs.Common.{sym, ◌∙◌}
 use Rattle.block_tag.specs.Names.{partition_number}
 use Rattle.frame_table.proofs.Told.{grows_on}
 use Rattle.map_partitions.specs.Partition.{entries_seen}
-use Rattle.held_pins.proofs.Keeping.{links_same, same_locks_on}
+use Rattle.buffer_frames.proofs.Keeping.{links_same, same_locks_on}
 use Rattle.buffer_frames.proofs.Calm.{none_if}
 use Rattle.buffer_frames.proofs.Outside.{links_worked}
 use Rattle.buffer_frames.proofs.SameLocks.{same_locks_mapped}

@@ -2,7 +2,7 @@ use Rattle.block_tag.specs.Names.{packed_tag}
 use Rattle.frame_table.specs.declared.pin.Pin.{Pin}
 use Rattle.frame_table.proofs.Told.{grows_on}
 use Rattle.frame_table.proofs.SameSeats.{same_seat_on}
-use Rattle.held_pins.proofs.Keeping.{links_same}
+use Rattle.buffer_frames.proofs.Keeping.{links_same}
 use Rattle.buffer_frames.specs.Lookups.{SeesAndPins, SeesNone}
 use Rattle.clock_sweep.proofs.Keeping.{none_to}
 use Rattle.buffer_frames.proofs.Calm.{match_to, pins_worked, some_to}

@@ -2,7 +2,7 @@ use Rattle.std.proofs.Common.{◌∙◌, ap}
 use Rattle.block_tag.specs.Names.{packed_tag}
 use Rattle.pin_core.specs.declared.view.Link.{Link}
 use Rattle.pin_core.specs.declared.view.View.{View}
-use Rattle.held_pins.proofs.Keeping.{stands_on}
+use Rattle.buffer_frames.proofs.Keeping.{stands_on}
 use Rattle.frame_table.proofs.SameSeats.{same_seat_on}
 use Rattle.buffer_frames.proofs.PagePuts.{MarkedFrameDirty, calls_put, calls_not_put, can_insert, device_inserted, device_put, device_refused, marked_put, marked_refused, met_all, met_not_put, put_refused, puts_all, puts_done, puts_none, rests_put, rests_refused, right_put, right_refused, torn_not_put, torn_put}
 use Rattle.buffer_frames.proofs.puts.put_locked.Goals as goal

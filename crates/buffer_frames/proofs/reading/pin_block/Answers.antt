@@ -4,8 +4,8 @@ use Rattle.pin_core.specs.declared.view.FailedCalls.{FailedCalls}
 use Rattle.frame_table.specs.declared.pin.Pin.{Pin}
 use Rattle.frame_table.specs.Seats.{OnlyRises, frames_of}
 use Rattle.frame_table.proofs.Rising.{rises_on}
-use Rattle.held_pins.specs.Rests.{LinksRest}
-use Rattle.held_pins.proofs.Keeping.{same_locks_on}
+use Rattle.buffer_frames.specs.Rests.{LinksRest}
+use Rattle.buffer_frames.proofs.Keeping.{same_locks_on}
 use Rattle.buffer_frames.specs.Hinting.{LeavesHint}
 use Rattle.buffer_frames.specs.Lookups.{LooksUp}
 use Rattle.buffer_frames.specs.Reads.{Locates, PinAnswer}

@@ -3,7 +3,7 @@ use Rattle.block_tag.specs.Names.{packed_tag}
 use Rattle.pin_core.specs.declared.view.View.{View}
 use Rattle.frame_table.specs.Seats.{frames_of}
 use Rattle.frame_table.proofs.Rising.{rises_on}
-use Rattle.held_pins.proofs.Keeping.{same_locks_on}
+use Rattle.buffer_frames.proofs.Keeping.{same_locks_on}
 use Rattle.buffer_frames.specs.Hinting.{LeavesHint, TakesTurns}
 use Rattle.buffer_frames.proofs.Locating.{locates_given, locates_worked}
 use Rattle.buffer_frames.proofs.Outside.{grows_outside}

@@ -6,7 +6,7 @@ use Rattle.buffer_frames.specs.VictimChoices.{choice_state, none_tried, one_more
 use Rattle.buffer_frames.specs.Working.{IsFlushCall}
 use Rattle.frame_table.proofs.Rising.{rises_none, rises_on}
 use Rattle.frame_table.proofs.SameSeats.{same_seat_on}
-use Rattle.held_pins.proofs.Keeping.{same_locks_on}
+use Rattle.buffer_frames.proofs.Keeping.{same_locks_on}
 use Rattle.buffer_frames.proofs.Noting.{calls_by, calls_none, calls_on}
 use Rattle.buffer_frames.proofs.Trying.{refused_after, taken_then}
 use Rattle.buffer_frames.proofs.Outside.{grows_searched, kept_searched, met_searched}

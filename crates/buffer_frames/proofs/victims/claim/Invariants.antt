@@ -1,6 +1,6 @@
 use Rattle.std.proofs.Common.{◌≡◌, ◌≤◌}
 use Rattle.frame_table.specs.Seats.{OnlyRises, SameSeat, frames_of}
-use Rattle.held_pins.specs.Rests.{HasNoLatch, LinksRest, Stands, SameLocks}
+use Rattle.buffer_frames.specs.Rests.{HasNoLatch, LinksRest, Stands, SameLocks}
 use Rattle.buffer_frames.specs.Outside.{kept_by_block_reads, ring_shape, shown_count}
 use Rattle.clock_sweep.specs.FreeFrames.{SameQueue}
 use Rattle.clock_sweep.specs.FreeLists.{IsFreeList}

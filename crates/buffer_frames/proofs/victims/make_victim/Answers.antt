@@ -17,7 +17,7 @@ use Rattle.buffer_frames.proofs.Noting.{calls_through, shape_answered}
 use Rattle.buffer_frames.proofs.Outside.{calls_chosen, grows_outside, grows_searched, outside_chosen, outside_searched, rises_tagged}
 use Rattle.buffer_frames.proofs.Trying.{gives_up_now, tried}
 use Rattle.buffer_frames.proofs.WorkSteps.{made_none}
-use Rattle.held_pins.proofs.Keeping.{latches_same, same_locks_on}
+use Rattle.buffer_frames.proofs.Keeping.{latches_same, same_locks_on}
 use Rattle.buffer_frames.proofs.SameLocks.{same_locks_victim}
 use Rattle.buffer_frames.proofs.victims.make_victim.Goals as goal
 

@@ -1,6 +1,6 @@
 use Rattle.std.proofs.Common.{ap}
 use Rattle.pin_core.specs.declared.view.Link.{Link}
-use Rattle.held_pins.proofs.Keeping.{same_locks_at}
+use Rattle.buffer_frames.proofs.Keeping.{same_locks_at}
 use Rattle.buffer_frames.proofs.victims.tag_of_victim.Goals as goal
 
 pub returns-clause-locks : goal.returns-clause-locks

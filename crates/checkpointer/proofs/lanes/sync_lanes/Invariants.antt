@@ -2,7 +2,7 @@ use Rattle.std.proofs.Common.{◌≡◌, ◌<◌, ◌≤◌, ℕ}
 use Rattle.pin_core.specs.State.{lane_hold}
 use Rattle.frame_table.specs.Seats.{lanes_in}
 use Rattle.buffer_frames.specs.Working.{Made}
-use Rattle.buffer_sync.specs.Syncs.{LeavesLane}
+use Rattle.buffer_frames.specs.Syncs.{LeavesLane}
 use Rattle.checkpointer.specs.Stages.{KeepsBackend, syncs_below}
 use Rattle.checkpointer.proofs.lanes.sync_lanes.Given as goal
 

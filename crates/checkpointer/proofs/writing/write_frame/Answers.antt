@@ -1,7 +1,7 @@
 use Rattle.std.proofs.Common.{ap, ◌∙◌, Ok, refl, subst, arith}
-use Rattle.buffer_sync.specs.declared.syncing.SyncOnly.TheVariants.{Needed}
-use Rattle.buffer_sync.specs.declared.syncing.Synced.{Synced}
-use Rattle.buffer_sync.specs.Syncs.{SyncsFrame}
+use Rattle.buffer_frames.specs.declared.syncing.SyncOnly.TheVariants.{Needed}
+use Rattle.buffer_frames.specs.declared.syncing.Synced.{Synced}
+use Rattle.buffer_frames.specs.Syncs.{SyncsFrame}
 use Rattle.checkpointer.specs.Stages.{pages_by}
 use Rattle.checkpointer.specs.Writes.{again, still}
 use Rattle.checkpointer.proofs.Keeping.{writes_none, writes_on, writes_synced}

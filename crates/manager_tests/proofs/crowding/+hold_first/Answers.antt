@@ -1,6 +1,6 @@
 use Rattle.std.proofs.Common.{◌≢◌, sym, subst, arith}
 use Rattle.block_tag.specs.declared.tag.Tag.{Tag}
-use Rattle.held_pins.specs.Tokens.{IsPinnedFor}
+use Rattle.buffer_frames.specs.Tokens.{IsPinnedFor}
 use Rattle.manager_tests.proofs.Freeing.{kept_returns, pinned_still_without, released_returns, token_beside, unlocked_without, without_beside, without_one}
 use Rattle.manager_tests.proofs.crowding.+hold_first.Goals as goal
 

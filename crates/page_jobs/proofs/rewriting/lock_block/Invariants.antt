@@ -1,5 +1,5 @@
 use Rattle.std.proofs.Common.{◌≡◌}
-use Rattle.held_pins.specs.Tokens.{no_tokens}
+use Rattle.buffer_frames.specs.Tokens.{no_tokens}
 use Rattle.backend_pass.specs.Passes.{KeepsCalls}
 use Rattle.page_jobs.specs.Reads.{Stays}
 use Rattle.page_jobs.proofs.rewriting.lock_block.Given as goal

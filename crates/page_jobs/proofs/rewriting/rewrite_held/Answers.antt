@@ -1,7 +1,7 @@
 use Rattle.std.proofs.Common.{◌≡◌, ap, subst, ◌∙◌}
 use Rattle.pin_core.specs.declared.view.Content.TheVariants as content
 use Rattle.pin_core.specs.declared.view.Link.{Link}
-use Rattle.held_pins.specs.Tokens.{no_tokens, tokens_less}
+use Rattle.buffer_frames.specs.Tokens.{no_tokens, tokens_less}
 use Rattle.backend_pass.specs.declared.pinned.Pinned.{Pinned}
 use Rattle.backend_pass.specs.declared.tokens.Exclusive.{Exclusive}
 use Rattle.backend_pass.specs.Locks.{HasLock}

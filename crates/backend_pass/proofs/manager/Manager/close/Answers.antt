@@ -6,7 +6,7 @@ use Rattle.backend_pass.specs.Managers.{HaveQueues, AreSpent, IsFirstAt, others_
 use Rattle.backend_pass.specs.Closing.{joined_queues, joined_views}
 use Rattle.backend_pass.proofs.Listed.{has_all_parts, listed_at, listed_others, took_each}
 use Rattle.backend_pass.proofs.Ended.{closes_all, number_zero}
-use Rattle.held_pins.proofs.Resting.{rests_hold_nothing}
+use Rattle.buffer_frames.proofs.Resting.{rests_hold_nothing}
 use Rattle.backend_pass.proofs.Joining.{Joins, first_standing, joined_hold_nothing, joins, others_fewer, others_standing, spent_at, spent_others}
 use Rattle.backend_pass.proofs.manager.Manager.close.Goals as goal
 

@@ -8,7 +8,7 @@ use Rattle.backend_pass.proofs.Seated.{Worked}
 use Rattle.frame_table.specs.WordSteps.{DidWord, begin_checkpoint}
 use Rattle.backend_pass.proofs.BlockReads.{shown_met}
 use Rattle.backend_pass.proofs.PassSyncing.{callers_begun, callers_from, locks_unmarked, rises_begun}
-use Rattle.held_pins.specs.Rests.{HasNoDevice}
+use Rattle.buffer_frames.specs.Rests.{HasNoDevice}
 use Rattle.backend_pass.proofs.SeatWork.{BeginsCheckpoint, checkpoint_begun}
 use Rattle.backend_pass.proofs.pass.Pass.begin_checkpoint.Goals as goal
 

@@ -5,7 +5,7 @@ use Rattle.pin_core.specs.declared.view.Content.TheVariants.{Unlocked}
 use Rattle.pin_core.specs.declared.view.View.{View}
 use Rattle.pin_core.specs.State.{link}
 use Rattle.frame_table.specs.Seats.{lanes_in}
-use Rattle.held_pins.specs.Rests.{SameLocks}
+use Rattle.buffer_frames.specs.Rests.{SameLocks}
 use Rattle.buffer_frames.specs.declared.flushing.FrameFlushError as frames
 use Rattle.buffer_frames.specs.declared.flushing.FlushedPage.{FlushedPage}
 use Rattle.buffer_frames.specs.declared.flushing.FlushedPage.TheVariants.{Written, Clean}

@@ -1,16 +1,16 @@
 use Rattle.std.proofs.Common.{◌≡◌, ◌∙◌, ℕ, false, refl, sym, ap, subst}
 use Rattle.pin_core.specs.declared.view.View.{View}
-use Rattle.held_pins.proofs.Keeping.{same_locks_linked}
+use Rattle.buffer_frames.proofs.Keeping.{same_locks_linked}
 use Rattle.buffer_frames.specs.Outside.{shown_count}
 use Rattle.backend_pass.specs.Managers.{Belongs}
 use Rattle.backend_pass.specs.Passes.{IsNumbered, IsShown, PassState, view_in}
 use Rattle.backend_pass.proofs.BlockReads.{numbered_kept, same_kept}
 use Rattle.backend_pass.proofs.Releasing.{belongs_held}
 use Rattle.backend_pass.proofs.Seated.{same_from}
-use Rattle.held_pins.specs.Rests.{kept_by_calls}
+use Rattle.buffer_frames.specs.Rests.{kept_by_calls}
 use Rattle.backend_pass.specs.PassSyncs.{shown_log_flushed}
 use Rattle.backend_pass.proofs.PassSyncing.{callers_from, callers_kept, shown_flush}
-use Rattle.held_pins.specs.Rests.{HasNoDevice}
+use Rattle.buffer_frames.specs.Rests.{HasNoDevice}
 use Rattle.pin_core.specs.declared.view.LogHold.{LogHold}
 use Rattle.backend_pass.proofs.SeatWork.{log_flushed}
 use Rattle.backend_pass.proofs.pass.Pass.flush_log.Goals as goal

@@ -1,6 +1,6 @@
 use Rattle.std.proofs.Common.{◌∙◌, ℕ, refl, sym, ap, subst}
 use Rattle.pin_core.specs.declared.view.View.{View}
-use Rattle.held_pins.proofs.Keeping.{same_locks_linked}
+use Rattle.buffer_frames.proofs.Keeping.{same_locks_linked}
 use Rattle.buffer_frames.specs.Outside.{shown_count}
 use Rattle.backend_pass.specs.Managers.{Belongs}
 use Rattle.backend_pass.specs.Passes.{IsNumbered, PassState, view_in}
@@ -8,10 +8,10 @@ use Rattle.backend_pass.proofs.BlockReads.{numbered_kept}
 use Rattle.backend_pass.proofs.Releasing.{belongs_held}
 use Rattle.backend_pass.proofs.Seated.{Worked}
 use Rattle.frame_table.specs.WordSteps.{DidWord, load_hand}
-use Rattle.held_pins.specs.Rests.{kept_by_calls}
+use Rattle.buffer_frames.specs.Rests.{kept_by_calls}
 use Rattle.backend_pass.proofs.BlockReads.{shown_met}
 use Rattle.backend_pass.proofs.PassSyncing.{callers_from, callers_kept, rises_hand}
-use Rattle.held_pins.specs.Rests.{HasNoDevice}
+use Rattle.buffer_frames.specs.Rests.{HasNoDevice}
 use Rattle.backend_pass.proofs.SeatWork.{hand_loaded, LoadsHand}
 use Rattle.backend_pass.proofs.pass.Pass.hand.Goals as goal
 

@@ -1,8 +1,8 @@
 use Rattle.std.proofs.Common.{◌≡◌, ◌≢◌, ◌∙◌, ℕ, Some, refl, sym, subst, ap}
 use Rattle.pin_core.specs.State.{link}
-use Rattle.held_pins.specs.Rests.{SameLocks}
-use Rattle.held_pins.specs.Tokens.{IsPinnedFor, held_at}
-use Rattle.held_pins.proofs.Keeping.{same_locks_at}
+use Rattle.buffer_frames.specs.Rests.{SameLocks}
+use Rattle.buffer_frames.specs.Tokens.{IsPinnedFor, held_at}
+use Rattle.buffer_frames.proofs.Keeping.{same_locks_at}
 use Rattle.pin_core.specs.declared.view.View.{View}
 use Rattle.buffer_frames.specs.Outside.{shown_count}
 use Rattle.backend_pass.specs.Managers.{Belongs}

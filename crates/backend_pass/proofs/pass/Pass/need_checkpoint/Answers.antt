@@ -1,6 +1,6 @@
 use Rattle.std.proofs.Common.{◌∙◌, ℕ, refl, sym, ap, subst}
 use Rattle.pin_core.specs.declared.view.View.{View}
-use Rattle.held_pins.proofs.Keeping.{same_locks_at}
+use Rattle.buffer_frames.proofs.Keeping.{same_locks_at}
 use Rattle.buffer_frames.specs.Outside.{shown_count}
 use Rattle.backend_pass.specs.Managers.{Belongs}
 use Rattle.backend_pass.specs.Passes.{IsNumbered, PassState, view_in}
@@ -11,14 +11,14 @@ use Rattle.page_core.specs.Kinds as kinds
 use Rattle.frame_table.specs.FrameSteps.{Did}
 use Rattle.frame_table.specs.Kinds.{pages}
 use Rattle.buffer_frames.specs.Working.{Within}
-use Rattle.buffer_sync.specs.Syncs.{NotesBlock}
+use Rattle.buffer_frames.specs.Syncs.{NotesBlock}
 use Rattle.frame_table.specs.Seats.{Touches}
 use Rattle.frame_table.proofs.Rising.{rises_touched}
-use Rattle.held_pins.proofs.Keeping.{kept_self}
+use Rattle.buffer_frames.proofs.Keeping.{kept_self}
 use Rattle.frame_table.specs.Seats.{ViewMarks}
 use Rattle.backend_pass.proofs.Releasing.{numbered_self, shown_self, same_touched}
 use Rattle.backend_pass.proofs.PassSyncing.{callers_from, callers_kept}
-use Rattle.held_pins.specs.Rests.{HasNoDevice, LinksRest}
+use Rattle.buffer_frames.specs.Rests.{HasNoDevice, LinksRest}
 use Rattle.backend_pass.proofs.SeatWork.{frame_worked, NeedsOne}
 use Rattle.backend_pass.proofs.pass.Pass.need_checkpoint.Goals as goal
 

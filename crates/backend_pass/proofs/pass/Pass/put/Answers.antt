@@ -5,8 +5,8 @@ use Rattle.page_layout.specs.Soundness.{is_new_page, is_sound_page}
 use Rattle.pin_core.specs.declared.view.Content.TheVariants.{Exclusive}
 use Rattle.pin_core.specs.State.{Page, link}
 use Rattle.frame_table.specs.Seats.{base_of, relations_of}
-use Rattle.held_pins.specs.Rests.{SameLocks}
-use Rattle.held_pins.specs.Tokens.{IsPinnedFor}
+use Rattle.buffer_frames.specs.Rests.{SameLocks}
+use Rattle.buffer_frames.specs.Tokens.{IsPinnedFor}
 use Rattle.backend_pass.specs.declared.met.Shown.{Shown}
 use Rattle.pin_core.specs.declared.view.View.{View}
 use Rattle.wal_flush.specs.Inserts.{AddsTorn}

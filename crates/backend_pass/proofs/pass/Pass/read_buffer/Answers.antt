@@ -1,16 +1,16 @@
 use Rattle.std.proofs.Common.{◌≡◌, ◌∙◌, ℕ, inl, Ok, true, ap, refl, sym, subst, ◌<◌, arith}
-use Rattle.held_pins.specs.Tokens.{IsNew, IsPinnedFor, Tokens, count_of, tokens_more}
-use Rattle.held_pins.specs.Rests.{OnlyTokens, SameLocks}
+use Rattle.buffer_frames.specs.Tokens.{IsNew, IsPinnedFor, Tokens, count_of, tokens_more}
+use Rattle.buffer_frames.specs.Rests.{OnlyTokens, SameLocks}
 use Rattle.buffer_frames.specs.declared.hinting.HintSeen.TheVariants.{Unused}
 use Rattle.buffer_frames.specs.Hinting.{TakesTurns}
 use Rattle.backend_pass.specs.Managers.{Belongs}
 use Rattle.backend_pass.specs.Passes.{KeepsCalls, PassState, view_in}
 use Rattle.backend_pass.specs.Reading.{ReadsBlock, met_reading}
 use Rattle.backend_pass.proofs.BlockReads.{calls_hinted, frame_again, not_both, pinned_more, pinned_read, reads_hinted, rests_again, same_hinted, unlocked_read}
-use Rattle.held_pins.proofs.HeldLists.{above_one}
+use Rattle.buffer_frames.proofs.HeldLists.{above_one}
 use Rattle.frame_table.specs.Seats.{frames_of, relations_of}
 use Rattle.frame_table.proofs.Rising.{rises_none}
-use Rattle.held_pins.proofs.Keeping.{same_locks_none}
+use Rattle.buffer_frames.proofs.Keeping.{same_locks_none}
 use Rattle.backend_pass.proofs.Complete.{at_once_none, not_at_once, read_complete, read_short, unsound_was}
 use Rattle.backend_pass.specs.HintsSeen.{StoresHints}
 use Rattle.backend_pass.proofs.HintsSeen.{shows_hint, turns_counted, turns_risen, turns_told}

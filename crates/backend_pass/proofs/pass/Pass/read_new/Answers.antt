@@ -6,8 +6,8 @@ use Rattle.pin_core.specs.declared.view.View.{View}
 use Rattle.frame_table.specs.Seats.{frames_of}
 use Rattle.buffer_frames.specs.Hinting.{LeavesHint, TakesTurns}
 use Rattle.buffer_frames.specs.Reads.{KeptOrEmptied}
-use Rattle.held_pins.specs.Tokens.{IsNew, Tokens, tokens_less}
-use Rattle.held_pins.specs.Rests.{OnlyTokens, SameLocks}
+use Rattle.buffer_frames.specs.Tokens.{IsNew, Tokens, tokens_less}
+use Rattle.buffer_frames.specs.Rests.{OnlyTokens, SameLocks}
 use Rattle.backend_pass.specs.declared.errors.ReadError.{ReadError}
 use Rattle.backend_pass.specs.HintsSeen.{StoresHints}
 use Rattle.backend_pass.specs.Managers.{Belongs}

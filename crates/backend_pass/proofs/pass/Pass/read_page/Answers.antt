@@ -6,9 +6,9 @@ use Rattle.pin_core.specs.declared.view.Link.{Link}
 use Rattle.pin_core.specs.declared.view.View.{View}
 use Rattle.pin_core.specs.State.{link}
 use Rattle.frame_table.specs.Content.{CanLock}
-use Rattle.held_pins.specs.Rests.{HasAtMostLock}
-use Rattle.held_pins.specs.Tokens.{IsPinnedFor, held_at}
-use Rattle.held_pins.proofs.Keeping.{same_locks_at}
+use Rattle.buffer_frames.specs.Rests.{HasAtMostLock}
+use Rattle.buffer_frames.specs.Tokens.{IsPinnedFor, held_at}
+use Rattle.buffer_frames.proofs.Keeping.{same_locks_at}
 use Rattle.buffer_frames.specs.Outside.{shown_count}
 use Rattle.backend_pass.specs.Managers.{Belongs}
 use Rattle.buffer_frames.specs.PageReads.{OnlyReads, ReadsPage, SharesToRead}

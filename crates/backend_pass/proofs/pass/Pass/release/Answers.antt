@@ -5,10 +5,10 @@ use Rattle.pin_core.specs.State.{link}
 use Rattle.pin_core.specs.Steps.{HoldsNoHeader}
 use Rattle.frame_table.specs.Seats.{MayUnpin}
 use Rattle.frame_table.proofs.Rising.{rises_none}
-use Rattle.held_pins.specs.Tokens.{Tokens, held_at, tokens_of}
-use Rattle.held_pins.specs.Rests.{OnlyTokens, SameLocks}
-use Rattle.held_pins.proofs.HeldLists.{above_one}
-use Rattle.held_pins.proofs.Keeping.{same_locks_at, same_locks_none}
+use Rattle.buffer_frames.specs.Tokens.{Tokens, held_at, tokens_of}
+use Rattle.buffer_frames.specs.Rests.{OnlyTokens, SameLocks}
+use Rattle.buffer_frames.proofs.HeldLists.{above_one}
+use Rattle.buffer_frames.proofs.Keeping.{same_locks_at, same_locks_none}
 use Rattle.buffer_frames.specs.Outside.{shown_count}
 use Rattle.backend_pass.specs.Managers.{Belongs}
 use Rattle.backend_pass.specs.Passes.{IsNumbered, PassState, view_in}

@@ -1,6 +1,6 @@
 use Rattle.std.proofs.Common.{◌∙◌, ℕ, refl, sym, ap, subst}
 use Rattle.pin_core.specs.declared.view.View.{View}
-use Rattle.held_pins.proofs.Keeping.{same_locks_linked}
+use Rattle.buffer_frames.proofs.Keeping.{same_locks_linked}
 use Rattle.buffer_frames.specs.Outside.{shown_count}
 use Rattle.backend_pass.specs.Managers.{Belongs}
 use Rattle.backend_pass.specs.Passes.{IsNumbered, IsShown, PassState, view_in}
@@ -8,7 +8,7 @@ use Rattle.backend_pass.proofs.Releasing.{belongs_held}
 use Rattle.backend_pass.proofs.Seated.{same_from}
 use Rattle.backend_pass.specs.PassSyncs.{shown_lane_synced}
 use Rattle.backend_pass.proofs.PassSyncing.{callers_from, callers_synced, same_synced, shown_lane}
-use Rattle.held_pins.specs.Rests.{HasNoDevice}
+use Rattle.buffer_frames.specs.Rests.{HasNoDevice}
 use Rattle.frame_table.specs.Seats.{frames_of, lanes_in}
 use Rattle.backend_pass.proofs.SeatWork.{lane_synced}
 use Rattle.backend_pass.proofs.pass.Pass.sync_lane.Goals as goal

@@ -2,7 +2,7 @@ use Rattle.std.proofs.Common.{◌≡◌, ◌≢◌, ◌∙◌, ℕ, refl, sym, a
 use Rattle.crossbeam_utils.specs.Padded.{padded_value}
 use Rattle.pin_core.specs.declared.view.View.{View}
 use Rattle.pin_core.specs.State.{link}
-use Rattle.held_pins.proofs.Keeping.{same_locks_at}
+use Rattle.buffer_frames.proofs.Keeping.{same_locks_at}
 use Rattle.buffer_frames.specs.Outside.{shown_count}
 use Rattle.backend_pass.specs.Managers.{Belongs}
 use Rattle.backend_pass.specs.Passes.{IsNumbered, IsShown, PassState, view_in}
@@ -14,15 +14,15 @@ use Rattle.buffer_frames.specs.declared.flushing.FrameFlushError as frames
 use Rattle.buffer_frames.specs.Flushing.{met_flushing}
 use Rattle.buffer_frames.specs.Working.{KeepsNotes}
 use Rattle.clock_sweep.specs.Keeping.{SamePins}
-use Rattle.buffer_sync.specs.declared.syncing.Synced.{Synced}
-use Rattle.buffer_sync.specs.Syncs.{EndsSync, SyncsFrame}
-use Rattle.buffer_sync.proofs.Passing.{pins_rest}
+use Rattle.buffer_frames.specs.declared.syncing.Synced.{Synced}
+use Rattle.buffer_frames.specs.Syncs.{EndsSync, SyncsFrame}
+use Rattle.buffer_frames.proofs.Passing.{pins_rest}
 use Rattle.backend_pass.specs.FrameFlushes.{frame_answer}
 use Rattle.backend_pass.specs.PassSyncs.{shown_synced}
 use Rattle.backend_pass.proofs.PassSyncing.{callers_from, callers_kept, pass_alone, shown_sync, sync_complete, sync_short}
-use Rattle.held_pins.specs.Rests.{HasNoDevice, LinksRest}
+use Rattle.buffer_frames.specs.Rests.{HasNoDevice, LinksRest}
 use Rattle.pin_core.specs.declared.view.Content.TheVariants.{Unlocked}
-use Rattle.buffer_sync.specs.Syncs.{SyncsOne}
+use Rattle.buffer_frames.specs.Syncs.{SyncsOne}
 use Rattle.backend_pass.proofs.SeatWork.{frame_worked}
 use Rattle.backend_pass.proofs.pass.Pass.sync_one.Goals as goal
 

@@ -4,9 +4,9 @@ use Rattle.pin_core.specs.State.{link}
 use Rattle.page_core.specs.Kinds as kinds
 use Rattle.content_locks.specs.Locks.{LocksAtOnce}
 use Rattle.frame_table.specs.Content.{exclusive_link}
-use Rattle.held_pins.specs.Rests.{SameLocks}
-use Rattle.held_pins.specs.Tokens.{held_at}
-use Rattle.held_pins.proofs.Keeping.{same_locks_at}
+use Rattle.buffer_frames.specs.Rests.{SameLocks}
+use Rattle.buffer_frames.specs.Tokens.{held_at}
+use Rattle.buffer_frames.proofs.Keeping.{same_locks_at}
 use Rattle.pin_core.specs.declared.view.View.{View}
 use Rattle.buffer_frames.specs.Outside.{shown_count}
 use Rattle.backend_pass.specs.Managers.{Belongs}

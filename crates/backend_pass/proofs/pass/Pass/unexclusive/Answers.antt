@@ -1,5 +1,5 @@
 use Rattle.std.proofs.Common.{◌≡◌, ◌∙◌, ℕ, Some, refl, sym, ap, subst}
-use Rattle.held_pins.specs.Tokens.{held_at}
+use Rattle.buffer_frames.specs.Tokens.{held_at}
 use Rattle.pin_core.specs.declared.view.View.{View}
 use Rattle.buffer_frames.specs.Outside.{shown_count}
 use Rattle.backend_pass.specs.Managers.{Belongs}

@@ -1,3 +1,0 @@
-pub mod HasTags
-pub mod Passing
-pub mod PagesWritten

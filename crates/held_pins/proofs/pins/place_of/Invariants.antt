@@ -1,6 +1,0 @@
-use Rattle.std.proofs.Common.{take}
-use Rattle.held_pins.specs.Tokens.{AreOfOthers}
-use Rattle.held_pins.proofs.pins.place_of.Given as goal
-
-abbrev pub invariant-loop-place : goal.invariant-loop-place
-invariant-loop-place l = AreOfOthers l.tag (take l.place l.pins)
