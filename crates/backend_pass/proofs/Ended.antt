@@ -17,7 +17,7 @@ use Rattle.pin_core.specs.declared.view.View.{View}
 use Rattle.pin_core.specs.State.{emptied_view, joined_view, kept_checkpoint, lane_hold, no_lane, sum_of_met}
 use Rattle.pin_core.specs.Steps.{HoldsNothing}
 use Rattle.pin_core.specs.Tallies.{flag_weight}
-use Rattle.history_core.specs.Log.{Change, IsFront, end_from, log_bytes, writes_in}
+use Rattle.history_core.specs.Log.{IsFront, end_from, log_bytes, writes_in}
 use Rattle.history_core.specs.Rest.{NoneAppended}
 use Rattle.history_core.specs.State.{State, failed}
 use Rattle.history_core.specs.Causes.{AllQuiet, mark_weight}

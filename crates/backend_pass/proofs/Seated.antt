@@ -1,14 +1,16 @@
 -- A pass takes its seat out of its badge and puts it back, and is the same pass then.
-use Rattle.std.proofs.Common.{◌≡◌, sym, subst, ◌∙◌}
+use Rattle.std.proofs.Common.{◌≡◌, None, sym, subst, ◌∙◌}
 use Rattle.atomic_table.specs.declared.badge.Badge.{Badge}
 use Rattle.atomic_table.specs.declared.shared.Seat.{Seat}
 use Rattle.pin_core.specs.declared.view.View.{View}
 use Rattle.table_rule.specs.declared.value.Value.{Value}
-use Rattle.frame_table.specs.Seats.{SameSeat}
-use Rattle.buffer_frames.specs.Rests.{OnlyTokens}
+use Rattle.frame_table.specs.declared.table.FrameTable.{FrameTable}
+use Rattle.frame_table.specs.Seats.{OnlyRises, SameSeat}
+use Rattle.buffer_frames.specs.Keeps.{Keeps}
+use Rattle.buffer_frames.specs.Rests.{HasNoDevice, HasNoLatch, OnlyTokens, SameLocks}
 use Rattle.buffer_frames.specs.Tokens.{Tokens}
 use Rattle.backend_pass.specs.Passes.{PassState, SameButTorn, SamePass, view_in}
-use Rattle.backend_pass.specs.Seats.{HasSeat, SameBadge}
+use Rattle.backend_pass.specs.Seats.{HasSeat, KeepsBadge, SameBadge}
 use Rattle.backend_pass.proofs.Keeping.{pass_on}
 
 pub same_on : (p q r : PassState) → SamePass p q → SamePass q r → SamePass p r
@@ -43,6 +45,17 @@ pub record Worked (D : View → View → Type 0) (held : Tokens) (b d : Badge Vi
 module _ {L G : Type 0} (b d : Badge View) (s t : Seat (Value L G) View) (taken : HasSeat b s) (same : SameSeat s t) (back : HasSeat d t) where
   pub same_badge : SameBadge b d
   same_badge = record { table = sym back.table ∙ same.table ∙ taken.table; id = sym back.id ∙ same.id ∙ taken.id; one = back.one }
+
+  -- a call that keeps this of the seat keeps it of the badge
+  pub keeps_badge : (but : View → View) {f : FrameTable L G} → Keeps but None f s t → KeepsBadge but b d
+  keeps_badge but k = record {
+    badge = same_badge;
+    quiet = moved_one HasNoDevice (view_in d.views) t.me.0 back.view k.stands.quiet;
+    latches = moved_one HasNoLatch (view_in d.views) t.me.0 back.view k.latches;
+    same = moved (λ v w. but w ≡ but v) (view_in b.views) (view_in d.views) s.me.0 t.me.0 taken.view back.view k.same;
+    rises = moved OnlyRises (view_in b.views) (view_in d.views) s.me.0 t.me.0 taken.view back.view k.rises;
+    locks = moved SameLocks (view_in b.views) (view_in d.views) s.me.0 t.me.0 taken.view back.view k.locks;
+  }
 
   pub worked : (D : View → View → Type 0) (held : Tokens) → OnlyTokens held t.me.0 → D s.me.0 t.me.0 → Worked D held b d
   worked D held rests did = record {

@@ -2,8 +2,7 @@
 ghost use Rattle.std.specs.Prelude.{◌≡◌, true, is_some};
 ghost use Rattle.block_tag.specs.Names.{lane_number, names_block};
 ghost use Rattle.table_rule.specs.Blocks.{has_block};
-ghost use Rattle.frame_table.specs.Seats.{OnlyRises, frames_of, lanes_in, relations_of};
-ghost use Rattle.buffer_frames.specs.Rests.{HasNoDevice, HasNoLatch, SameLocks};
+ghost use Rattle.frame_table.specs.Seats.{frames_of, lanes_in, relations_of};
 ghost use Rattle.clock_sweep.specs.FreeFrames.{SameQueue};
 ghost use Rattle.clock_sweep.specs.FreeLists.{IsFreeList};
 ghost use Rattle.buffer_frames.specs.Tokens.{IsNew};
@@ -12,7 +11,7 @@ ghost use Rattle.buffer_frames.specs.Outside.{kept_by_block_reads, ring_shape, s
 ghost use Rattle.buffer_frames.specs.Reads.{CensusRead, ReadAnswer, ReadCalls, ReadNotes, met_read_block};
 ghost use Rattle.buffer_frames.specs.VictimChoices.{choice_state};
 ghost use Rattle.backend_pass.specs.Passes.{view_in};
-ghost use Rattle.backend_pass.specs.Seats.{IsSeated, SameBadge};
+ghost use Rattle.backend_pass.specs.Seats.{IsSeated, KeepsBadge};
 ghost use Rattle.backend_pass.specs.Reading.{read_refusal, shown_after};
 
 use crate::errors::ReadError;
@@ -121,21 +120,15 @@ fn read_seated<L: BlockLane, G: LogDevice, R: Wait>(
     requires block { has_block (relations_of manager.now.table) tag.now ≡ true }
     requires new { IsNew tag.now held.now }
     requires counted { sought.old.turns ≡ shown_count (view_in badge.old.views).turns }
-    ensures badge { SameBadge badge.old badge.new }
-    ensures quiet { HasNoDevice (view_in badge.new.views) }
-    ensures latches { HasNoLatch (view_in badge.new.views) }
+    ensures keeps { KeepsBadge kept_by_block_reads badge.old badge.new }
     ensures lasts { SameQueue queue.old queue.new }
     ensures room { census.new.frames ≡ census.old.frames }
     ensures ring { ring_shape ring.new ≡ ring_shape ring.old }
-    ensures kept { kept_by_block_reads (view_in badge.new.views)
-        ≡ kept_by_block_reads (view_in badge.old.views) }
     ensures counted { sought.new.turns ≡ shown_count (view_in badge.new.views).turns }
     ensures turns { TakesTurns sought.new.hint
         (view_in badge.old.views).turns (view_in badge.new.views).turns }
     ensures hints { ReadNotes (frames_of manager.now.table) tag.now sought.new.hint
         (view_in badge.old.views).hints (view_in badge.new.views).hints result }
-    ensures advances { OnlyRises (view_in badge.old.views) (view_in badge.new.views) }
-    ensures locks { SameLocks (view_in badge.old.views) (view_in badge.new.views) }
     ensures answer { ReadAnswer L.contents manager.now.table tag.now held.now
         (view_in badge.old.views) (view_in badge.new.views) result }
     ensures census { CensusRead (frames_of manager.now.table) census.old census.new result }

@@ -24,6 +24,12 @@ module _ (n : ℕ) (tag : Tag) (frame : Option ℕ) (v w : View) (d : LoadsHint 
   pub load_grows : Grows v w
   load_grows = grows_loads (load_of v (seen.Hint (hint_number tag n) (hint_value frame)) ∷ []) v w (ap (λ (x : View). x.loads) d.after) (ap (λ (x : View). x.changes) d.after) (let a = ap (λ (x : View). x.steps) d.after in omega arith)
 
+  pub load_links : w.links ≡ v.links
+  load_links = ap (λ (x : View). x.links) d.after
+
+  pub load_partitions : w.partitions ≡ v.partitions
+  load_partitions = ap (λ (x : View). x.partitions) d.after
+
 -- then the frame that it named was tried
 module _ (n : ℕ) (tag : Tag) (held : Tokens) (f : ℕ) (ring : Bool) (v u w : View) (load : LoadsHint n tag (Some f) v u) (new : held_at held f ≡ None) where
   other_hint : (seen : HintSeen) → SeesOther tag f ring u w seen → SeesHint n tag held ring v w seen

@@ -20,6 +20,7 @@ pub mod Unread
 pub mod PageReading
 pub mod PagePuts
 pub mod Hints
+pub mod Keeps
 pub mod Bringing
 pub mod HasTags
 pub mod Passing

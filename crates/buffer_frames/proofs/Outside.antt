@@ -7,7 +7,6 @@ use Rattle.frame_table.specs.declared.table.FrameTable.{FrameTable}
 use Rattle.frame_table.specs.Seats.{Grows, OnlyRises, SameMarks, SameSeat, SameSelf}
 use Rattle.frame_table.specs.Latches.{SameWork, view_counted}
 use Rattle.frame_table.proofs.Rising.{rises_by}
-use Rattle.frame_table.proofs.Told.{grows_on}
 use Rattle.table_rule.specs.declared.turn.Turn.TheVariants.{Partition}
 use Rattle.clock_sweep.specs.Keeping.{SameAside}
 use Rattle.buffer_frames.specs.Rests.{Stands, kept_by_calls}
@@ -72,10 +71,6 @@ rises_counted p v w work lanes log g = grows_searched v w g (searched_counted p 
 
 pub outside_chosen : (v w : View) → outside_of w ≡ outside_of v → chosen_of w ≡ chosen_of v
 outside_chosen v w e = ap chosen_of e
-
--- a choice, and then a step at the frame
-pub rises_tagged : (v u w : View) → Grows v u → chosen_of u ≡ chosen_of v → Grows u w → outside_of w ≡ outside_of u → OnlyRises v w
-rises_tagged v u w a same b kept = grows_chosen v w (grows_on v u w a b) (outside_chosen u w kept ∙ same)
 
 pub kept_outside : (v w : View) → outside_of w ≡ outside_of v → kept_by_calls w ≡ kept_by_calls v
 kept_outside v w e = ap kept_by_calls e

@@ -5,6 +5,7 @@ pub mod Working
 pub mod Loading
 pub mod Flushing
 pub mod Outside
+pub mod Keeps
 pub mod Hinting
 pub mod Lookups
 pub mod VictimChoices

@@ -1,14 +1,15 @@
 //! A victim is chosen and pinned.
-ghost use Rattle.std.specs.Prelude.{◌≡◌, ◌<◌, true, IfOk, IfErr, Some, length};
+ghost use Rattle.std.specs.Prelude.{◌≡◌, ◌<◌, true, IfOk, IfErr, None, Some, length};
 ghost use Rattle.std.specs.List.{All};
 ghost use Rattle.state_word.specs.Fields.{fields};
-ghost use Rattle.frame_table.specs.Seats.{Grows, SameSeat, frames_of};
+ghost use Rattle.frame_table.specs.Seats.{frames_of};
 ghost use Rattle.clock_sweep.specs.CensusList.{new_census};
 ghost use Rattle.clock_sweep.specs.Choosing.{FindsNone, frame_at_place, ring_gone_on};
 ghost use Rattle.clock_sweep.specs.FreeFrames.{SameQueue};
 ghost use Rattle.clock_sweep.specs.FreeLists.{IsFreeList};
-ghost use Rattle.buffer_frames.specs.Rests.{HasNoLatch, LinksRest, SameLocks, Stands};
+ghost use Rattle.buffer_frames.specs.Rests.{LinksRest};
 ghost use Rattle.buffer_frames.specs.Bringing.{PushesNone};
+ghost use Rattle.buffer_frames.specs.Keeps.{IsReady, Keeps};
 ghost use Rattle.buffer_frames.specs.Outside.{chosen_of, ring_shape};
 ghost use Rattle.buffer_frames.specs.Stages.{HasVictim};
 ghost use Rattle.buffer_frames.specs.VictimChoices.{ChoosesVictim, choice_state};
@@ -41,20 +42,13 @@ pub(crate) fn choose<L: BlockLane, G: LogDevice, R: Wait>(
     census: &mut Census,
     ring: &mut Option<Ring>,
 ) -> Result<Chosen, NoUnpinned>
-    requires stands { Stands table.now seat.old }
+    requires ready { IsReady table.now _held.now seat.old }
     requires queue { IsFreeList table.now sweep.now queue.old }
-    requires rests { LinksRest _held.now seat.old.me.0 }
-    requires latches { HasNoLatch seat.old.me.0 }
     requires census { census.old.frames ≡ frames_of table.now }
-    ensures seat { SameSeat seat.old seat.new }
-    ensures stands { Stands table.now seat.new }
+    ensures keeps { Keeps chosen_of None table.now seat.old seat.new }
     ensures queue { IsFreeList table.now sweep.now queue.new }
     ensures lasts { SameQueue queue.old queue.new }
     ensures unpushed { PushesNone queue.old queue.new }
-    ensures same { chosen_of seat.new.me.0 ≡ chosen_of seat.old.me.0 }
-    ensures grows { Grows seat.old.me.0 seat.new.me.0 }
-    ensures locks { SameLocks seat.old.me.0 seat.new.me.0 }
-    ensures latches { HasNoLatch seat.new.me.0 }
     ensures room { census.new.frames ≡ census.old.frames }
     ensures ring { ring_shape ring.new ≡ ring_shape ring.old }
     ensures inside { IfOk result (λ chosen. chosen.pin.frame < frames_of table.now) }

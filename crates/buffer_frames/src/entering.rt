@@ -1,5 +1,5 @@
 //! A block comes into a victim.
-ghost use Rattle.std.specs.Prelude.{[], ◌≡◌, ◌+◌, ◌<◌, ℕ, true, IfNone, IfSome, MatchOption};
+ghost use Rattle.std.specs.Prelude.{[], ◌≡◌, ◌+◌, ◌<◌, ℕ, None, Some, true, IfNone, IfSome, MatchOption};
 ghost use Rattle.std.specs.Bool.{OnFalse, OnTrue};
 ghost use Rattle.block_tag.specs.Names.{names_block, packed_tag, partition_number};
 ghost use Rattle.pin_core.specs.declared.view.MapChange.TheVariants.{Stable};
@@ -9,14 +9,15 @@ ghost use Rattle.pin_core.specs.Kinds as kinds;
 ghost use Rattle.pin_core.specs.State.{link};
 ghost use Rattle.frame_table.specs.Kinds.{pins};
 ghost use Rattle.frame_table.specs.FrameSteps.{Tried};
-ghost use Rattle.frame_table.specs.Seats.{Finds, Grows, Lacks, RemembersNoOther, SameSeat, frames_of, relations_of};
+ghost use Rattle.frame_table.specs.Seats.{Finds, Lacks, RemembersNoOther, frames_of, relations_of};
 ghost use Rattle.map_partitions.specs.Partition.{HoldsLatch};
 ghost use Rattle.clock_sweep.specs.FreeFrames.{SameQueue};
 ghost use Rattle.clock_sweep.specs.FreeLists.{IsFreeList};
 ghost use Rattle.cleanup_lock.specs.Waking.{Woken};
-ghost use Rattle.buffer_frames.specs.Rests.{HasNoLatch, HasOneLatch, LinksRest, SameLocks, Stands};
+ghost use Rattle.buffer_frames.specs.Rests.{HasNoLatch, HasOneLatch, LinksRest, Stands};
 ghost use Rattle.buffer_frames.specs.Tokens.{IsNew};
 ghost use Rattle.buffer_frames.specs.Hinting.{NotesHint};
+ghost use Rattle.buffer_frames.specs.Keeps.{Keeps, SameBut};
 ghost use Rattle.buffer_frames.specs.Outside.{outside_of, searched_of, shown_count};
 ghost use Rattle.buffer_frames.specs.Bringing.{Brings, EntersAndStores, PutsBack};
 ghost use Rattle.buffer_frames.specs.Stages.{HasVictim, Pins};
@@ -54,12 +55,7 @@ fn store_latched<L: BlockLane, G: LogDevice, R: Wait>(
     requires tag { names_block tag ≡ true }
     requires block { has_block (relations_of table.now) tag ≡ true }
     requires lacks { Lacks seat.old.me.0 (packed_tag tag) }
-    ensures seat { SameSeat seat.old seat.new }
-    ensures stands { Stands table.now seat.new }
-    ensures same { outside_of seat.new.me.0 ≡ outside_of seat.old.me.0 }
-    ensures grows { Grows seat.old.me.0 seat.new.me.0 }
-    ensures locks { SameLocks seat.old.me.0 seat.new.me.0 }
-    ensures latch { HasOneLatch (partition_number tag) seat.new.me.0 }
+    ensures keeps { Keeps outside_of (Some (partition_number tag)) table.now seat.old seat.new }
     ensures stored { OnTrue result (Pins (packed_tag tag) frame _held.now seat.new.me.0) }
     ensures refused { OnFalse result (HasVictim frame _held.now seat.new.me.0) }
     ensures in_use { OnFalse result (Within (FindsInUse IsAssigned frame) seat.old.me.0 seat.new.me.0) }
@@ -86,11 +82,8 @@ pub(crate) fn give_up<L: BlockLane, G: LogDevice, R: Wait>(
     requires stands { Stands table.now seat.old }
     requires victim { HasVictim victim.frame _held.now seat.old.me.0 }
     requires inside { victim.frame < frames_of table.now }
-    ensures seat { SameSeat seat.old seat.new }
+    ensures keeps { SameBut outside_of seat.old seat.new }
     ensures stands { Stands table.now seat.new }
-    ensures same { outside_of seat.new.me.0 ≡ outside_of seat.old.me.0 }
-    ensures grows { Grows seat.old.me.0 seat.new.me.0 }
-    ensures locks { SameLocks seat.old.me.0 seat.new.me.0 }
     ensures partitions { seat.new.me.0.partitions ≡ seat.old.me.0.partitions }
     ensures remembers { (tag f : ℕ) → RemembersNoOther tag (link seat.old.me.0 f) → RemembersNoOther tag (link seat.new.me.0 f) }
     ensures rests { LinksRest _held.now seat.new.me.0 }
@@ -122,14 +115,9 @@ fn pin_other<L: BlockLane, G: LogDevice, R: Wait>(
     requires inside { frame < frames_of table.now }
     requires finds { Finds seat.old.me.0 (packed_tag tag) frame }
     requires remembers { RemembersNoOther (packed_tag tag) (link seat.old.me.0 frame) }
-    ensures seat { SameSeat seat.old seat.new }
-    ensures stands { Stands table.now seat.new }
+    ensures keeps { Keeps outside_of (Some (partition_number tag)) table.now seat.old seat.new }
     ensures queue { IsFreeList table.now sweep.now queue.new }
     ensures lasts { SameQueue queue.old queue.new }
-    ensures same { outside_of seat.new.me.0 ≡ outside_of seat.old.me.0 }
-    ensures grows { Grows seat.old.me.0 seat.new.me.0 }
-    ensures locks { SameLocks seat.old.me.0 seat.new.me.0 }
-    ensures latch { HasOneLatch (partition_number tag) seat.new.me.0 }
     ensures frame { result.frame ≡ frame }
     ensures pinned { Pins (packed_tag tag) frame held.now seat.new.me.0 }
     ensures gave_up { (given : View) × Woken victim.frame seat.old.me.0 given
@@ -163,14 +151,9 @@ fn enter_latched<L: BlockLane, G: LogDevice, R: Wait>(
     requires tag { names_block tag ≡ true }
     requires block { has_block (relations_of table.now) tag ≡ true }
     requires new { IsNew tag held.now }
-    ensures seat { SameSeat seat.old seat.new }
-    ensures stands { Stands table.now seat.new }
+    ensures keeps { Keeps outside_of (Some (partition_number tag)) table.now seat.old seat.new }
     ensures queue { IsFreeList table.now sweep.now queue.new }
     ensures lasts { SameQueue queue.old queue.new }
-    ensures same { outside_of seat.new.me.0 ≡ outside_of seat.old.me.0 }
-    ensures grows { Grows seat.old.me.0 seat.new.me.0 }
-    ensures locks { SameLocks seat.old.me.0 seat.new.me.0 }
-    ensures latch { HasOneLatch (partition_number tag) seat.new.me.0 }
     ensures inside { IfSome result (λ p. p.frame < frames_of table.now) }
     ensures pinned { IfSome result (λ p. Pins (packed_tag tag) p.frame held.now seat.new.me.0) }
     ensures rests { IfNone result (LinksRest held.now seat.new.me.0) }
@@ -215,14 +198,9 @@ pub(crate) fn enter_or_pin<L: BlockLane, G: LogDevice, R: Wait>(
     requires block { has_block (relations_of table.now) tag ≡ true }
     requires new { IsNew tag held.now }
     requires counted { turns.old ≡ shown_count seat.old.me.0.turns }
-    ensures seat { SameSeat seat.old seat.new }
-    ensures stands { Stands table.now seat.new }
+    ensures keeps { Keeps searched_of None table.now seat.old seat.new }
     ensures queue { IsFreeList table.now sweep.now queue.new }
     ensures lasts { SameQueue queue.old queue.new }
-    ensures same { searched_of seat.new.me.0 ≡ searched_of seat.old.me.0 }
-    ensures grows { Grows seat.old.me.0 seat.new.me.0 }
-    ensures locks { SameLocks seat.old.me.0 seat.new.me.0 }
-    ensures latches { HasNoLatch seat.new.me.0 }
     ensures inside { IfSome result (λ p. p.frame < frames_of table.now) }
     ensures pinned { IfSome result (λ p. Pins (packed_tag tag) p.frame held.now seat.new.me.0) }
     ensures rests { IfNone result (LinksRest held.now seat.new.me.0) }

@@ -1,12 +1,13 @@
 //! A victim loses its tag.
-ghost use Rattle.std.specs.Prelude.{◌≡◌, ◌+◌, ◌<◌, Some, true};
+ghost use Rattle.std.specs.Prelude.{◌≡◌, ◌+◌, ◌<◌, None, Some, true};
 ghost use Rattle.std.specs.Bool.{OnFalse, OnTrue};
 ghost use Rattle.block_tag.specs.Names.{names_block, packed_tag, partition_number};
 ghost use Rattle.pin_core.specs.declared.view.MapChange.TheVariants.{Stable};
 ghost use Rattle.pin_core.specs.State.{link};
-ghost use Rattle.frame_table.specs.Seats.{Grows, SameSeat, frames_of};
+ghost use Rattle.frame_table.specs.Seats.{frames_of};
 ghost use Rattle.map_partitions.specs.Partition.{HoldsLatch};
-ghost use Rattle.buffer_frames.specs.Rests.{HasNoLatch, HasOneLatch, SameLocks, Stands};
+ghost use Rattle.buffer_frames.specs.Rests.{HasNoLatch, HasOneLatch, Stands};
+ghost use Rattle.buffer_frames.specs.Keeps.{Keeps};
 ghost use Rattle.buffer_frames.specs.Outside.{outside_of, searched_of, shown_count};
 ghost use Rattle.buffer_frames.specs.Stages.{HasVictim};
 ghost use Rattle.buffer_frames.specs.VictimChoices.{ClearsTag, FindsInUse, IsDirtied};
@@ -40,12 +41,7 @@ fn erase_latched<L: BlockLane, G: LogDevice, R: Wait>(
     requires inside { frame < frames_of table.now }
     requires tag { names_block tag.now ≡ true }
     requires remembered { (link seat.old.me.0 frame).tag ≡ Some (packed_tag tag.now) }
-    ensures seat { SameSeat seat.old seat.new }
-    ensures stands { Stands table.now seat.new }
-    ensures same { outside_of seat.new.me.0 ≡ outside_of seat.old.me.0 }
-    ensures grows { Grows seat.old.me.0 seat.new.me.0 }
-    ensures locks { SameLocks seat.old.me.0 seat.new.me.0 }
-    ensures latch { HasOneLatch (partition_number tag.now) seat.new.me.0 }
+    ensures keeps { Keeps outside_of (Some (partition_number tag.now)) table.now seat.old seat.new }
     ensures victim { HasVictim frame _held.now seat.new.me.0 }
     ensures emptied { OnTrue result (Within (ClearsTag frame) seat.old.me.0 seat.new.me.0) }
     ensures in_use { OnFalse result (Within (FindsInUse IsDirtied frame) seat.old.me.0 seat.new.me.0) }
@@ -78,12 +74,7 @@ pub(crate) fn erase<L: BlockLane, G: LogDevice, R: Wait>(
     requires tag { names_block tag.now ≡ true }
     requires remembered { (link seat.old.me.0 frame).tag ≡ Some (packed_tag tag.now) }
     requires counted { turns.old ≡ shown_count seat.old.me.0.turns }
-    ensures seat { SameSeat seat.old seat.new }
-    ensures stands { Stands table.now seat.new }
-    ensures same { searched_of seat.new.me.0 ≡ searched_of seat.old.me.0 }
-    ensures grows { Grows seat.old.me.0 seat.new.me.0 }
-    ensures locks { SameLocks seat.old.me.0 seat.new.me.0 }
-    ensures latches { HasNoLatch seat.new.me.0 }
+    ensures keeps { Keeps searched_of None table.now seat.old seat.new }
     ensures victim { HasVictim frame held.now seat.new.me.0 }
     ensures counted { turns.new ≡ shown_count seat.new.me.0.turns }
     ensures turns { seat.new.me.0.turns ≡ seat.old.me.0.turns + 1 }

@@ -1,11 +1,12 @@
 //! The hint of a block is tried.
 ghost use Rattle.std.specs.Prelude.{◌≡◌, ◌<◌, None, IfErr, IfOk, MatchResult};
 ghost use Rattle.block_tag.specs.Names.{packed_tag};
-ghost use Rattle.frame_table.specs.Seats.{Grows, SameSeat, Touches, frames_of};
+ghost use Rattle.frame_table.specs.Seats.{Touches, frames_of};
 ghost use Rattle.cleanup_lock.specs.Waking.{Woken};
-ghost use Rattle.buffer_frames.specs.Rests.{HasNoLatch, LinksRest, SameLocks, Stands};
+ghost use Rattle.buffer_frames.specs.Rests.{HasNoLatch, LinksRest, Stands};
 ghost use Rattle.buffer_frames.specs.Tokens.{held_at};
 ghost use Rattle.buffer_frames.specs.Hinting.{HasByHint, PinsHinted, SeesHint, SeesOther, refused_hint};
+ghost use Rattle.buffer_frames.specs.Keeps.{IsReady, Keeps};
 ghost use Rattle.buffer_frames.specs.Outside.{outside_of};
 ghost use Rattle.buffer_frames.specs.Stages.{Pins};
 
@@ -63,12 +64,8 @@ pub(crate) fn give_back<L: BlockLane, G: LogDevice, R: Wait>(
     requires latches { HasNoLatch seat.old.me.0 }
     requires pinned { Pins (packed_tag _tag) pin.frame _held.now seat.old.me.0 }
     requires inside { pin.frame < frames_of table.now }
-    ensures seat { SameSeat seat.old seat.new }
-    ensures stands { Stands table.now seat.new }
-    ensures latches { HasNoLatch seat.new.me.0 }
-    ensures same { outside_of seat.new.me.0 ≡ outside_of seat.old.me.0 }
+    ensures keeps { Keeps outside_of None table.now seat.old seat.new }
     ensures touches { Touches pin.frame seat.old.me.0 seat.new.me.0 }
-    ensures locks { SameLocks seat.old.me.0 seat.new.me.0 }
     ensures rests { LinksRest _held.now seat.new.me.0 }
     ensures did { Woken pin.frame seat.old.me.0 seat.new.me.0 }
 {
@@ -96,17 +93,10 @@ fn try_hinted<L: BlockLane, G: LogDevice, R: Wait>(
     frame: u32,
     ring: bool,
 ) -> Result<Pin, HintSeen>
-    requires stands { Stands table.now seat.old }
-    requires rests { LinksRest held.now seat.old.me.0 }
-    requires latches { HasNoLatch seat.old.me.0 }
+    requires ready { IsReady table.now held.now seat.old }
     requires inside { frame < frames_of table.now }
     requires new { held_at held.now frame ≡ None }
-    ensures seat { SameSeat seat.old seat.new }
-    ensures stands { Stands table.now seat.new }
-    ensures same { outside_of seat.new.me.0 ≡ outside_of seat.old.me.0 }
-    ensures grows { Grows seat.old.me.0 seat.new.me.0 }
-    ensures locks { SameLocks seat.old.me.0 seat.new.me.0 }
-    ensures latches { HasNoLatch seat.new.me.0 }
+    ensures keeps { Keeps outside_of None table.now seat.old seat.new }
     ensures frame { IfOk result (λ p. p.frame ≡ frame) }
     ensures pinned { IfOk result (λ p. Pins (packed_tag tag.now) p.frame held.now seat.new.me.0) }
     ensures rests { IfErr result (λ _. LinksRest held.now seat.new.me.0) }
@@ -137,15 +127,8 @@ pub(crate) fn try_hint<L: BlockLane, G: LogDevice, R: Wait>(
     tag: &Tag,
     ring: bool,
 ) -> Result<Pin, HintSeen>
-    requires stands { Stands table.now seat.old }
-    requires rests { LinksRest held.now seat.old.me.0 }
-    requires latches { HasNoLatch seat.old.me.0 }
-    ensures seat { SameSeat seat.old seat.new }
-    ensures stands { Stands table.now seat.new }
-    ensures same { outside_of seat.new.me.0 ≡ outside_of seat.old.me.0 }
-    ensures grows { Grows seat.old.me.0 seat.new.me.0 }
-    ensures locks { SameLocks seat.old.me.0 seat.new.me.0 }
-    ensures latches { HasNoLatch seat.new.me.0 }
+    requires ready { IsReady table.now held.now seat.old }
+    ensures keeps { Keeps outside_of None table.now seat.old seat.new }
     ensures inside { IfOk result (λ p. p.frame < frames_of table.now) }
     ensures pinned { IfOk result (λ p. Pins (packed_tag tag.now) p.frame held.now seat.new.me.0) }
     ensures rests { IfErr result (λ _. LinksRest held.now seat.new.me.0) }

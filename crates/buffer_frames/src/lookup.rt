@@ -1,5 +1,5 @@
 //! A block is looked up.
-ghost use Rattle.std.specs.Prelude.{◌≡◌, ◌+◌, ◌<◌, true, IfSome, IfNone, MatchOption, option_map};
+ghost use Rattle.std.specs.Prelude.{◌≡◌, ◌+◌, ◌<◌, None, Some, true, IfSome, IfNone, MatchOption, option_map};
 ghost use Rattle.block_tag.specs.Names.{names_block, packed_tag, partition_number};
 ghost use Rattle.pin_core.specs.declared.view.MapChange.TheVariants.{Stable};
 ghost use Rattle.pin_core.specs.State.{link};
@@ -11,10 +11,11 @@ ghost use Rattle.frame_table.specs.declared.pin.Pin.{Pin};
 ghost use Rattle.frame_table.specs.Latches.{DidTurn, IsTurned, SameWork, view_counted};
 ghost use Rattle.frame_table.specs.Seats.{CanTurn, Finds, Grows, Lacks, RemembersNoOther, SameSeat, frames_of};
 ghost use Rattle.map_partitions.specs.Partition.{HoldsLatch};
-ghost use Rattle.buffer_frames.specs.Rests.{HasNoLatch, HasOneLatch, LinksRest, SameLocks, Stands};
+ghost use Rattle.buffer_frames.specs.Rests.{HasOneLatch, LinksRest, Stands};
 ghost use Rattle.buffer_frames.specs.Tokens.{IsNew};
 ghost use Rattle.buffer_frames.specs.Hinting.{LeavesHint, TakesTurns};
 ghost use Rattle.buffer_frames.specs.Lookups.{LooksUp, SeesAndPins, SeesNone, UnderPartition};
+ghost use Rattle.buffer_frames.specs.Keeps.{IsReady, Keeps};
 ghost use Rattle.buffer_frames.specs.Outside.{outside_of, searched_of, shown_count};
 ghost use Rattle.buffer_frames.specs.Stages.{Pins};
 
@@ -41,17 +42,13 @@ pub(crate) fn pin_found<L: BlockLane, G: LogDevice, R: Wait>(
 ) -> Pin
     requires stands { Stands table.now seat.old }
     requires rests { LinksRest _held.now seat.old.me.0 }
+    requires latch { HasOneLatch (partition_number tag.now) seat.old.me.0 }
     requires tag { names_block tag.now ≡ true }
     requires new { IsNew tag.now _held.now }
     requires inside { frame < frames_of table.now }
     requires finds { Finds seat.old.me.0 (packed_tag tag.now) frame }
     requires remembers { RemembersNoOther (packed_tag tag.now) (link seat.old.me.0 frame) }
-    ensures seat { SameSeat seat.old seat.new }
-    ensures stands { Stands table.now seat.new }
-    ensures same { outside_of seat.new.me.0 ≡ outside_of seat.old.me.0 }
-    ensures partitions { seat.new.me.0.partitions ≡ seat.old.me.0.partitions }
-    ensures grows { Grows seat.old.me.0 seat.new.me.0 }
-    ensures locks { SameLocks seat.old.me.0 seat.new.me.0 }
+    ensures keeps { Keeps outside_of (Some (partition_number tag.now)) table.now seat.old seat.new }
     ensures frame { result.frame ≡ frame }
     ensures pinned { Pins (packed_tag tag.now) frame _held.now seat.new.me.0 }
     ensures did { Tried (pins (kinds.pin_mapped (packed_tag tag.now) ring)) frame seat.old.me.0 seat.new.me.0 true }
@@ -74,12 +71,7 @@ pub(crate) fn pin_mapped<L: BlockLane, G: LogDevice, R: Wait>(
     requires holds { HoldsLatch Stable seat.old.me.0 (partition_number tag.now) }
     requires tag { names_block tag.now ≡ true }
     requires new { IsNew tag.now held.now }
-    ensures seat { SameSeat seat.old seat.new }
-    ensures stands { Stands table.now seat.new }
-    ensures same { outside_of seat.new.me.0 ≡ outside_of seat.old.me.0 }
-    ensures grows { Grows seat.old.me.0 seat.new.me.0 }
-    ensures locks { SameLocks seat.old.me.0 seat.new.me.0 }
-    ensures latch { HasOneLatch (partition_number tag.now) seat.new.me.0 }
+    ensures keeps { Keeps outside_of (Some (partition_number tag.now)) table.now seat.old seat.new }
     ensures inside { IfSome result (λ p. p.frame < frames_of table.now) }
     ensures pinned { IfSome result (λ p. Pins (packed_tag tag.now) p.frame held.now seat.new.me.0) }
     ensures rests { IfNone result (LinksRest held.now seat.new.me.0) }
@@ -122,18 +114,11 @@ fn search<L: BlockLane, G: LogDevice, R: Wait>(
     ring: bool,
     turns: &mut u64,
 ) -> Option<Pin>
-    requires stands { Stands table.now seat.old }
-    requires rests { LinksRest held.now seat.old.me.0 }
-    requires latches { HasNoLatch seat.old.me.0 }
+    requires ready { IsReady table.now held.now seat.old }
     requires tag { names_block tag.now ≡ true }
     requires new { IsNew tag.now held.now }
     requires counted { turns.old ≡ shown_count seat.old.me.0.turns }
-    ensures seat { SameSeat seat.old seat.new }
-    ensures stands { Stands table.now seat.new }
-    ensures same { searched_of seat.new.me.0 ≡ searched_of seat.old.me.0 }
-    ensures grows { Grows seat.old.me.0 seat.new.me.0 }
-    ensures locks { SameLocks seat.old.me.0 seat.new.me.0 }
-    ensures latches { HasNoLatch seat.new.me.0 }
+    ensures keeps { Keeps searched_of None table.now seat.old seat.new }
     ensures inside { IfSome result (λ p. p.frame < frames_of table.now) }
     ensures pinned { IfSome result (λ p. Pins (packed_tag tag.now) p.frame held.now seat.new.me.0) }
     ensures rests { IfNone result (LinksRest held.now seat.new.me.0) }
@@ -162,18 +147,11 @@ pub(crate) fn look_up<L: BlockLane, G: LogDevice, R: Wait>(
     ring: bool,
     turns: &mut u64,
 ) -> (Option<Pin>, HintSeen)
-    requires stands { Stands table.now seat.old }
-    requires rests { LinksRest held.now seat.old.me.0 }
-    requires latches { HasNoLatch seat.old.me.0 }
+    requires ready { IsReady table.now held.now seat.old }
     requires tag { names_block tag.now ≡ true }
     requires new { IsNew tag.now held.now }
     requires counted { turns.old ≡ shown_count seat.old.me.0.turns }
-    ensures seat { SameSeat seat.old seat.new }
-    ensures stands { Stands table.now seat.new }
-    ensures same { searched_of seat.new.me.0 ≡ searched_of seat.old.me.0 }
-    ensures grows { Grows seat.old.me.0 seat.new.me.0 }
-    ensures locks { SameLocks seat.old.me.0 seat.new.me.0 }
-    ensures latches { HasNoLatch seat.new.me.0 }
+    ensures keeps { Keeps searched_of None table.now seat.old seat.new }
     ensures inside { IfSome result.0 (λ p. p.frame < frames_of table.now) }
     ensures pinned { IfSome result.0
         (λ p. Pins (packed_tag tag.now) p.frame held.now seat.new.me.0) }

@@ -1,13 +1,13 @@
 //! A block is read.
-ghost use Rattle.std.specs.Prelude.{◌≡◌, ◌<◌, true, is_some};
+ghost use Rattle.std.specs.Prelude.{◌≡◌, ◌<◌, None, true, is_some};
 ghost use Rattle.block_tag.specs.Names.{lane_number, names_block, packed_tag};
 ghost use Rattle.table_rule.specs.Blocks.{has_block};
-ghost use Rattle.frame_table.specs.Seats.{OnlyRises, SameSeat, frames_of, lanes_in, relations_of};
-ghost use Rattle.buffer_frames.specs.Rests.{HasNoLatch, LinksRest, Stands, SameLocks};
+ghost use Rattle.frame_table.specs.Seats.{frames_of, lanes_in, relations_of};
 ghost use Rattle.clock_sweep.specs.FreeFrames.{SameQueue};
 ghost use Rattle.clock_sweep.specs.FreeLists.{IsFreeList};
 ghost use Rattle.buffer_frames.specs.Tokens.{IsNew};
 ghost use Rattle.buffer_frames.specs.Hinting.{TakesTurns};
+ghost use Rattle.buffer_frames.specs.Keeps.{IsReady, Keeps};
 ghost use Rattle.buffer_frames.specs.Outside.{kept_by_block_reads, ring_shape, shown_count};
 ghost use Rattle.buffer_frames.specs.Reads.{CensusPinned, CensusRead, PinAnswer, PinNotes, ReadAnswer, ReadCalls, ReadNotes, met_read_block};
 ghost use Rattle.buffer_frames.specs.VictimChoices.{choice_state};
@@ -64,25 +64,18 @@ fn pin_block<L: BlockLane, G: LogDevice, R: Wait>(
     ring: &mut Option<Ring>,
     sought: &mut Sought,
 ) -> Result<Pin, VictimError>
-    requires stands { Stands table.now seat.old }
+    requires ready { IsReady table.now held.now seat.old }
     requires queue { IsFreeList table.now sweep.now queue.old }
-    requires rests { LinksRest held.now seat.old.me.0 }
-    requires latches { HasNoLatch seat.old.me.0 }
     requires census { census.old.frames ≡ frames_of table.now }
     requires tag { names_block tag.now ≡ true }
     requires block { has_block (relations_of table.now) tag.now ≡ true }
     requires new { IsNew tag.now held.now }
     requires counted { sought.old.turns ≡ shown_count seat.old.me.0.turns }
-    ensures seat { SameSeat seat.old seat.new }
-    ensures stands { Stands table.now seat.new }
+    ensures keeps { Keeps kept_by_block_reads None table.now seat.old seat.new }
     ensures queue { IsFreeList table.now sweep.now queue.new }
     ensures lasts { SameQueue queue.old queue.new }
-    ensures latches { HasNoLatch seat.new.me.0 }
     ensures room { census.new.frames ≡ census.old.frames }
     ensures ring { ring_shape ring.new ≡ ring_shape ring.old }
-    ensures kept { kept_by_block_reads seat.new.me.0 ≡ kept_by_block_reads seat.old.me.0 }
-    ensures advances { OnlyRises seat.old.me.0 seat.new.me.0 }
-    ensures locks { SameLocks seat.old.me.0 seat.new.me.0 }
     ensures pinned { PinsOrRests (frames_of table.now) (packed_tag tag.now) held.now seat.new.me.0 result }
     ensures census { CensusPinned (frames_of table.now) census.old census.new result }
     ensures met { seat.new.me.0.met ≡ met_claimed result seat.old.me.0.met }
@@ -129,25 +122,18 @@ pub fn read_block<L: BlockLane, G: LogDevice, R: Wait>(
     ring: &mut Option<Ring>,
     sought: &mut Sought,
 ) -> Result<PinnedBlock, BlockError>
-    requires stands { Stands table.now seat.old }
+    requires ready { IsReady table.now held.now seat.old }
     requires queue { IsFreeList table.now sweep.now queue.old }
-    requires rests { LinksRest held.now seat.old.me.0 }
-    requires latches { HasNoLatch seat.old.me.0 }
     requires census { census.old.frames ≡ frames_of table.now }
     requires tag { names_block tag.now ≡ true }
     requires block { has_block (relations_of table.now) tag.now ≡ true }
     requires new { IsNew tag.now held.now }
     requires counted { sought.old.turns ≡ shown_count seat.old.me.0.turns }
-    ensures seat { SameSeat seat.old seat.new }
-    ensures stands { Stands table.now seat.new }
+    ensures keeps { Keeps kept_by_block_reads None table.now seat.old seat.new }
     ensures queue { IsFreeList table.now sweep.now queue.new }
     ensures lasts { SameQueue queue.old queue.new }
-    ensures latches { HasNoLatch seat.new.me.0 }
     ensures room { census.new.frames ≡ census.old.frames }
     ensures ring { ring_shape ring.new ≡ ring_shape ring.old }
-    ensures kept { kept_by_block_reads seat.new.me.0 ≡ kept_by_block_reads seat.old.me.0 }
-    ensures advances { OnlyRises seat.old.me.0 seat.new.me.0 }
-    ensures locks { SameLocks seat.old.me.0 seat.new.me.0 }
     ensures answer { ReadAnswer L.contents table.now tag.now held.now seat.old.me.0 seat.new.me.0 result }
     ensures census { CensusRead (frames_of table.now) census.old census.new result }
     ensures met { seat.new.me.0.met ≡ met_read_block result seat.old.me.0.met }

@@ -1,18 +1,19 @@
 //! A frame is freed for a block.
-ghost use Rattle.std.specs.Prelude.{◌≡◌, ◌<◌, ◌≤◌, Some, true, IfErr, IfSome, MatchResult, is_some};
+ghost use Rattle.std.specs.Prelude.{◌≡◌, ◌<◌, ◌≤◌, None, Some, true, IfErr, IfSome, MatchResult, is_some};
 ghost use Rattle.block_tag.specs.Names.{names_block, packed_tag};
 ghost use Rattle.pin_core.specs.Kinds as kinds;
 ghost use Rattle.pin_core.specs.State.{link};
 ghost use Rattle.table_rule.specs.Blocks.{has_block};
 ghost use Rattle.frame_table.specs.FrameSteps.{Did};
 ghost use Rattle.frame_table.specs.Kinds.{pins};
-ghost use Rattle.frame_table.specs.Seats.{Grows, OnlyRises, SameSeat, frames_of, relations_of, tag_word};
-ghost use Rattle.buffer_frames.specs.Rests.{HasNoLatch, LinksRest, Stands, SameLocks};
+ghost use Rattle.frame_table.specs.Seats.{frames_of, relations_of, tag_word};
+ghost use Rattle.buffer_frames.specs.Rests.{HasNoLatch, Stands};
 ghost use Rattle.clock_sweep.specs.FreeFrames.{SameQueue};
 ghost use Rattle.clock_sweep.specs.FreeLists.{IsFreeList};
 ghost use Rattle.buffer_frames.specs.Tokens.{IsNew};
 ghost use Rattle.buffer_frames.specs.Bringing.{PushesNone};
 ghost use Rattle.buffer_frames.specs.Hinting.{NotesHint};
+ghost use Rattle.buffer_frames.specs.Keeps.{IsReady, Keeps};
 ghost use Rattle.buffer_frames.specs.Outside.{kept_by_block_reads, outside_of, ring_shape, shown_count};
 ghost use Rattle.buffer_frames.specs.Stages.{HasVictim};
 ghost use Rattle.buffer_frames.specs.VictimChoices.{choice_state};
@@ -67,12 +68,7 @@ fn tag_of_victim<L: BlockLane, G: LogDevice>(
     requires latches { HasNoLatch seat.old.me.0 }
     requires victim { HasVictim frame _held.now seat.old.me.0 }
     requires inside { frame < frames_of table.now }
-    ensures seat { SameSeat seat.old seat.new }
-    ensures stands { Stands table.now seat.new }
-    ensures same { outside_of seat.new.me.0 ≡ outside_of seat.old.me.0 }
-    ensures grows { Grows seat.old.me.0 seat.new.me.0 }
-    ensures locks { SameLocks seat.old.me.0 seat.new.me.0 }
-    ensures latches { HasNoLatch seat.new.me.0 }
+    ensures keeps { Keeps outside_of None table.now seat.old seat.new }
     ensures victim { HasVictim frame _held.now seat.new.me.0 }
     ensures tag { IfSome result (λ tag. names_block tag ≡ true) }
     ensures block { IfSome result (λ tag. has_block (relations_of table.now) tag ≡ true) }
@@ -95,23 +91,16 @@ fn make_victim<L: BlockLane, G: LogDevice, R: Wait>(
     ring: &mut Option<Ring>,
     turns: &mut u64,
 ) -> Freed
-    requires stands { Stands table.now seat.old }
+    requires ready { IsReady table.now held.now seat.old }
     requires queue { IsFreeList table.now sweep.now queue.old }
-    requires rests { LinksRest held.now seat.old.me.0 }
-    requires latches { HasNoLatch seat.old.me.0 }
     requires census { census.old.frames ≡ frames_of table.now }
     requires counted { turns.old ≡ shown_count seat.old.me.0.turns }
-    ensures seat { SameSeat seat.old seat.new }
-    ensures stands { Stands table.now seat.new }
+    ensures keeps { Keeps kept_by_block_reads None table.now seat.old seat.new }
     ensures queue { IsFreeList table.now sweep.now queue.new }
     ensures lasts { SameQueue queue.old queue.new }
     ensures unpushed { PushesNone queue.old queue.new }
-    ensures latches { HasNoLatch seat.new.me.0 }
     ensures room { census.new.frames ≡ census.old.frames }
     ensures ring { ring_shape ring.new ≡ ring_shape ring.old }
-    ensures kept { kept_by_block_reads seat.new.me.0 ≡ kept_by_block_reads seat.old.me.0 }
-    ensures advances { OnlyRises seat.old.me.0 seat.new.me.0 }
-    ensures locks { SameLocks seat.old.me.0 seat.new.me.0 }
     ensures answer { FreedAnswer L.contents table.now held.now
         seat.old.me.0 (choice_state queue.old ring.old census.old)
         seat.new.me.0 (choice_state queue.new ring.new census.new) result }
@@ -166,26 +155,19 @@ pub(crate) fn claim<L: BlockLane, G: LogDevice, R: Wait>(
     ring: &mut Option<Ring>,
     turns: &mut u64,
 ) -> Result<Pin, VictimError>
-    requires stands { Stands table.now seat.old }
+    requires ready { IsReady table.now held.now seat.old }
     requires queue { IsFreeList table.now sweep.now queue.old }
-    requires rests { LinksRest held.now seat.old.me.0 }
-    requires latches { HasNoLatch seat.old.me.0 }
     requires census { census.old.frames ≡ frames_of table.now }
     requires tag { names_block tag ≡ true }
     requires block { has_block (relations_of table.now) tag ≡ true }
     requires new { IsNew tag held.now }
     requires counted { turns.old ≡ shown_count seat.old.me.0.turns }
-    ensures seat { SameSeat seat.old seat.new }
-    ensures stands { Stands table.now seat.new }
+    ensures keeps { Keeps kept_by_block_reads None table.now seat.old seat.new }
     ensures queue { IsFreeList table.now sweep.now queue.new }
     ensures lasts { SameQueue queue.old queue.new }
     ensures unpushed { IfErr result (λ _. PushesNone queue.old queue.new) }
-    ensures latches { HasNoLatch seat.new.me.0 }
     ensures room { census.new.frames ≡ census.old.frames }
     ensures ring { ring_shape ring.new ≡ ring_shape ring.old }
-    ensures kept { kept_by_block_reads seat.new.me.0 ≡ kept_by_block_reads seat.old.me.0 }
-    ensures advances { OnlyRises seat.old.me.0 seat.new.me.0 }
-    ensures locks { SameLocks seat.old.me.0 seat.new.me.0 }
     ensures pinned { PinsOrRests (frames_of table.now) (packed_tag tag) held.now seat.new.me.0 result }
     ensures answer { ClaimAnswer L.contents table.now tag held.now (is_some ring.old)
         seat.old.me.0 (choice_state queue.old ring.old census.old)

@@ -1,33 +1,19 @@
 use Rattle.std.proofs.Common.{ap, sym, ◌∙◌}
 use Rattle.pin_core.specs.declared.view.View.{View}
-use Rattle.frame_table.proofs.Told.{grows_on}
 use Rattle.buffer_frames.proofs.Bringing.{chooses_unpushed, leaves_unpushed}
 use Rattle.buffer_frames.proofs.Heading.{victim_pinned}
 use Rattle.buffer_frames.proofs.Outside.{shape_keeping}
-use Rattle.buffer_frames.proofs.Keeping.{same_locks_looked}
-use Rattle.buffer_frames.proofs.SameLocks.{same_locks_chosen}
 use Rattle.buffer_frames.proofs.Trying.{chosen_pin, chosen_ring}
 use Rattle.buffer_frames.proofs.WorkSteps.{made_none}
+use Rattle.buffer_frames.proofs.Keeps.{keeps_chosen, keeps_unchosen}
 use Rattle.buffer_frames.proofs.choosing.choose.Goals as goal
-
-pub returns-in-Ok-clause-grows : goal.returns-in-Ok-clause-grows
-returns-in-Ok-clause-grows g c = grows_on _ c.victim.new.seat.me.0 _ c.in-Ok.ensures.held.grows c.victim_pin-pin.ensures.touches.grows
-
-pub returns-in-Err-clause-grows : goal.returns-in-Err-clause-grows
-returns-in-Err-clause-grows g c = c.in-Err.ensures.left.grows
 
 pub returns-in-Ok-clause-ring : goal.returns-in-Ok-clause-ring
 returns-in-Ok-clause-ring g c = shape_keeping _ _ _ _ c.in-Ok.ensures.kept
 
 pub returns-in-Ok-clause-pinned : goal.returns-in-Ok-clause-pinned
 returns-in-Ok-clause-pinned g c = let v = c.in-Ok.ensures in let p = c.victim_pin-pin.ensures in
-    victim_pinned c.args._held.now c.in-Ok.held.frame c.into_frame-frame.result _ c.args.seat.now.me.0 c.victim.new.seat.me.0 c.into_frame-frame.ensures c.requires.rests v.held v.absent c.victim_pin-pin.result.frame c.victim_pin-pin.new.seat.me.0 p.pin p.touches.others p.pinned
-
-pub returns-in-Ok-clause-locks : goal.returns-in-Ok-clause-locks
-returns-in-Ok-clause-locks g c = let v = c.in-Ok.ensures in let p = c.victim_pin-pin.ensures in same_locks_chosen c.in-Ok.held.frame c.into_frame-frame.result _ c.args.seat.now.me.0 c.victim.new.seat.me.0 c.victim_pin-pin.new.seat.me.0 c.into_frame-frame.ensures v.held p.touches.others p.pinned
-
-pub returns-in-Err-clause-locks : goal.returns-in-Err-clause-locks
-returns-in-Err-clause-locks g c = same_locks_looked c.args.seat.now.me.0 c.victim.new.seat.me.0 c.in-Err.ensures.left.links
+    victim_pinned c.args._held.now c.in-Ok.held.frame c.into_frame-frame.result _ c.args.seat.now.me.0 c.victim.new.seat.me.0 c.into_frame-frame.ensures c.requires.ready.rests v.held v.absent c.victim_pin-pin.result.frame c.victim_pin-pin.new.seat.me.0 p.pin p.touches.others p.pinned
 
 pub returns-in-Ok-clause-did : goal.returns-in-Ok-clause-did
 returns-in-Ok-clause-did g c = let v = c.in-Ok.ensures in let p = c.victim_pin-pin.ensures in record {
@@ -47,3 +33,9 @@ returns-in-Ok-clause-unpushed g c = chooses_unpushed _ _ _ _ _ _ _ c.in-Ok.ensur
 
 pub returns-in-Err-clause-unpushed : goal.returns-in-Err-clause-unpushed
 returns-in-Err-clause-unpushed g c = leaves_unpushed _ _ _ _ _ c.in-Err.ensures.cause.free
+
+pub returns-in-Ok-clause-keeps : goal.returns-in-Ok-clause-keeps
+returns-in-Ok-clause-keeps g c = let v = c.in-Ok.ensures in let p = c.victim_pin-pin.ensures in keeps_chosen c.in-Ok.held.frame c.into_frame-frame.result _ c.requires.ready v.seat c.into_frame-frame.ensures v.held p.seat p.touches p.marks p.pinned
+
+pub returns-in-Err-clause-keeps : goal.returns-in-Err-clause-keeps
+returns-in-Err-clause-keeps g c = keeps_unchosen c.requires.ready c.in-Err.ensures.seat c.in-Err.ensures.left

@@ -5,7 +5,6 @@ use Rattle.frame_table.specs.Kinds.{pins}
 use Rattle.frame_table.specs.FrameSteps.{Tried}
 use Rattle.map_partitions.specs.Partition.{entries_seen}
 use Rattle.buffer_frames.specs.Bringing.{enters, pins_other}
-use Rattle.frame_table.proofs.Told.{grows_on}
 use Rattle.buffer_frames.specs.Stages.{HasVictim}
 use Rattle.buffer_frames.proofs.Calm.{victim_worked}
 use Rattle.frame_table.proofs.Rising.{rises_none}
@@ -13,8 +12,7 @@ use Rattle.buffer_frames.specs.VictimChoices.{FindsInUse, IsAssigned}
 use Rattle.buffer_frames.specs.Working.{Within}
 use Rattle.buffer_frames.proofs.WorkSteps.{within_on}
 use Rattle.buffer_frames.proofs.Outside.{grows_outside, links_worked, outside_worked}
-use Rattle.buffer_frames.proofs.Keeping.{latch_same, same_locks_on}
-use Rattle.buffer_frames.proofs.SameLocks.{same_locks_mapped}
+use Rattle.buffer_frames.proofs.Keeps.{and_same, and_searched, keeps_none, keeps_on}
 use Rattle.buffer_frames.proofs.entering.enter_latched.Goals as goal
 
 pub pin_other-requires-clause-victim : goal.pin_other-requires-clause-victim
@@ -22,21 +20,6 @@ pin_other-requires-clause-victim g c = victim_worked c.args.held.now c.args.vict
 
 pub store_latched-requires-clause-victim : goal.store_latched-requires-clause-victim
 store_latched-requires-clause-victim g c = subst (λ (f : ℕ). HasVictim f c.args.held.now c.find.new.seat.me.0) (sym c.frame.ensures) (victim_worked c.args.held.now c.args.victim.frame c.args.seat.now.me.0 c.find.new.seat.me.0 (links_worked c.args.seat.now.me.0 c.find.new.seat.me.0 c.find.ensures.work) c.requires.victim)
-
-pub returns-in-Some-clause-locks : goal.returns-in-Some-clause-locks
-returns-in-Some-clause-locks g c = same_locks_on c.args.seat.now.me.0 c.find.new.seat.me.0 c.pin_other.new.seat.me.0 (same_locks_mapped c.args.seat.now.me.0 c.find.new.seat.me.0 c.find.ensures.work) c.pin_other.ensures.locks
-
-pub returns-then-store_latched-clause-locks : goal.returns-then-store_latched-clause-locks
-returns-then-store_latched-clause-locks g c = same_locks_on c.args.seat.now.me.0 c.find.new.seat.me.0 c.store_latched.new.seat.me.0 (same_locks_mapped c.args.seat.now.me.0 c.find.new.seat.me.0 c.find.ensures.work) c.store_latched.ensures.locks
-
-pub returns-clause-locks : goal.returns-clause-locks
-returns-clause-locks g c = same_locks_on c.args.seat.now.me.0 c.store_latched.new.seat.me.0 c.give_up.new.seat.me.0 (same_locks_on c.args.seat.now.me.0 c.find.new.seat.me.0 c.store_latched.new.seat.me.0 (same_locks_mapped c.args.seat.now.me.0 c.find.new.seat.me.0 c.find.ensures.work) c.store_latched.ensures.locks) c.give_up.ensures.locks
-
-pub returns-clause-grows : goal.returns-clause-grows
-returns-clause-grows g c = grows_on _ c.store_latched.new.seat.me.0 _ (grows_on _ c.find.new.seat.me.0 _ c.find.ensures.grows c.store_latched.ensures.grows) c.give_up.ensures.grows
-
-pub returns-clause-latch : goal.returns-clause-latch
-returns-clause-latch g c = latch_same (partition_number c.args.tag) c.store_latched.new.seat.me.0 c.give_up.new.seat.me.0 c.give_up.ensures.partitions c.store_latched.ensures.latch
 
 pub returns-in-Some-clause-brings : goal.returns-in-Some-clause-brings
 returns-in-Some-clause-brings g c = let p = c.pin_other.ensures in let number = partition_number c.args.tag in pins_other record {
@@ -53,7 +36,7 @@ returns-in-Some-clause-brings g c = let p = c.pin_other.ensures in let number = 
 pub returns-then-store_latched-clause-brings : goal.returns-then-store_latched-clause-brings
 returns-then-store_latched-clause-brings g c = enters refl
     (record { entries = entries_seen c.find.new.seat.me.0 (partition_number c.args.tag); did = c.find.ensures.did; none = sym c.find.ensures.found ∙ c.in_default.is })
-    (grows_outside c.find.new.seat.me.0 c.store_latched.new.seat.me.0 c.store_latched.ensures.grows c.store_latched.ensures.same) refl
+    c.store_latched.ensures.keeps.rises refl
 
 pub returns-clause-gave_up : goal.returns-clause-gave_up
 returns-clause-gave_up g c = let n = c.store_latched.ensures in (
@@ -64,3 +47,12 @@ returns-clause-gave_up g c = let n = c.store_latched.ensures in (
       (rises_none c.store_latched.new.seat.me.0),
   c.give_up.ensures.did,
 )
+
+pub returns-in-Some-clause-keeps : goal.returns-in-Some-clause-keeps
+returns-in-Some-clause-keeps g c = let f = c.find.ensures in keeps_on (and_searched (partition_number c.args.tag) (keeps_none {l = Some (partition_number c.args.tag)} c.requires.stands c.requires.latch) f.seat f.work f.grows f.step f.holds) c.pin_other.ensures.keeps
+
+pub returns-then-store_latched-clause-keeps : goal.returns-then-store_latched-clause-keeps
+returns-then-store_latched-clause-keeps g c = let f = c.find.ensures in keeps_on (and_searched (partition_number c.args.tag) (keeps_none {l = Some (partition_number c.args.tag)} c.requires.stands c.requires.latch) f.seat f.work f.grows f.step f.holds) c.store_latched.ensures.keeps
+
+pub returns-clause-keeps : goal.returns-clause-keeps
+returns-clause-keeps g c = let f = c.find.ensures in and_same (keeps_on (and_searched (partition_number c.args.tag) (keeps_none {l = Some (partition_number c.args.tag)} c.requires.stands c.requires.latch) f.seat f.work f.grows f.step f.holds) c.store_latched.ensures.keeps) c.give_up.ensures.keeps c.give_up.ensures.stands c.give_up.ensures.partitions

@@ -1,14 +1,10 @@
 use Rattle.block_tag.specs.Names.{packed_tag}
 use Rattle.buffer_frames.proofs.Calm.{pins_unpinned}
-use Rattle.buffer_frames.proofs.Keeping.{same_locks_at}
 use Rattle.buffer_frames.proofs.WorkSteps.{headless}
 use Rattle.buffer_frames.proofs.hinting.give_back.Goals as goal
 
 pub returns-clause-rests : goal.returns-clause-rests
 returns-clause-rests g c = let u = c.unpin_and_wake.ensures in pins_unpinned c.args._held.now (packed_tag c.args._tag) c.args.pin.frame c.args.seat.now.me.0 c.unpin_and_wake.new.seat.me.0 c.requires.pinned u.touches.others u.unpinned
-
-pub returns-clause-locks : goal.returns-clause-locks
-returns-clause-locks g c = same_locks_at c.args.pin.frame c.args.seat.now.me.0 c.unpin_and_wake.new.seat.me.0 c.unpin_and_wake.ensures.touches.others c.unpin_and_wake.ensures.unpinned.content
 
 pub unpin_and_wake-requires-clause-headless : goal.unpin_and_wake-requires-clause-headless
 unpin_and_wake-requires-clause-headless g c = headless c.args._held.now c.args.pin.frame c.args.seat.now.me.0 c.requires.pinned.others c.requires.pinned.calm.no_header

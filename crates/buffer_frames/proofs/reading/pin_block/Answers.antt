@@ -3,9 +3,7 @@ use Rattle.std.specs.Prelude.{IfNone, MatchOption, option_map}
 use Rattle.pin_core.specs.declared.view.FailedCalls.{FailedCalls}
 use Rattle.frame_table.specs.declared.pin.Pin.{Pin}
 use Rattle.frame_table.specs.Seats.{OnlyRises, frames_of}
-use Rattle.frame_table.proofs.Rising.{rises_on}
 use Rattle.buffer_frames.specs.Rests.{LinksRest}
-use Rattle.buffer_frames.proofs.Keeping.{same_locks_on}
 use Rattle.buffer_frames.specs.Hinting.{LeavesHint}
 use Rattle.buffer_frames.specs.Lookups.{LooksUp}
 use Rattle.buffer_frames.specs.Reads.{Locates, PinAnswer}
@@ -13,19 +11,17 @@ use Rattle.buffer_frames.specs.VictimChoices.{choice_state}
 use Rattle.buffer_frames.specs.Victims.{ClaimAnswer, met_claimed}
 use Rattle.buffer_frames.proofs.Locating.{answers_missed, locates_now, notes_then, turns_then}
 use Rattle.buffer_frames.proofs.Noting.{census_claimed}
-use Rattle.buffer_frames.proofs.Outside.{grows_searched, met_searched}
+use Rattle.buffer_frames.proofs.Outside.{met_searched}
 use Rattle.buffer_frames.proofs.reading.pin_block.Given.{Over}
+use Rattle.buffer_frames.proofs.Keeps.{keeps_on, searched_keeps}
 use Rattle.buffer_frames.proofs.reading.pin_block.Goals as goal
 
 -- the look-up gave a frame
-pub returns-in-Some-clause-advances : goal.returns-in-Some-clause-advances
-returns-in-Some-clause-advances g c = grows_searched c.args.seat.now.me.0 c.look_up-found.new.seat.me.0 c.look_up-found.ensures.grows c.look_up-found.ensures.same
-
 pub returns-in-Some-clause-calls : goal.returns-in-Some-clause-calls
 returns-in-Some-clause-calls g c = let u = c.look_up-found in
     let looks = subst (λ (o : Option Pin). LooksUp (frames_of c.args.table.now) c.args.tag.now c.args.held.now c.is_some-ringed.result c.args.seat.now.me.0 u.new.seat.me.0 u.result.1 (option_map Pin.frame o)) c.in-Some.is u.ensures.did in
     subst (λ (b : Bool). Locates {L = g.row.L.Denot} {G = g.row.G.Denot} g.L.BlockLane.contents c.args.table.now c.args.tag.now c.args.held.now b u.result.1 (choice_state c.args.queue.now c.args.ring.now c.args.census.now) (choice_state c.args.queue.now c.args.ring.now c.args.census.now) c.in-Some.pin.frame [] c.args.seat.now.me.0 u.new.seat.me.0) c.is_some-ringed.ensures
-    (locates_now _ _ _ _ _ _ _ c.in-Some.pin.frame c.args.seat.now.me.0 u.new.seat.me.0 looks u.ensures.same)
+    (locates_now _ _ _ _ _ _ _ c.in-Some.pin.frame c.args.seat.now.me.0 u.new.seat.me.0 looks u.ensures.keeps.same)
 
 pub returns-in-Some-clause-hints : goal.returns-in-Some-clause-hints
 returns-in-Some-clause-hints g c = let u = c.look_up-found in
@@ -46,19 +42,16 @@ module _ (g : Over) (c : goal.After-claim g) where
   still = subst (λ (o : Option Pin). IfNone o (LinksRest c.args.held.now c.look_up-found.new.seat.me.0)) c.in_default.is c.look_up-found.ensures.rests
 
   since : OnlyRises c.args.seat.now.me.0 c.look_up-found.new.seat.me.0
-  since = grows_searched c.args.seat.now.me.0 c.look_up-found.new.seat.me.0 c.look_up-found.ensures.grows c.look_up-found.ensures.same
-
-pub returns-clause-advances : goal.returns-clause-advances
-returns-clause-advances g c = rises_on _ c.look_up-found.new.seat.me.0 _ (grows_searched c.args.seat.now.me.0 c.look_up-found.new.seat.me.0 c.look_up-found.ensures.grows c.look_up-found.ensures.same) c.claim.ensures.advances
+  since = c.look_up-found.ensures.keeps.rises
 
 pub returns-clause-met : goal.returns-clause-met
-returns-clause-met g c = c.claim.ensures.met ∙ ap (λ (m : FailedCalls). met_claimed c.claim.result m) (met_searched c.args.seat.now.me.0 c.look_up-found.new.seat.me.0 c.look_up-found.ensures.same)
+returns-clause-met g c = c.claim.ensures.met ∙ ap (λ (m : FailedCalls). met_claimed c.claim.result m) (met_searched c.args.seat.now.me.0 c.look_up-found.new.seat.me.0 c.look_up-found.ensures.keeps.same)
 
 pub returns-clause-calls : goal.returns-clause-calls
 returns-clause-calls g c = let u = c.look_up-found in let before = choice_state c.args.queue.now c.args.ring.now c.args.census.now in let after = choice_state c.claim.new.queue c.claim.new.ring c.claim.new.census in
     let claimed = subst (λ (b : Bool). ClaimAnswer {L = g.row.L.Denot} {G = g.row.G.Denot} g.L.BlockLane.contents c.args.table.now c.args.tag.now c.args.held.now b u.new.seat.me.0 before c.claim.new.seat.me.0 after c.claim.result) (sym c.is_some-ringed.ensures) c.claim.ensures.answer in
     subst (λ (b : Bool). PinAnswer {L = g.row.L.Denot} {G = g.row.G.Denot} g.L.BlockLane.contents c.args.table.now c.args.tag.now c.args.held.now b u.result.1 before after c.args.seat.now.me.0 c.claim.new.seat.me.0 c.claim.result) c.is_some-ringed.ensures
-    (answers_missed {L = g.row.L.Denot} {G = g.row.G.Denot} g.L.BlockLane.contents c.args.table.now c.args.tag.now c.args.held.now c.is_some-ringed.result before after u.result.1 c.args.seat.now.me.0 u.new.seat.me.0 c.claim.new.seat.me.0 c.claim.result c.requires.rests (still g c) (looks g c) u.ensures.same (since g c) c.claim.ensures.advances c.claim.ensures.calls claimed c.claim.ensures.unpushed)
+    (answers_missed {L = g.row.L.Denot} {G = g.row.G.Denot} g.L.BlockLane.contents c.args.table.now c.args.tag.now c.args.held.now c.is_some-ringed.result before after u.result.1 c.args.seat.now.me.0 u.new.seat.me.0 c.claim.new.seat.me.0 c.claim.result c.requires.ready.rests (still g c) (looks g c) u.ensures.keeps.same (since g c) c.claim.ensures.keeps.rises c.claim.ensures.calls claimed c.claim.ensures.unpushed)
 
 pub returns-clause-turns : goal.returns-clause-turns
 returns-clause-turns g c = turns_then _ _ _ _ c.args.seat.now.me.0 c.look_up-found.new.seat.me.0 c.claim.new.seat.me.0 _ (looks g c) c.look_up-found.ensures.turns c.claim.ensures.turns
@@ -66,8 +59,11 @@ returns-clause-turns g c = turns_then _ _ _ _ c.args.seat.now.me.0 c.look_up-fou
 pub returns-clause-hints : goal.returns-clause-hints
 returns-clause-hints g c = notes_then _ _ _ _ c.args.seat.now.me.0 c.look_up-found.new.seat.me.0 c.claim.new.seat.me.0 _ c.claim.result (looks g c) (same_hints g c) c.claim.ensures.hints
 
-pub returns-clause-locks : goal.returns-clause-locks
-returns-clause-locks g c = same_locks_on c.args.seat.now.me.0 c.look_up-found.new.seat.me.0 c.claim.new.seat.me.0 c.look_up-found.ensures.locks c.claim.ensures.locks
-
 pub returns-clause-census : goal.returns-clause-census
 returns-clause-census g c = census_claimed (frames_of c.args.table.now) c.args.census.now c.claim.new.census c.claim.result c.claim.ensures.census
+
+pub returns-in-Some-clause-keeps : goal.returns-in-Some-clause-keeps
+returns-in-Some-clause-keeps g c = searched_keeps c.look_up-found.ensures.keeps
+
+pub returns-clause-keeps : goal.returns-clause-keeps
+returns-clause-keeps g c = keeps_on (searched_keeps c.look_up-found.ensures.keeps) c.claim.ensures.keeps

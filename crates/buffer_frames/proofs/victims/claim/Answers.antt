@@ -4,28 +4,22 @@ use Rattle.clock_sweep.specs.FreeFrames.{QueueState}
 use Rattle.buffer_frames.specs.Bringing.{EntersAndStores}
 use Rattle.buffer_frames.specs.VictimChoices.{choice_state, none_tried, one_more}
 use Rattle.buffer_frames.specs.Working.{IsFlushCall}
-use Rattle.frame_table.proofs.Rising.{rises_none, rises_on}
-use Rattle.frame_table.proofs.SameSeats.{same_seat_on}
-use Rattle.buffer_frames.proofs.Keeping.{same_locks_on}
+use Rattle.frame_table.proofs.Rising.{rises_on}
 use Rattle.buffer_frames.proofs.Noting.{calls_by, calls_none, calls_on}
 use Rattle.buffer_frames.proofs.Trying.{refused_after, taken_then}
-use Rattle.buffer_frames.proofs.Outside.{grows_searched, kept_searched, met_searched}
+use Rattle.buffer_frames.proofs.Outside.{met_searched}
+use Rattle.buffer_frames.proofs.Keeps.{keeps_on, ready_keeps, searched_keeps}
 use Rattle.buffer_frames.proofs.victims.claim.Goals as goal
 
 pub loop-init : goal.loop-init
 loop-init g c = record {
-  seat = record { table = refl; id = refl; hand = refl };
-  stands = c.requires.stands;
+  keeps = ready_keeps c.requires.ready;
   queue = c.requires.queue;
   lasts = refl;
   unpushed = refl;
-  rests = c.requires.rests;
-  latches = c.requires.latches;
+  rests = c.requires.ready.rests;
   room = c.requires.census;
   ring = refl;
-  kept = refl;
-  advances = rises_none c.args.seat.now.me.0;
-  locks = λ f. refl;
   met = refl;
   calls = calls_none IsFlushCall c.args.seat.now.me.0 c.args.seat.now.me.0 refl;
   counted = c.requires.counted;
@@ -35,65 +29,46 @@ loop-init g c = record {
 }
 
 pub returns-in-Some-enter_or_pin-clause-calls : goal.returns-in-Some-enter_or_pin-clause-calls
-returns-in-Some-enter_or_pin-clause-calls g c = calls_on _ _ c.make_victim.new.seat.me.0 _ (calls_on _ _ c.loop.seat.me.0 _ c.loop.invariant.calls c.make_victim.ensures.calls) (calls_by _ c.make_victim.new.seat.me.0 c.enter_or_pin.new.seat.me.0 c.enter_or_pin.ensures.same)
+returns-in-Some-enter_or_pin-clause-calls g c = calls_on _ _ c.make_victim.new.seat.me.0 _ (calls_on _ _ c.loop.seat.me.0 _ c.loop.invariant.calls c.make_victim.ensures.calls) (calls_by _ c.make_victim.new.seat.me.0 c.enter_or_pin.new.seat.me.0 c.enter_or_pin.ensures.keeps.same)
 
 pub loop-preserved-in_default : goal.loop-preserved-in_default
 loop-preserved-in_default g c = let i = c.loop.invariant in let m = c.make_victim.ensures in let e = c.enter_or_pin.ensures in record {
-  seat = same_seat_on _ _ _ (same_seat_on _ _ _ i.seat m.seat) e.seat;
-  stands = e.stands;
+  keeps = keeps_on (keeps_on i.keeps m.keeps) (searched_keeps e.keeps);
   queue = e.queue;
   lasts = e.lasts ∙ m.lasts ∙ i.lasts;
   unpushed = ap (λ (x : QueueState). x.known.pushed) c.in_default.ensures.unpushed ∙ m.unpushed ∙ i.unpushed;
   rests = c.in_default.ensures.rests;
-  latches = e.latches;
   room = m.room ∙ i.room;
   ring = m.ring ∙ i.ring;
-  kept = kept_searched c.make_victim.new.seat.me.0 c.enter_or_pin.new.seat.me.0 e.same ∙ m.kept ∙ i.kept;
-  advances = rises_on _ c.make_victim.new.seat.me.0 _ (rises_on _ c.loop.seat.me.0 _ i.advances m.advances) (grows_searched c.make_victim.new.seat.me.0 c.enter_or_pin.new.seat.me.0 e.grows e.same);
-  locks = same_locks_on c.args.seat.now.me.0 c.make_victim.new.seat.me.0 c.enter_or_pin.new.seat.me.0 (same_locks_on c.args.seat.now.me.0 c.loop.seat.me.0 c.make_victim.new.seat.me.0 i.locks m.locks) e.locks;
   counted = e.counted;
   turns = (let a = i.turns in let b = m.turns in let d = e.turns in omega arith);
   hints = c.in_default.ensures.hints ∙ m.hints ∙ i.hints;
-  met = met_searched c.make_victim.new.seat.me.0 c.enter_or_pin.new.seat.me.0 e.same ∙ c.in-Ready.ensures.met ∙ i.met;
-  calls = calls_on _ _ c.make_victim.new.seat.me.0 _ (calls_on _ _ c.loop.seat.me.0 _ i.calls m.calls) (calls_by _ c.make_victim.new.seat.me.0 c.enter_or_pin.new.seat.me.0 e.same);
+  met = met_searched c.make_victim.new.seat.me.0 c.enter_or_pin.new.seat.me.0 e.keeps.same ∙ c.in-Ready.ensures.met ∙ i.met;
+  calls = calls_on _ _ c.make_victim.new.seat.me.0 _ (calls_on _ _ c.loop.seat.me.0 _ i.calls m.calls) (calls_by _ c.make_victim.new.seat.me.0 c.enter_or_pin.new.seat.me.0 e.keeps.same);
   tries = taken_then {L = g.row.L.Denot} {G = g.row.G.Denot} g.L.BlockLane.contents c.args.table.now c.in-Ready.victim.frame c.args.seat.now.me.0 c.loop.seat.me.0 c.make_victim.new.seat.me.0 c.enter_or_pin.new.seat.me.0 _ _ c.make_victim.new.queue c.enter_or_pin.new.queue c.make_victim.new.ring c.make_victim.new.census c.in_default.ensures.unpushed i.tries c.in-Ready.ensures.answer.2 c.in_default.ensures.gave_up;
 }
 
 pub returns-in-Refused-clause-answer : goal.returns-in-Refused-clause-answer
-returns-in-Refused-clause-answer g c = refused_after {L = g.row.L.Denot} {G = g.row.G.Denot} g.L.BlockLane.contents c.args.table.now c.args.held.now c.args.seat.now.me.0 c.loop.seat.me.0 c.args.seat.now.me.0 c.make_victim.new.seat.me.0 _ _ _ c.in-Refused.why c.requires.rests c.loop.invariant.rests c.loop.invariant.advances c.loop.invariant.tries c.in-Refused.ensures.answer.1
+returns-in-Refused-clause-answer g c = refused_after {L = g.row.L.Denot} {G = g.row.G.Denot} g.L.BlockLane.contents c.args.table.now c.args.held.now c.args.seat.now.me.0 c.loop.seat.me.0 c.args.seat.now.me.0 c.make_victim.new.seat.me.0 _ _ _ c.in-Refused.why c.requires.ready.rests c.loop.invariant.rests c.loop.invariant.keeps.rises c.loop.invariant.tries c.in-Refused.ensures.answer.1
 
 pub returns-in-Refused-clause-pinned : goal.returns-in-Refused-clause-pinned
 returns-in-Refused-clause-pinned g c = c.in-Refused.ensures.answer.0
-
-pub returns-in-Some-enter_or_pin-clause-locks : goal.returns-in-Some-enter_or_pin-clause-locks
-returns-in-Some-enter_or_pin-clause-locks g c = same_locks_on c.args.seat.now.me.0 c.make_victim.new.seat.me.0 c.enter_or_pin.new.seat.me.0 (same_locks_on c.args.seat.now.me.0 c.loop.seat.me.0 c.make_victim.new.seat.me.0 c.loop.invariant.locks c.make_victim.ensures.locks) c.enter_or_pin.ensures.locks
-
-pub returns-in-Refused-clause-locks : goal.returns-in-Refused-clause-locks
-returns-in-Refused-clause-locks g c = same_locks_on c.args.seat.now.me.0 c.loop.seat.me.0 c.make_victim.new.seat.me.0 c.loop.invariant.locks c.make_victim.ensures.locks
-
-pub returns-in-Some-enter_or_pin-clause-advances : goal.returns-in-Some-enter_or_pin-clause-advances
-returns-in-Some-enter_or_pin-clause-advances g c = rises_on _ c.make_victim.new.seat.me.0 _ (rises_on _ c.loop.seat.me.0 _ c.loop.invariant.advances c.make_victim.ensures.advances) (grows_searched c.make_victim.new.seat.me.0 c.enter_or_pin.new.seat.me.0 c.enter_or_pin.ensures.grows c.enter_or_pin.ensures.same)
 
 pub returns-in-Refused-clause-calls : goal.returns-in-Refused-clause-calls
 returns-in-Refused-clause-calls g c = calls_on _ _ c.loop.seat.me.0 _ c.loop.invariant.calls c.make_victim.ensures.calls
 
 pub loop-preserved : goal.loop-preserved
 loop-preserved g c = let i = c.loop.invariant in let m = c.make_victim.ensures in record {
-  seat = same_seat_on _ _ _ i.seat m.seat;
-  stands = m.stands;
+  keeps = keeps_on i.keeps m.keeps;
   queue = m.queue;
   lasts = m.lasts ∙ i.lasts;
   unpushed = m.unpushed ∙ i.unpushed;
   rests = c.in-Again.ensures.answer.0;
-  latches = m.latches;
   counted = m.counted;
   turns = (let a = i.turns in let b = m.turns in omega arith);
   hints = m.hints ∙ i.hints;
   room = m.room ∙ i.room;
   ring = m.ring ∙ i.ring;
-  kept = m.kept ∙ i.kept;
-  advances = rises_on _ c.loop.seat.me.0 _ i.advances m.advances;
-  locks = same_locks_on c.args.seat.now.me.0 c.loop.seat.me.0 c.make_victim.new.seat.me.0 i.locks m.locks;
   met = c.in-Again.ensures.met ∙ i.met;
   calls = calls_on _ _ c.loop.seat.me.0 _ i.calls m.calls;
   tries = one_more c.in-Again.ensures.answer.1.0 i.tries c.in-Again.ensures.answer.1.1;
@@ -108,10 +83,16 @@ returns-in-Some-enter_or_pin-clause-answer g c = record {
   chosen = c.make_victim.new.seat.me.0;
   popped = c.make_victim.new.queue;
   empties = c.in-Ready.ensures.answer.2;
-  before = rises_on _ c.loop.seat.me.0 _ c.loop.invariant.advances c.make_victim.ensures.advances;
+  before = rises_on _ c.loop.seat.me.0 _ c.loop.invariant.keeps.rises c.make_victim.ensures.keeps.rises;
   unpushed = c.make_victim.ensures.unpushed ∙ c.loop.invariant.unpushed;
   enters = subst (λ (b : Bool). EntersAndStores (frames_of c.args.table.now) c.args.tag c.args.held.now b c.in-Ready.victim.frame c.in-Some-enter_or_pin.pin.frame [] c.make_victim.new.seat.me.0 c.make_victim.new.queue c.enter_or_pin.new.seat.me.0 c.enter_or_pin.new.queue) c.is_some-ringed.ensures c.in-Some-enter_or_pin.ensures.stored;
 }
 
 pub returns-in-Refused-clause-unpushed : goal.returns-in-Refused-clause-unpushed
 returns-in-Refused-clause-unpushed g c = c.make_victim.ensures.unpushed ∙ c.loop.invariant.unpushed
+
+pub returns-in-Some-enter_or_pin-clause-keeps : goal.returns-in-Some-enter_or_pin-clause-keeps
+returns-in-Some-enter_or_pin-clause-keeps g c = keeps_on (keeps_on c.loop.invariant.keeps c.make_victim.ensures.keeps) (searched_keeps c.enter_or_pin.ensures.keeps)
+
+pub returns-in-Refused-clause-keeps : goal.returns-in-Refused-clause-keeps
+returns-in-Refused-clause-keeps g c = keeps_on c.loop.invariant.keeps c.make_victim.ensures.keeps

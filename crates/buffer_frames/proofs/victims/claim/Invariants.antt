@@ -1,6 +1,7 @@
-use Rattle.std.proofs.Common.{◌≡◌, ◌≤◌}
-use Rattle.frame_table.specs.Seats.{OnlyRises, SameSeat, frames_of}
-use Rattle.buffer_frames.specs.Rests.{HasNoLatch, LinksRest, Stands, SameLocks}
+use Rattle.std.proofs.Common.{◌≡◌, ◌≤◌, None}
+use Rattle.frame_table.specs.Seats.{frames_of}
+use Rattle.buffer_frames.specs.Rests.{LinksRest}
+use Rattle.buffer_frames.specs.Keeps.{Keeps}
 use Rattle.buffer_frames.specs.Outside.{kept_by_block_reads, ring_shape, shown_count}
 use Rattle.clock_sweep.specs.FreeFrames.{SameQueue}
 use Rattle.clock_sweep.specs.FreeLists.{IsFreeList}
@@ -11,18 +12,13 @@ use Rattle.buffer_frames.proofs.victims.claim.Given as goal
 
 abbrev pub invariant-loop : goal.invariant-loop
 invariant-loop g l = record {
-  seat : SameSeat l.fn.seat l.seat;
-  stands : Stands l.fn.table l.seat;
+  keeps : Keeps kept_by_block_reads None l.fn.table l.fn.seat l.seat;
   queue : IsFreeList l.fn.table l.fn.sweep l.queue;
   lasts : SameQueue l.fn.queue l.queue;
   unpushed : PushesNone l.fn.queue l.queue;
   rests : LinksRest l.fn.held l.seat.me.0;
-  latches : HasNoLatch l.seat.me.0;
   room : l.census.frames ≡ frames_of l.fn.table;
   ring : ring_shape l.ring ≡ ring_shape l.fn.ring;
-  kept : kept_by_block_reads l.seat.me.0 ≡ kept_by_block_reads l.fn.seat.me.0;
-  advances : OnlyRises l.fn.seat.me.0 l.seat.me.0;
-  locks : SameLocks l.fn.seat.me.0 l.seat.me.0;
   met : l.seat.me.0.met ≡ l.fn.seat.me.0.met;
   calls : Calls IsFlushCall l.fn.seat.me.0 l.seat.me.0;
   counted : l.turns ≡ shown_count l.seat.me.0.turns;

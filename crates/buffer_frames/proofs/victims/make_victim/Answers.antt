@@ -5,8 +5,7 @@ use Rattle.pin_core.specs.Kinds as kinds
 use Rattle.frame_table.specs.FrameSteps.{Did}
 use Rattle.frame_table.specs.Kinds.{pins}
 use Rattle.frame_table.specs.Seats.{lanes_in, tag_word}
-use Rattle.frame_table.proofs.Told.{grows_on}
-use Rattle.frame_table.proofs.Rising.{rises_none, rises_on}
+use Rattle.frame_table.proofs.Rising.{rises_none}
 use Rattle.buffer_frames.specs.declared.flushing.VictimPage.TheVariants.{Clean, Spared}
 use Rattle.buffer_frames.specs.Flushing.{EndedInError}
 use Rattle.buffer_frames.specs.Stages.{HasVictim}
@@ -14,11 +13,10 @@ use Rattle.buffer_frames.specs.VictimChoices.{ClearsTag, FindsInUse, IsDirtied, 
 use Rattle.buffer_frames.specs.Working.{IsFlushCall, Within}
 use Rattle.buffer_frames.proofs.Answering.{error_between}
 use Rattle.buffer_frames.proofs.Noting.{calls_through, shape_answered}
-use Rattle.buffer_frames.proofs.Outside.{calls_chosen, grows_outside, grows_searched, outside_chosen, outside_searched, rises_tagged}
+use Rattle.buffer_frames.proofs.Outside.{calls_chosen, outside_chosen, outside_searched}
 use Rattle.buffer_frames.proofs.Trying.{gives_up_now, tried}
 use Rattle.buffer_frames.proofs.WorkSteps.{made_none}
-use Rattle.buffer_frames.proofs.Keeping.{latches_same, same_locks_on}
-use Rattle.buffer_frames.proofs.SameLocks.{same_locks_victim}
+use Rattle.buffer_frames.proofs.Keeps.{and_same, chosen_keeps, keeps_on, keeps_tagged, keeps_works, searched_keeps, same_less}
 use Rattle.buffer_frames.proofs.victims.make_victim.Goals as goal
 
 pub returns-in_default-clause-answer : goal.returns-in_default-clause-answer
@@ -29,15 +27,15 @@ returns-in_default-clause-answer g c = (
 )
 
 pub returns-in-Ok-Spared-clause-answer : goal.returns-in-Ok-Spared-clause-answer
-returns-in-Ok-Spared-clause-answer g c = (c.give_up.ensures.rests, (c.in-Ok.chosen.pin.frame, spared (tried {L = g.row.L.Denot} {G = g.row.G.Denot} g.L.BlockLane.contents c.args.table.now c.in-Ok.chosen.pin.frame c.frame-frame.result c.in-Ok.chosen.from_ring c.in-Some.tag c.tag_of_victim.result c.args.seat.now.me.0 c.choose.new.seat.me.0 c.tag_of_victim.new.seat.me.0 c.flush_victim.new.seat.me.0 _ c.choose.new.queue c.choose.new.ring c.flush_victim.new.ring c.choose.new.census (Ok Spared) c.frame-frame.ensures c.in-Some.is c.in-Ok.ensures.did c.in-Some.ensures.tag c.in-Some.ensures.block (rises_tagged c.args.seat.now.me.0 c.choose.new.seat.me.0 c.tag_of_victim.new.seat.me.0 c.choose.ensures.grows c.choose.ensures.same c.tag_of_victim.ensures.grows c.tag_of_victim.ensures.same) c.tag_of_victim.ensures.did (rw c.in-Ok-Spared.field-0-is at c.in-Ok-Spared.ensures.answer) c.flush_victim.ensures.works) c.give_up.ensures.did))
+returns-in-Ok-Spared-clause-answer g c = (c.give_up.ensures.rests, (c.in-Ok.chosen.pin.frame, spared (tried {L = g.row.L.Denot} {G = g.row.G.Denot} g.L.BlockLane.contents c.args.table.now c.in-Ok.chosen.pin.frame c.frame-frame.result c.in-Ok.chosen.from_ring c.in-Some.tag c.tag_of_victim.result c.args.seat.now.me.0 c.choose.new.seat.me.0 c.tag_of_victim.new.seat.me.0 c.flush_victim.new.seat.me.0 _ c.choose.new.queue c.choose.new.ring c.flush_victim.new.ring c.choose.new.census (Ok Spared) c.frame-frame.ensures c.in-Some.is c.in-Ok.ensures.did c.in-Some.ensures.tag c.in-Some.ensures.block (keeps_tagged c.choose.ensures.keeps c.tag_of_victim.ensures.keeps).rises c.tag_of_victim.ensures.did (rw c.in-Ok-Spared.field-0-is at c.in-Ok-Spared.ensures.answer) c.flush_victim.ensures.works) c.give_up.ensures.did))
 
 pub returns-then-erase-clause-answer : goal.returns-then-erase-clause-answer
 returns-then-erase-clause-answer g c = (
   c.in-Ok.ensures.inside,
   subst (λ (f : ℕ). HasVictim f c.args.held.now c.erase.new.seat.me.0) c.frame-frame.ensures c.erase.ensures.victim,
-  emptied (tried {L = g.row.L.Denot} {G = g.row.G.Denot} g.L.BlockLane.contents c.args.table.now c.in-Ok.chosen.pin.frame c.frame-frame.result c.in-Ok.chosen.from_ring c.in-Some.tag c.tag_of_victim.result c.args.seat.now.me.0 c.choose.new.seat.me.0 c.tag_of_victim.new.seat.me.0 c.flush_victim.new.seat.me.0 _ c.choose.new.queue c.choose.new.ring c.flush_victim.new.ring c.choose.new.census (Ok Clean) c.frame-frame.ensures c.in-Some.is c.in-Ok.ensures.did c.in-Some.ensures.tag c.in-Some.ensures.block (rises_tagged c.args.seat.now.me.0 c.choose.new.seat.me.0 c.tag_of_victim.new.seat.me.0 c.choose.ensures.grows c.choose.ensures.same c.tag_of_victim.ensures.grows c.tag_of_victim.ensures.same) c.tag_of_victim.ensures.did (rw c.in-Ok-Clean.field-0-is at c.in-Ok-Clean.ensures.answer) c.flush_victim.ensures.works)
+  emptied (tried {L = g.row.L.Denot} {G = g.row.G.Denot} g.L.BlockLane.contents c.args.table.now c.in-Ok.chosen.pin.frame c.frame-frame.result c.in-Ok.chosen.from_ring c.in-Some.tag c.tag_of_victim.result c.args.seat.now.me.0 c.choose.new.seat.me.0 c.tag_of_victim.new.seat.me.0 c.flush_victim.new.seat.me.0 _ c.choose.new.queue c.choose.new.ring c.flush_victim.new.ring c.choose.new.census (Ok Clean) c.frame-frame.ensures c.in-Some.is c.in-Ok.ensures.did c.in-Some.ensures.tag c.in-Some.ensures.block (keeps_tagged c.choose.ensures.keeps c.tag_of_victim.ensures.keeps).rises c.tag_of_victim.ensures.did (rw c.in-Ok-Clean.field-0-is at c.in-Ok-Clean.ensures.answer) c.flush_victim.ensures.works)
       (subst (λ (f : ℕ). Within (ClearsTag f) c.flush_victim.new.seat.me.0 c.erase.new.seat.me.0) c.frame-frame.ensures c.if-erase.ensures.emptied)
-      c.erase.ensures.same,
+      c.erase.ensures.keeps.same,
 )
 
 pub returns-clause-answer : goal.returns-clause-answer
@@ -45,11 +43,11 @@ returns-clause-answer g c = let u = c.give_up-2 in (
   u.ensures.rests,
   (
     c.in-Ok.chosen.pin.frame,
-    in_use (tried {L = g.row.L.Denot} {G = g.row.G.Denot} g.L.BlockLane.contents c.args.table.now c.in-Ok.chosen.pin.frame c.frame-frame.result c.in-Ok.chosen.from_ring c.in-Some.tag c.tag_of_victim.result c.args.seat.now.me.0 c.choose.new.seat.me.0 c.tag_of_victim.new.seat.me.0 c.flush_victim.new.seat.me.0 _ c.choose.new.queue c.choose.new.ring c.flush_victim.new.ring c.choose.new.census (Ok Clean) c.frame-frame.ensures c.in-Some.is c.in-Ok.ensures.did c.in-Some.ensures.tag c.in-Some.ensures.block (rises_tagged c.args.seat.now.me.0 c.choose.new.seat.me.0 c.tag_of_victim.new.seat.me.0 c.choose.ensures.grows c.choose.ensures.same c.tag_of_victim.ensures.grows c.tag_of_victim.ensures.same) c.tag_of_victim.ensures.did (rw c.in-Ok-Clean.field-0-is at c.in-Ok-Clean.ensures.answer) c.flush_victim.ensures.works)
+    in_use (tried {L = g.row.L.Denot} {G = g.row.G.Denot} g.L.BlockLane.contents c.args.table.now c.in-Ok.chosen.pin.frame c.frame-frame.result c.in-Ok.chosen.from_ring c.in-Some.tag c.tag_of_victim.result c.args.seat.now.me.0 c.choose.new.seat.me.0 c.tag_of_victim.new.seat.me.0 c.flush_victim.new.seat.me.0 _ c.choose.new.queue c.choose.new.ring c.flush_victim.new.ring c.choose.new.census (Ok Clean) c.frame-frame.ensures c.in-Some.is c.in-Ok.ensures.did c.in-Some.ensures.tag c.in-Some.ensures.block (keeps_tagged c.choose.ensures.keeps c.tag_of_victim.ensures.keeps).rises c.tag_of_victim.ensures.did (rw c.in-Ok-Clean.field-0-is at c.in-Ok-Clean.ensures.answer) c.flush_victim.ensures.works)
         (gives_up_now (FindsInUse IsDirtied c.in-Ok.chosen.pin.frame) c.in-Ok.chosen.pin.frame c.flush_victim.new.seat.me.0 c.erase.new.seat.me.0 u.new.seat.me.0
         (subst (λ (f : ℕ). Within (FindsInUse IsDirtied f) c.flush_victim.new.seat.me.0 c.erase.new.seat.me.0) c.frame-frame.ensures c.if-erase.ensures.in_use)
         u.ensures.did
-        (outside_searched c.erase.new.seat.me.0 u.new.seat.me.0 u.ensures.same ∙ c.erase.ensures.same)),
+        (outside_searched c.erase.new.seat.me.0 u.new.seat.me.0 u.ensures.keeps.same ∙ c.erase.ensures.keeps.same)),
   ),
 )
 
@@ -68,23 +66,10 @@ returns-in-Err-clause-answer g c = let e = c.in-Err.ensures in let v = c.args.se
       counted = e.counted;
       pinned = e.each;
       ring = e.passed;
-      calls = made_none v c.choose.new.seat.me.0 (calls_chosen v c.choose.new.seat.me.0 c.choose.ensures.same);
+      calls = made_none v c.choose.new.seat.me.0 (calls_chosen v c.choose.new.seat.me.0 c.choose.ensures.keeps.same);
     },
   ),
 )
-
-pub returns-in-Ok-Spared-clause-advances : goal.returns-in-Ok-Spared-clause-advances
-returns-in-Ok-Spared-clause-advances g c =
-    let a = rises_tagged c.args.seat.now.me.0 c.choose.new.seat.me.0 c.tag_of_victim.new.seat.me.0 c.choose.ensures.grows c.choose.ensures.same c.tag_of_victim.ensures.grows c.tag_of_victim.ensures.same in
-    let b = rises_on c.args.seat.now.me.0 c.tag_of_victim.new.seat.me.0 c.flush_victim.new.seat.me.0 a c.flush_victim.ensures.works.advances in
-    rises_on c.args.seat.now.me.0 c.flush_victim.new.seat.me.0 c.give_up.new.seat.me.0 b (grows_outside c.flush_victim.new.seat.me.0 c.give_up.new.seat.me.0 c.give_up.ensures.grows c.give_up.ensures.same)
-
-pub returns-in-Err-flush_victim-clause-advances : goal.returns-in-Err-flush_victim-clause-advances
-returns-in-Err-flush_victim-clause-advances g c =
-    let a = rises_tagged c.args.seat.now.me.0 c.choose.new.seat.me.0 c.tag_of_victim.new.seat.me.0 c.choose.ensures.grows c.choose.ensures.same c.tag_of_victim.ensures.grows c.tag_of_victim.ensures.same in
-    let b = rises_on c.args.seat.now.me.0 c.tag_of_victim.new.seat.me.0 c.flush_victim.new.seat.me.0 a c.flush_victim.ensures.works.advances in
-    let u = c.give_up-in-Err-flush_victim in
-    rises_on c.args.seat.now.me.0 c.flush_victim.new.seat.me.0 u.new.seat.me.0 b (grows_outside c.flush_victim.new.seat.me.0 u.new.seat.me.0 u.ensures.grows u.ensures.same)
 
 pub returns-in-Err-flush_victim-clause-answer : goal.returns-in-Err-flush_victim-clause-answer
 returns-in-Err-flush_victim-clause-answer g c = let v = c.args.seat.now.me.0 in let x = c.flush_victim.new.seat.me.0 in let e = c.in-Err-flush_victim.ensures in let u = c.give_up-in-Err-flush_victim in (
@@ -96,58 +81,36 @@ returns-in-Err-flush_victim-clause-answer g c = let v = c.args.seat.now.me.0 in 
     since = rises_none v;
     frame = c.in-Ok.chosen.pin.frame;
     after = x;
-    tried = (tried {L = g.row.L.Denot} {G = g.row.G.Denot} g.L.BlockLane.contents c.args.table.now c.in-Ok.chosen.pin.frame c.frame-frame.result c.in-Ok.chosen.from_ring c.in-Some.tag c.tag_of_victim.result c.args.seat.now.me.0 c.choose.new.seat.me.0 c.tag_of_victim.new.seat.me.0 c.flush_victim.new.seat.me.0 _ c.choose.new.queue c.choose.new.ring c.flush_victim.new.ring c.choose.new.census (Err c.in-Err-flush_victim.why) c.frame-frame.ensures c.in-Some.is c.in-Ok.ensures.did c.in-Some.ensures.tag c.in-Some.ensures.block (rises_tagged c.args.seat.now.me.0 c.choose.new.seat.me.0 c.tag_of_victim.new.seat.me.0 c.choose.ensures.grows c.choose.ensures.same c.tag_of_victim.ensures.grows c.tag_of_victim.ensures.same) c.tag_of_victim.ensures.did e.answer c.flush_victim.ensures.works);
-    ended = subst (λ (f : ℕ). EndedInError f v x) c.frame-frame.ensures (error_between c.frame-frame.result v c.tag_of_victim.new.seat.me.0 x x (rises_tagged v c.choose.new.seat.me.0 c.tag_of_victim.new.seat.me.0 c.choose.ensures.grows c.choose.ensures.same c.tag_of_victim.ensures.grows c.tag_of_victim.ensures.same) e.ended refl (rises_none x));
+    tried = (tried {L = g.row.L.Denot} {G = g.row.G.Denot} g.L.BlockLane.contents c.args.table.now c.in-Ok.chosen.pin.frame c.frame-frame.result c.in-Ok.chosen.from_ring c.in-Some.tag c.tag_of_victim.result c.args.seat.now.me.0 c.choose.new.seat.me.0 c.tag_of_victim.new.seat.me.0 c.flush_victim.new.seat.me.0 _ c.choose.new.queue c.choose.new.ring c.flush_victim.new.ring c.choose.new.census (Err c.in-Err-flush_victim.why) c.frame-frame.ensures c.in-Some.is c.in-Ok.ensures.did c.in-Some.ensures.tag c.in-Some.ensures.block (keeps_tagged c.choose.ensures.keeps c.tag_of_victim.ensures.keeps).rises c.tag_of_victim.ensures.did e.answer c.flush_victim.ensures.works);
+    ended = subst (λ (f : ℕ). EndedInError f v x) c.frame-frame.ensures (error_between c.frame-frame.result v c.tag_of_victim.new.seat.me.0 x x (keeps_tagged c.choose.ensures.keeps c.tag_of_victim.ensures.keeps).rises e.ended refl (rises_none x));
     wakes = u.ensures.did;
-    until = u.ensures.same;
+    until = u.ensures.keeps.same;
   },
 )
 
-pub returns-then-erase-clause-advances : goal.returns-then-erase-clause-advances
-returns-then-erase-clause-advances g c =
-    let a = rises_tagged c.args.seat.now.me.0 c.choose.new.seat.me.0 c.tag_of_victim.new.seat.me.0 c.choose.ensures.grows c.choose.ensures.same c.tag_of_victim.ensures.grows c.tag_of_victim.ensures.same in
-    let b = rises_on c.args.seat.now.me.0 c.tag_of_victim.new.seat.me.0 c.flush_victim.new.seat.me.0 a c.flush_victim.ensures.works.advances in
-    rises_on c.args.seat.now.me.0 c.flush_victim.new.seat.me.0 c.erase.new.seat.me.0 b (grows_searched c.flush_victim.new.seat.me.0 c.erase.new.seat.me.0 c.erase.ensures.grows c.erase.ensures.same)
-
-pub returns-clause-advances : goal.returns-clause-advances
-returns-clause-advances g c =
-    let a = rises_tagged c.args.seat.now.me.0 c.choose.new.seat.me.0 c.tag_of_victim.new.seat.me.0 c.choose.ensures.grows c.choose.ensures.same c.tag_of_victim.ensures.grows c.tag_of_victim.ensures.same in
-    let b = rises_on c.args.seat.now.me.0 c.tag_of_victim.new.seat.me.0 c.flush_victim.new.seat.me.0 a c.flush_victim.ensures.works.advances in
-    let u = c.give_up-2 in
-    rises_on c.args.seat.now.me.0 c.flush_victim.new.seat.me.0 u.new.seat.me.0 b (grows_searched c.flush_victim.new.seat.me.0 u.new.seat.me.0 (grows_on _ c.erase.new.seat.me.0 _ c.erase.ensures.grows u.ensures.grows) (outside_searched c.erase.new.seat.me.0 u.new.seat.me.0 u.ensures.same ∙ c.erase.ensures.same))
-
-pub returns-in_default-clause-locks : goal.returns-in_default-clause-locks
-returns-in_default-clause-locks g c = same_locks_on c.args.seat.now.me.0 c.choose.new.seat.me.0 c.tag_of_victim.new.seat.me.0 c.choose.ensures.locks c.tag_of_victim.ensures.locks
-
-pub returns-in-Ok-Spared-clause-locks : goal.returns-in-Ok-Spared-clause-locks
-returns-in-Ok-Spared-clause-locks g c = same_locks_on c.args.seat.now.me.0 c.flush_victim.new.seat.me.0 c.give_up.new.seat.me.0 (same_locks_on c.args.seat.now.me.0 c.tag_of_victim.new.seat.me.0 c.flush_victim.new.seat.me.0 (same_locks_on c.args.seat.now.me.0 c.choose.new.seat.me.0 c.tag_of_victim.new.seat.me.0 c.choose.ensures.locks c.tag_of_victim.ensures.locks) (same_locks_victim c.args.held.now c.frame-frame.result c.tag_of_victim.new.seat.me.0 c.flush_victim.new.seat.me.0 c.flush_victim.ensures.works c.tag_of_victim.ensures.victim c.flush_victim.ensures.victim)) c.give_up.ensures.locks
-
-pub returns-in-Err-flush_victim-clause-locks : goal.returns-in-Err-flush_victim-clause-locks
-returns-in-Err-flush_victim-clause-locks g c = same_locks_on c.args.seat.now.me.0 c.flush_victim.new.seat.me.0 c.give_up-in-Err-flush_victim.new.seat.me.0 (same_locks_on c.args.seat.now.me.0 c.tag_of_victim.new.seat.me.0 c.flush_victim.new.seat.me.0 (same_locks_on c.args.seat.now.me.0 c.choose.new.seat.me.0 c.tag_of_victim.new.seat.me.0 c.choose.ensures.locks c.tag_of_victim.ensures.locks) (same_locks_victim c.args.held.now c.frame-frame.result c.tag_of_victim.new.seat.me.0 c.flush_victim.new.seat.me.0 c.flush_victim.ensures.works c.tag_of_victim.ensures.victim c.flush_victim.ensures.victim)) c.give_up-in-Err-flush_victim.ensures.locks
-
-pub returns-then-erase-clause-locks : goal.returns-then-erase-clause-locks
-returns-then-erase-clause-locks g c = same_locks_on c.args.seat.now.me.0 c.flush_victim.new.seat.me.0 c.erase.new.seat.me.0 (same_locks_on c.args.seat.now.me.0 c.tag_of_victim.new.seat.me.0 c.flush_victim.new.seat.me.0 (same_locks_on c.args.seat.now.me.0 c.choose.new.seat.me.0 c.tag_of_victim.new.seat.me.0 c.choose.ensures.locks c.tag_of_victim.ensures.locks) (same_locks_victim c.args.held.now c.frame-frame.result c.tag_of_victim.new.seat.me.0 c.flush_victim.new.seat.me.0 c.flush_victim.ensures.works c.tag_of_victim.ensures.victim c.flush_victim.ensures.victim)) c.erase.ensures.locks
-
-pub returns-clause-locks : goal.returns-clause-locks
-returns-clause-locks g c = same_locks_on c.args.seat.now.me.0 c.erase.new.seat.me.0 c.give_up-2.new.seat.me.0 (same_locks_on c.args.seat.now.me.0 c.flush_victim.new.seat.me.0 c.erase.new.seat.me.0 (same_locks_on c.args.seat.now.me.0 c.tag_of_victim.new.seat.me.0 c.flush_victim.new.seat.me.0 (same_locks_on c.args.seat.now.me.0 c.choose.new.seat.me.0 c.tag_of_victim.new.seat.me.0 c.choose.ensures.locks c.tag_of_victim.ensures.locks) (same_locks_victim c.args.held.now c.frame-frame.result c.tag_of_victim.new.seat.me.0 c.flush_victim.new.seat.me.0 c.flush_victim.ensures.works c.tag_of_victim.ensures.victim c.flush_victim.ensures.victim)) c.erase.ensures.locks) c.give_up-2.ensures.locks
-
-pub returns-in-Err-flush_victim-clause-latches : goal.returns-in-Err-flush_victim-clause-latches
-returns-in-Err-flush_victim-clause-latches g c = let u = c.give_up-in-Err-flush_victim in latches_same c.flush_victim.new.seat.me.0 u.new.seat.me.0 u.ensures.partitions c.flush_victim.ensures.latches
-
 pub returns-in-Err-flush_victim-clause-calls : goal.returns-in-Err-flush_victim-clause-calls
-returns-in-Err-flush_victim-clause-calls g c = let u = c.give_up-in-Err-flush_victim in calls_through IsFlushCall c.args.seat.now.me.0 c.tag_of_victim.new.seat.me.0 c.flush_victim.new.seat.me.0 u.new.seat.me.0 (outside_chosen c.choose.new.seat.me.0 c.tag_of_victim.new.seat.me.0 c.tag_of_victim.ensures.same ∙ c.choose.ensures.same) c.flush_victim.ensures.calls u.ensures.same
-
-pub returns-in_default-clause-advances : goal.returns-in_default-clause-advances
-returns-in_default-clause-advances g c = rises_tagged c.args.seat.now.me.0 c.choose.new.seat.me.0 c.tag_of_victim.new.seat.me.0 c.choose.ensures.grows c.choose.ensures.same c.tag_of_victim.ensures.grows c.tag_of_victim.ensures.same
-
-pub returns-in-Ok-Spared-clause-latches : goal.returns-in-Ok-Spared-clause-latches
-returns-in-Ok-Spared-clause-latches g c = latches_same c.flush_victim.new.seat.me.0 c.give_up.new.seat.me.0 c.give_up.ensures.partitions c.flush_victim.ensures.latches
+returns-in-Err-flush_victim-clause-calls g c = let u = c.give_up-in-Err-flush_victim in calls_through IsFlushCall c.args.seat.now.me.0 c.tag_of_victim.new.seat.me.0 c.flush_victim.new.seat.me.0 u.new.seat.me.0 (outside_chosen c.choose.new.seat.me.0 c.tag_of_victim.new.seat.me.0 c.tag_of_victim.ensures.keeps.same ∙ c.choose.ensures.keeps.same) c.flush_victim.ensures.calls u.ensures.keeps.same
 
 pub returns-in-Ok-Spared-clause-ring : goal.returns-in-Ok-Spared-clause-ring
 returns-in-Ok-Spared-clause-ring g c = shape_answered {L = g.row.L.Denot} {G = g.row.G.Denot} g.L.BlockLane.contents c.args.table.now (lane_number c.in-Some.tag (lanes_in c.args.table.now)) c.in-Some.tag c.frame-frame.result c.in-Ok.chosen.from_ring c.choose.new.ring c.flush_victim.new.ring c.tag_of_victim.new.seat.me.0 c.flush_victim.new.seat.me.0 (Ok Spared) (rw c.in-Ok-Spared.field-0-is at c.in-Ok-Spared.ensures.answer) ∙ c.choose.ensures.ring
 
 pub returns-in-Ok-Spared-clause-calls : goal.returns-in-Ok-Spared-clause-calls
-returns-in-Ok-Spared-clause-calls g c = calls_through IsFlushCall c.args.seat.now.me.0 c.tag_of_victim.new.seat.me.0 c.flush_victim.new.seat.me.0 c.give_up.new.seat.me.0 (outside_chosen c.choose.new.seat.me.0 c.tag_of_victim.new.seat.me.0 c.tag_of_victim.ensures.same ∙ c.choose.ensures.same) c.flush_victim.ensures.calls c.give_up.ensures.same
+returns-in-Ok-Spared-clause-calls g c = calls_through IsFlushCall c.args.seat.now.me.0 c.tag_of_victim.new.seat.me.0 c.flush_victim.new.seat.me.0 c.give_up.new.seat.me.0 (outside_chosen c.choose.new.seat.me.0 c.tag_of_victim.new.seat.me.0 c.tag_of_victim.ensures.keeps.same ∙ c.choose.ensures.keeps.same) c.flush_victim.ensures.calls c.give_up.ensures.keeps.same
 
-pub returns-clause-latches : goal.returns-clause-latches
-returns-clause-latches g c = latches_same c.erase.new.seat.me.0 c.give_up-2.new.seat.me.0 c.give_up-2.ensures.partitions c.erase.ensures.latches
+pub returns-in-Err-clause-keeps : goal.returns-in-Err-clause-keeps
+returns-in-Err-clause-keeps g c = chosen_keeps c.choose.ensures.keeps
+
+pub returns-in_default-clause-keeps : goal.returns-in_default-clause-keeps
+returns-in_default-clause-keeps g c = keeps_tagged c.choose.ensures.keeps c.tag_of_victim.ensures.keeps
+
+pub returns-in-Ok-Spared-clause-keeps : goal.returns-in-Ok-Spared-clause-keeps
+returns-in-Ok-Spared-clause-keeps g c = let w = c.flush_victim.ensures in and_same (keeps_on (keeps_tagged c.choose.ensures.keeps c.tag_of_victim.ensures.keeps) (keeps_works c.frame-frame.result w.seat w.stands w.latches w.works c.tag_of_victim.ensures.victim.unlocked w.victim.unlocked)) (same_less c.give_up.ensures.keeps) c.give_up.ensures.stands c.give_up.ensures.partitions
+
+pub returns-in-Err-flush_victim-clause-keeps : goal.returns-in-Err-flush_victim-clause-keeps
+returns-in-Err-flush_victim-clause-keeps g c = let w = c.flush_victim.ensures in and_same (keeps_on (keeps_tagged c.choose.ensures.keeps c.tag_of_victim.ensures.keeps) (keeps_works c.frame-frame.result w.seat w.stands w.latches w.works c.tag_of_victim.ensures.victim.unlocked w.victim.unlocked)) (same_less c.give_up-in-Err-flush_victim.ensures.keeps) c.give_up-in-Err-flush_victim.ensures.stands c.give_up-in-Err-flush_victim.ensures.partitions
+
+pub returns-then-erase-clause-keeps : goal.returns-then-erase-clause-keeps
+returns-then-erase-clause-keeps g c = let w = c.flush_victim.ensures in keeps_on (keeps_on (keeps_tagged c.choose.ensures.keeps c.tag_of_victim.ensures.keeps) (keeps_works c.frame-frame.result w.seat w.stands w.latches w.works c.tag_of_victim.ensures.victim.unlocked w.victim.unlocked)) (searched_keeps c.erase.ensures.keeps)
+
+pub returns-clause-keeps : goal.returns-clause-keeps
+returns-clause-keeps g c = let w = c.flush_victim.ensures in and_same (keeps_on (keeps_on (keeps_tagged c.choose.ensures.keeps c.tag_of_victim.ensures.keeps) (keeps_works c.frame-frame.result w.seat w.stands w.latches w.works c.tag_of_victim.ensures.victim.unlocked w.victim.unlocked)) (searched_keeps c.erase.ensures.keeps)) (same_less c.give_up-2.ensures.keeps) c.give_up-2.ensures.stands c.give_up-2.ensures.partitions

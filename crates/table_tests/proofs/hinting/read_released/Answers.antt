@@ -5,9 +5,9 @@ pub returns-in-Ok : goal.returns-in-Ok
 returns-in-Ok g c =
     let e = c.in-Ok.ensures in
     let u = c.unpin_and_wake.ensures in
-    rests_given_up _ _ _ _ _ _ c.requires.none e.stands e.latches e.answer.1 u.seat u.touches u.unpinned
+    rests_given_up _ _ _ _ _ _ c.requires.none e.keeps.stands e.keeps.latches e.answer.1 u.seat u.touches u.unpinned
 
 pub returns : goal.returns
 returns g c =
     let e = c.in-Err.ensures in
-    rests_stood _ _ _ c.requires.none e.stands (rests_refused _ _ _ _ c.args.seat.now.me.0 c.read_block.new.seat.me.0 c.in-Err._why e.answer) e.latches
+    rests_stood _ _ _ c.requires.none e.keeps.stands (rests_refused _ _ _ _ c.args.seat.now.me.0 c.read_block.new.seat.me.0 c.in-Err._why e.answer) e.keeps.latches

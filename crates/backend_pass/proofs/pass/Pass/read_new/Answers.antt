@@ -24,10 +24,10 @@ invariant_of-self g c =
     let e = c.in-Ok.ensures in
     let v = view_in c.self.inside.seat.views in
     let w = view_in c.read_seated.new.badge.views in (
-      e.badge.one,
-      subst (λ (t : Tokens). OnlyTokens t w) (sym c.add_pin.ensures.tokens) (rests_pinned (packed_tag c.args.tag.now) c.in-Ok.field-0.pin.frame c.self.inside.held w e.quiet e.latches e.answer.1 e.answer.2),
-      subst (λ (id : ℕ). IsNumbered c.self.inside.number id w) (sym e.badge.id) (numbered_kept c.self.inside.number c.self.inside.seat.id v w (ap (λ (x : View). x.number) e.kept) i.2),
-      shown_met v w (padded_value c.self.inside.shown) (ap (λ (x : View). x.front) e.kept) e.met i.3,
+      e.keeps.badge.one,
+      subst (λ (t : Tokens). OnlyTokens t w) (sym c.add_pin.ensures.tokens) (rests_pinned (packed_tag c.args.tag.now) c.in-Ok.field-0.pin.frame c.self.inside.held w e.keeps.quiet e.keeps.latches e.answer.1 e.answer.2),
+      subst (λ (id : ℕ). IsNumbered c.self.inside.number id w) (sym e.keeps.badge.id) (numbered_kept c.self.inside.number c.self.inside.seat.id v w (ap (λ (x : View). x.number) e.keeps.same) i.2),
+      shown_met v w (padded_value c.self.inside.shown) (ap (λ (x : View). x.front) e.keeps.same) e.met i.3,
       subst (λ (frames : ℕ). frames ≤ vec_capacity c.self.inside.marked) (sym e.room) i.4,
       e.counted,
     )
@@ -40,10 +40,10 @@ invariant_of-self-in-Err g c =
     let w = view_in c.read_seated.new.badge.views in
     let met : w.met ≡ met_read_refused c.refused-why.result v.met = e.met ∙ met_of_refusal c.in-Err.cause v.met ∙ ap (λ (y : ReadError). met_read_refused y v.met) (sym c.refused-why.ensures) in
     let shown : padded_value c.new-self-inside.result ≡ shown_after c.refused-why.result (padded_value c.self.inside.shown) = c.new-self-inside.ensures ∙ c.after-shown.ensures ∙ ap (shown_after c.refused-why.result) c.deref.ensures in (
-      e.badge.one,
-      record { quiet = e.quiet; links = links_refused {L = g.row.L.Denot} {G = g.row.G.Denot} g.L.BlockLane.contents c.args.manager.now.table c.args.tag.now c.self.inside.held v w c.in-Err.cause e.answer; latches = e.latches },
-      subst (λ (id : ℕ). IsNumbered c.self.inside.number id w) (sym e.badge.id) (numbered_kept c.self.inside.number c.self.inside.seat.id v w (ap (λ (x : View). x.number) e.kept) i.2),
-      subst (IsShown w) (sym shown) (shown_refused v w (padded_value c.self.inside.shown) c.refused-why.result (ap (λ (x : View). x.front) e.kept) met i.3),
+      e.keeps.badge.one,
+      record { quiet = e.keeps.quiet; links = links_refused {L = g.row.L.Denot} {G = g.row.G.Denot} g.L.BlockLane.contents c.args.manager.now.table c.args.tag.now c.self.inside.held v w c.in-Err.cause e.answer; latches = e.keeps.latches },
+      subst (λ (id : ℕ). IsNumbered c.self.inside.number id w) (sym e.keeps.badge.id) (numbered_kept c.self.inside.number c.self.inside.seat.id v w (ap (λ (x : View). x.number) e.keeps.same) i.2),
+      subst (IsShown w) (sym shown) (shown_refused v w (padded_value c.self.inside.shown) c.refused-why.result (ap (λ (x : View). x.front) e.keeps.same) met i.3),
       subst (λ (frames : ℕ). frames ≤ vec_capacity c.self.inside.marked) (sym e.room) i.4,
       e.counted,
     )
@@ -51,14 +51,14 @@ invariant_of-self-in-Err g c =
 pub returns-in-Ok-clause-belongs : goal.returns-in-Ok-clause-belongs
 returns-in-Ok-clause-belongs g c =
     let e = c.in-Ok.ensures in
-    belongs_with {L = g.row.L.Denot} {G = g.row.G.Denot} g.L.BlockLane.contents c.args.manager.now _ _ c.args.tag.now c.in-Ok.field-0.pin.frame e.badge.table (λ i. record { frames = e.room i; queue = e.lasts i }) (ap (λ (x : View). x.calls) e.kept) (ap (λ (x : View). x.front) e.kept) e.advances.end_seen c.add_pin.ensures.tokens e.answer.1.new e.answer.0 c.requires.tag c.requires.block
+    belongs_with {L = g.row.L.Denot} {G = g.row.G.Denot} g.L.BlockLane.contents c.args.manager.now _ _ c.args.tag.now c.in-Ok.field-0.pin.frame e.keeps.badge.table (λ i. record { frames = e.room i; queue = e.lasts i }) (ap (λ (x : View). x.calls) e.keeps.same) (ap (λ (x : View). x.front) e.keeps.same) e.keeps.rises.end_seen c.add_pin.ensures.tokens e.answer.1.new e.answer.0 c.requires.tag c.requires.block
     (subst (λ (p : PassState). IsNew c.args.tag.now p.tokens) (sym c.self.view_is) c.requires.new) e.answer.3
     (subst (Belongs {L = g.row.L.Denot} {G = g.row.G.Denot} g.L.BlockLane.contents c.args.manager.now) (sym c.self.view_is) c.requires.belongs)
 
 pub returns-in-Err-clause-belongs : goal.returns-in-Err-clause-belongs
 returns-in-Err-clause-belongs g c =
     let e = c.in-Err.ensures in
-    belongs_held {L = g.row.L.Denot} {G = g.row.G.Denot} g.L.BlockLane.contents c.args.manager.now _ _ e.badge.table (λ i. record { frames = e.room i; queue = e.lasts i }) (ap (λ (x : View). x.calls) e.kept) (ap (λ (x : View). x.front) e.kept) e.advances.end_seen (λ f h at. (h, at, refl))
+    belongs_held {L = g.row.L.Denot} {G = g.row.G.Denot} g.L.BlockLane.contents c.args.manager.now _ _ e.keeps.badge.table (λ i. record { frames = e.room i; queue = e.lasts i }) (ap (λ (x : View). x.calls) e.keeps.same) (ap (λ (x : View). x.front) e.keeps.same) e.keeps.rises.end_seen (λ f h at. (h, at, refl))
     (subst (Belongs {L = g.row.L.Denot} {G = g.row.G.Denot} g.L.BlockLane.contents c.args.manager.now) (sym c.self.view_is) c.requires.belongs)
 
 pub returns-in-Ok-clause-answer : goal.returns-in-Ok-clause-answer
@@ -77,10 +77,10 @@ returns-in-Err-clause-met g c =
     c.in-Err.ensures.met ∙ met_of_refusal c.in-Err.cause v.met ∙ ap (λ (y : ReadError). met_read_refused y v.met) (sym c.refused-why.ensures) ∙ ap (λ (p : PassState). met_read_refused c.refused-why.result p.view.met) c.self.view_is
 
 pub returns-in-Ok-clause-locks : goal.returns-in-Ok-clause-locks
-returns-in-Ok-clause-locks g c = subst (λ (p : PassState). SameLocks p.view (view_in c.read_seated.new.badge.views)) c.self.view_is c.in-Ok.ensures.locks
+returns-in-Ok-clause-locks g c = subst (λ (p : PassState). SameLocks p.view (view_in c.read_seated.new.badge.views)) c.self.view_is c.in-Ok.ensures.keeps.locks
 
 pub returns-in-Err-clause-locks : goal.returns-in-Err-clause-locks
-returns-in-Err-clause-locks g c = subst (λ (p : PassState). SameLocks p.view (view_in c.read_seated.new.badge.views)) c.self.view_is c.in-Err.ensures.locks
+returns-in-Err-clause-locks g c = subst (λ (p : PassState). SameLocks p.view (view_in c.read_seated.new.badge.views)) c.self.view_is c.in-Err.ensures.keeps.locks
 
 pub returns-in-Ok-clause-back : goal.returns-in-Ok-clause-back
 returns-in-Ok-clause-back g c = ap (λ (f : ℕ). tokens_less f c.add_pin.new.self) c.frame-frame.ensures ∙ c.add_pin.ensures.back ∙ ap (λ (p : PassState). p.tokens) c.self.view_is
