@@ -10,6 +10,7 @@ ghost use Rattle.backend_pass.specs.Closing.{joined_queues, joined_views};
 use crate::manager::Manager;
 use crate::pass::Pass;
 use atomic_table::Seat;
+use buffer_frames::Backend;
 use clock_sweep::QueuePass;
 use frame_table::Value;
 use log_device::LogDevice;
@@ -36,14 +37,17 @@ impl Pass {
         let Pass {
             number: _,
             seat,
-            queue,
             held,
-            sought: _,
-            census: _,
+            backend,
             marked: _,
-            page: _,
             shown: _,
         } = self;
+        let Backend {
+            queue,
+            census: _,
+            page: _,
+            lookups: _,
+        } = backend;
         held.spend();
         (seat.into_seat::<Value<L, G>>(), queue)
     }

@@ -177,7 +177,7 @@ impl Pass {
             rt,
             &mut self.seat,
             &self.held,
-            &mut self.page,
+            &mut self.backend.page,
             frame,
             tag,
         ) {

@@ -6,27 +6,23 @@ use crate::met::{Met, Shown};
 use crate::pinned::Pinned;
 use crate::seats::{return_seat, take_seat};
 use atomic_table::Badge;
-use buffer_frames::{HeldPins, HintSeen, Sought};
+use buffer_frames::{Backend, HeldPins, HintSeen};
 use cleanup_lock::unpin_and_wake;
-use clock_sweep::{Census, QueuePass};
 use crossbeam_utils::CachePadded;
 use log_device::LogDevice;
-use page_layout::{Lsn, Page};
+use page_layout::Lsn;
 use pin_core::View;
 use segment_store::BlockLane;
 use std::marker::Model;
 use std::sync::Wait;
 
-/// A backend of a manager: the seat that it works with, its pass of the free list, the pins that it has handed out, what it keeps of its look-ups, and room of its own for a census, for the frames that a checkpoint marks, and for a page. `Manager::close` takes it back.
+/// A backend of a manager: the seat that it works with, the pins that it has handed out, what else it has of its own, and room for the frames that a checkpoint marks. `Manager::close` takes it back.
 pub struct Pass {
     pub(crate) number: u32,
     pub(crate) seat: Badge<View>,
-    pub(crate) queue: QueuePass,
     pub(crate) held: HeldPins,
-    pub(crate) sought: Sought,
-    pub(crate) census: Census,
+    pub(crate) backend: Backend,
     pub(crate) marked: Vec<MarkedFrame>,
-    pub(crate) page: Page,
     pub(crate) shown: CachePadded<Shown>,
 }
 
@@ -43,11 +39,11 @@ impl Model for Pass {
       table = p.seat.table_id;
       id = p.seat.id;
       view = view_in p.seat.views;
-      queue = p.queue;
+      queue = p.backend.queue;
       tokens = p.held;
-      census = p.census;
+      census = p.backend.census;
       marked = p.marked.items;
-      hint = p.sought.hint;
+      hint = p.backend.lookups.hint;
     } };
 
     // Its seat has one view, which holds what its tokens say and nothing else. It has room to mark each frame, and counts the latches of partitions that it took.
@@ -56,8 +52,8 @@ impl Model for Pass {
         × OnlyTokens p.held v
         × IsNumbered p.number p.seat.id v
         × IsShown v (padded_value p.shown)
-        × (p.census.frames ≤ vec_capacity p.marked)
-        × (p.sought.turns ≡ shown_count v.turns) };
+        × (p.backend.census.frames ≤ vec_capacity p.marked)
+        × (p.backend.lookups.turns ≡ shown_count v.turns) };
 }
 
 impl Pass {
@@ -91,21 +87,21 @@ impl Pass {
     pub fn turns(&self) -> u64
         ensures { result ≡ shown_count self.now.view.turns }
     {
-        self.sought.turns
+        self.backend.lookups.turns
     }
 
     /// What the last `read_buffer` saw of its block's hint.
     pub fn hint_seen(&self) -> HintSeen
         ensures { result ≡ self.now.hint }
     {
-        self.sought.hint
+        self.backend.lookups.hint
     }
 
     /// The state words of the frames, from frame 0 on, if the last choice of a victim found every frame pinned; else empty. They were loaded at different moments.
     pub fn census(&self) -> &[u64]
         ensures { result.now ≡ self.now.census.words }
     {
-        self.census.census()
+        self.backend.census.census()
     }
 
     /// Releases a token (`ReleaseBuffer`). The last token of a frame gives up its pin.

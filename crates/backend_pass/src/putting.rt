@@ -130,7 +130,7 @@ impl Pass {
         let frame = exclusive.pinned.frame;
         let tag = exclusive.pinned.tag;
         show_block(&manager.table, tag);
-        self.page.copy_from(page);
+        self.backend.page.copy_from(page);
         match put_seated(
             &manager.table,
             rt,
@@ -138,7 +138,7 @@ impl Pass {
             &self.held,
             frame,
             tag,
-            &mut self.page,
+            &mut self.backend.page,
         ) {
             Ok(lsn) => {
                 let met = self.shown.met;

@@ -3,13 +3,11 @@ ghost use Rattle.std.specs.Prelude.{◌≡◌, true, is_some};
 ghost use Rattle.block_tag.specs.Names.{lane_number, names_block};
 ghost use Rattle.table_rule.specs.Blocks.{has_block};
 ghost use Rattle.frame_table.specs.Seats.{frames_of, lanes_in, relations_of};
-ghost use Rattle.clock_sweep.specs.FreeFrames.{SameQueue};
-ghost use Rattle.clock_sweep.specs.FreeLists.{IsFreeList};
+ghost use Rattle.buffer_frames.specs.Backends.{IsFurnished, KeepsOwn, choice_of};
 ghost use Rattle.buffer_frames.specs.Tokens.{IsNew};
 ghost use Rattle.buffer_frames.specs.Hinting.{TakesTurns};
-ghost use Rattle.buffer_frames.specs.Outside.{kept_by_block_reads, ring_shape, shown_count};
+ghost use Rattle.buffer_frames.specs.Outside.{kept_by_block_reads, ring_shape};
 ghost use Rattle.buffer_frames.specs.Reads.{CensusRead, ReadAnswer, ReadCalls, ReadNotes, met_read_block};
-ghost use Rattle.buffer_frames.specs.VictimChoices.{choice_state};
 ghost use Rattle.backend_pass.specs.Passes.{view_in};
 ghost use Rattle.backend_pass.specs.Seats.{IsSeated, KeepsBadge};
 ghost use Rattle.backend_pass.specs.Reading.{read_refusal, shown_after};
@@ -24,13 +22,11 @@ use access_rings::Ring;
 use atomic_table::Badge;
 use block_tag::Tag;
 use buffer_frames::{
-    BlockError, FrameFlushError, HeldPins, HintSeen, MOST_TOKENS, PinnedBlock, Sought, VictimError,
-    read_block,
+    Backend, BlockError, FrameFlushError, HeldPins, HintSeen, MOST_TOKENS, PinnedBlock,
+    VictimError, read_block,
 };
-use clock_sweep::{Census, QueuePass};
 use crossbeam_utils::CachePadded;
 use log_device::LogDevice;
-use page_layout::Page;
 use pin_core::View;
 use segment_store::BlockLane;
 use std::sync::Wait;
@@ -106,36 +102,29 @@ fn read_seated<L: BlockLane, G: LogDevice, R: Wait>(
     rt: &R,
     badge: &mut Badge<View>,
     held: &HeldPins,
-    queue: &mut QueuePass,
-    census: &mut Census,
-    page: &mut Page,
+    backend: &mut Backend,
     tag: &Tag,
     ring: &mut Option<Ring>,
-    sought: &mut Sought,
 ) -> Result<PinnedBlock, BlockError>
     requires seated { IsSeated manager.now.table.table.shared.table_id held.now badge.old }
-    requires queue { IsFreeList manager.now.table manager.now.sweep queue.old }
-    requires census { census.old.frames ≡ frames_of manager.now.table }
+    requires own { IsFurnished manager.now.table manager.now.sweep backend.old (view_in badge.old.views) }
     requires tag { names_block tag.now ≡ true }
     requires block { has_block (relations_of manager.now.table) tag.now ≡ true }
     requires new { IsNew tag.now held.now }
-    requires counted { sought.old.turns ≡ shown_count (view_in badge.old.views).turns }
     ensures keeps { KeepsBadge kept_by_block_reads badge.old badge.new }
-    ensures lasts { SameQueue queue.old queue.new }
-    ensures room { census.new.frames ≡ census.old.frames }
+    ensures own { KeepsOwn manager.now.table manager.now.sweep backend.old backend.new (view_in badge.new.views) }
     ensures ring { ring_shape ring.new ≡ ring_shape ring.old }
-    ensures counted { sought.new.turns ≡ shown_count (view_in badge.new.views).turns }
-    ensures turns { TakesTurns sought.new.hint
+    ensures turns { TakesTurns backend.new.lookups.hint
         (view_in badge.old.views).turns (view_in badge.new.views).turns }
-    ensures hints { ReadNotes (frames_of manager.now.table) tag.now sought.new.hint
+    ensures hints { ReadNotes (frames_of manager.now.table) tag.now backend.new.lookups.hint
         (view_in badge.old.views).hints (view_in badge.new.views).hints result }
     ensures answer { ReadAnswer L.contents manager.now.table tag.now held.now
         (view_in badge.old.views) (view_in badge.new.views) result }
-    ensures census { CensusRead (frames_of manager.now.table) census.old census.new result }
+    ensures census { CensusRead (frames_of manager.now.table) backend.old.census backend.new.census result }
     ensures met { (view_in badge.new.views).met ≡ met_read_block result (view_in badge.old.views).met }
     ensures calls { ReadCalls L.contents manager.now.table tag.now held.now (is_some ring.old)
-        sought.new.hint (choice_state queue.old ring.old census.old)
-        (choice_state queue.new ring.new census.new) (lane_number tag.now (lanes_in manager.now.table))
+        backend.new.lookups.hint (choice_of backend.old ring.old)
+        (choice_of backend.new ring.new) (lane_number tag.now (lanes_in manager.now.table))
         (view_in badge.old.views) (view_in badge.new.views) result }
 {
     let mut seat = take_seat::<L, G>(badge);
@@ -145,12 +134,9 @@ fn read_seated<L: BlockLane, G: LogDevice, R: Wait>(
         &mut seat,
         held,
         &manager.sweep,
-        queue,
-        census,
-        page,
+        backend,
         tag,
         ring,
-        sought,
     );
     return_seat(badge, seat);
     answer
@@ -210,12 +196,9 @@ impl Pass {
             rt,
             &mut self.seat,
             &self.held,
-            &mut self.queue,
-            &mut self.census,
-            &mut self.page,
+            &mut self.backend,
             tag,
             ring,
-            &mut self.sought,
         ) {
             Ok(PinnedBlock { pin, hit }) => {
                 let frame = pin.frame();
@@ -303,7 +286,7 @@ impl Pass {
         ensures back { IfOk result (λ pinned. tokens_less pinned.frame self.new.tokens ≡ self.old.tokens) }
         ensures last { IfOk result (λ pinned. tokens_of (held_at self.new.tokens pinned.frame) ≡ 1 → (link self.new.view pinned.frame).content ≡ Unlocked) }
     {
-        self.sought.hint = HintSeen::Unused;
+        self.backend.lookups.hint = HintSeen::Unused;
         let blocks = manager.table.blocks(&tag);
         if tag.block >= blocks {
             return Err(ReadError::PastEnd {

@@ -16,7 +16,7 @@ use crate::pass::Pass;
 use crate::pass_memory::PassMemory;
 use crate::seats::{return_seat, take_seat};
 use atomic_table::Seat;
-use buffer_frames::{HintSeen, Sought};
+use buffer_frames::{Backend, HintSeen, Sought};
 use clock_sweep::QueuePass;
 use crossbeam_utils::CachePadded;
 use frame_table::Value;
@@ -57,19 +57,21 @@ impl Pass {
             writes: 0,
             logs: 0,
         };
-        let sought = Sought {
+        let lookups = Sought {
             turns: 0,
             hint: HintSeen::Unused,
         };
         Pass {
             number,
             seat: seat.into_badge(),
-            queue,
             held,
-            sought,
-            census,
+            backend: Backend {
+                queue,
+                census,
+                page,
+                lookups,
+            },
             marked,
-            page,
             shown: CachePadded::new(Shown { front: base, met }),
         }
     }
@@ -97,7 +99,7 @@ impl Pass {
         let mut seat = take_seat::<L, G>(&mut self.seat);
         let other = manager.table.split(&mut seat);
         return_seat(&mut self.seat, seat);
-        let queue = manager.sweep.split(&mut self.queue);
+        let queue = manager.sweep.split(&mut self.backend.queue);
         Pass::seated(number, other, queue, memory, base)
     }
 }

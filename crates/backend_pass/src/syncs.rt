@@ -132,7 +132,7 @@ impl Pass {
             &self.held,
             frame,
             only,
-            &mut self.page,
+            &mut self.backend.page,
         );
         return_seat(&mut self.seat, seat);
         let answer = told(frames_answer);

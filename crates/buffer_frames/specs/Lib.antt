@@ -11,6 +11,7 @@ pub mod Lookups
 pub mod VictimChoices
 pub mod Bringing
 pub mod Victims
+pub mod Backends
 pub mod Reads
 pub mod PageReads
 pub mod Puts

@@ -14,6 +14,7 @@
 //! lane durable.
 #![tactic(auto)]
 
+mod backend;
 mod choosing;
 mod entering;
 mod erasing;
@@ -31,6 +32,7 @@ mod syncing;
 mod tags;
 mod victims;
 
+pub use backend::Backend;
 pub use flushing::{
     FlushedPage, FrameFlushError, VictimPage, flush_frame, flush_pinned, flush_victim,
 };

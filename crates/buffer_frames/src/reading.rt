@@ -3,17 +3,16 @@ ghost use Rattle.std.specs.Prelude.{◌≡◌, ◌<◌, None, true, is_some};
 ghost use Rattle.block_tag.specs.Names.{lane_number, names_block, packed_tag};
 ghost use Rattle.table_rule.specs.Blocks.{has_block};
 ghost use Rattle.frame_table.specs.Seats.{frames_of, lanes_in, relations_of};
-ghost use Rattle.clock_sweep.specs.FreeFrames.{SameQueue};
-ghost use Rattle.clock_sweep.specs.FreeLists.{IsFreeList};
 ghost use Rattle.buffer_frames.specs.Tokens.{IsNew};
+ghost use Rattle.buffer_frames.specs.Backends.{IsFurnished, KeepsOwn, choice_of};
 ghost use Rattle.buffer_frames.specs.Hinting.{TakesTurns};
 ghost use Rattle.buffer_frames.specs.Keeps.{IsReady, Keeps};
-ghost use Rattle.buffer_frames.specs.Outside.{kept_by_block_reads, ring_shape, shown_count};
+ghost use Rattle.buffer_frames.specs.Outside.{kept_by_block_reads, ring_shape};
 ghost use Rattle.buffer_frames.specs.Reads.{CensusPinned, CensusRead, PinAnswer, PinNotes, ReadAnswer, ReadCalls, ReadNotes, met_read_block};
-ghost use Rattle.buffer_frames.specs.VictimChoices.{choice_state};
 ghost use Rattle.buffer_frames.specs.Victims.{PinsOrRests, met_claimed};
 
-use crate::hinting::{Sought, give_back};
+use crate::backend::Backend;
+use crate::hinting::give_back;
 use crate::loading::{LoadError, Loaded, load};
 use crate::lookup::look_up;
 use crate::pins::HeldPins;
@@ -21,10 +20,9 @@ use crate::victims::{VictimError, claim};
 use access_rings::Ring;
 use atomic_table::Seat;
 use block_tag::Tag;
-use clock_sweep::{Census, QueuePass, Sweep};
+use clock_sweep::Sweep;
 use frame_table::{FrameTable, Pin, Value};
 use log_device::LogDevice;
-use page_layout::Page;
 use pin_core::View;
 use segment_store::BlockLane;
 use std::sync::Wait;
@@ -57,105 +55,85 @@ fn pin_block<L: BlockLane, G: LogDevice, R: Wait>(
     seat: &mut Seat<Value<L, G>, View>,
     held: &HeldPins,
     sweep: &Sweep,
-    queue: &mut QueuePass,
-    census: &mut Census,
-    page: &mut Page,
+    backend: &mut Backend,
     tag: &Tag,
     ring: &mut Option<Ring>,
-    sought: &mut Sought,
 ) -> Result<Pin, VictimError>
     requires ready { IsReady table.now held.now seat.old }
-    requires queue { IsFreeList table.now sweep.now queue.old }
-    requires census { census.old.frames ≡ frames_of table.now }
+    requires own { IsFurnished table.now sweep.now backend.old seat.old.me.0 }
     requires tag { names_block tag.now ≡ true }
     requires block { has_block (relations_of table.now) tag.now ≡ true }
     requires new { IsNew tag.now held.now }
-    requires counted { sought.old.turns ≡ shown_count seat.old.me.0.turns }
     ensures keeps { Keeps kept_by_block_reads None table.now seat.old seat.new }
-    ensures queue { IsFreeList table.now sweep.now queue.new }
-    ensures lasts { SameQueue queue.old queue.new }
-    ensures room { census.new.frames ≡ census.old.frames }
+    ensures own { KeepsOwn table.now sweep.now backend.old backend.new seat.new.me.0 }
     ensures ring { ring_shape ring.new ≡ ring_shape ring.old }
     ensures pinned { PinsOrRests (frames_of table.now) (packed_tag tag.now) held.now seat.new.me.0 result }
-    ensures census { CensusPinned (frames_of table.now) census.old census.new result }
+    ensures census { CensusPinned (frames_of table.now) backend.old.census backend.new.census result }
     ensures met { seat.new.me.0.met ≡ met_claimed result seat.old.me.0.met }
     ensures calls { PinAnswer L.contents table.now tag.now held.now (is_some ring.old)
-        sought.new.hint (choice_state queue.old ring.old census.old)
-        (choice_state queue.new ring.new census.new) seat.old.me.0 seat.new.me.0 result }
-    ensures counted { sought.new.turns ≡ shown_count seat.new.me.0.turns }
-    ensures turns { TakesTurns sought.new.hint seat.old.me.0.turns seat.new.me.0.turns }
-    ensures hints { PinNotes (frames_of table.now) tag.now sought.new.hint
+        backend.new.lookups.hint (choice_of backend.old ring.old)
+        (choice_of backend.new ring.new) seat.old.me.0 seat.new.me.0 result }
+    ensures turns { TakesTurns backend.new.lookups.hint seat.old.me.0.turns seat.new.me.0.turns }
+    ensures hints { PinNotes (frames_of table.now) tag.now backend.new.lookups.hint
         seat.old.me.0.hints seat.new.me.0.hints result }
 {
     let ringed = ring.is_some();
-    let (found, hint) = look_up(table, rt, seat, held, tag, ringed, &mut sought.turns);
-    sought.hint = hint;
-    if let Some(pin) = found {
-        return Ok(pin);
-    }
-    claim(
+    let (found, hint) = look_up(
         table,
         rt,
         seat,
         held,
-        sweep,
-        queue,
-        census,
-        page,
-        *tag,
-        ring,
-        &mut sought.turns,
-    )
+        tag,
+        ringed,
+        &mut backend.lookups.turns,
+    );
+    if let Some(pin) = found {
+        backend.lookups.hint = hint;
+        return Ok(pin);
+    }
+    let claimed = claim(table, rt, seat, held, sweep, backend, *tag, ring);
+    backend.lookups.hint = hint;
+    claimed
 }
 
-/// Reads a block that callers have no pin of (`ReadBuffer_common`): its frame is pinned, or it comes into one, and its page is there. A refusal leaves all pins as they were. `sought` counts the latches of partitions that it takes, and says what it saw of the block's hint.
+/// Reads a block that callers have no pin of (`ReadBuffer_common`): its frame is pinned, or it comes into one, and its page is there. A refusal leaves all pins as they were. The backend counts the latches of partitions that it takes, and says what it saw of the block's hint.
 pub fn read_block<L: BlockLane, G: LogDevice, R: Wait>(
     table: &FrameTable<L, G>,
     rt: &R,
     seat: &mut Seat<Value<L, G>, View>,
     held: &HeldPins,
     sweep: &Sweep,
-    queue: &mut QueuePass,
-    census: &mut Census,
-    page: &mut Page,
+    backend: &mut Backend,
     tag: &Tag,
     ring: &mut Option<Ring>,
-    sought: &mut Sought,
 ) -> Result<PinnedBlock, BlockError>
     requires ready { IsReady table.now held.now seat.old }
-    requires queue { IsFreeList table.now sweep.now queue.old }
-    requires census { census.old.frames ≡ frames_of table.now }
+    requires own { IsFurnished table.now sweep.now backend.old seat.old.me.0 }
     requires tag { names_block tag.now ≡ true }
     requires block { has_block (relations_of table.now) tag.now ≡ true }
     requires new { IsNew tag.now held.now }
-    requires counted { sought.old.turns ≡ shown_count seat.old.me.0.turns }
     ensures keeps { Keeps kept_by_block_reads None table.now seat.old seat.new }
-    ensures queue { IsFreeList table.now sweep.now queue.new }
-    ensures lasts { SameQueue queue.old queue.new }
-    ensures room { census.new.frames ≡ census.old.frames }
+    ensures own { KeepsOwn table.now sweep.now backend.old backend.new seat.new.me.0 }
     ensures ring { ring_shape ring.new ≡ ring_shape ring.old }
     ensures answer { ReadAnswer L.contents table.now tag.now held.now seat.old.me.0 seat.new.me.0 result }
-    ensures census { CensusRead (frames_of table.now) census.old census.new result }
+    ensures census { CensusRead (frames_of table.now) backend.old.census backend.new.census result }
     ensures met { seat.new.me.0.met ≡ met_read_block result seat.old.me.0.met }
     ensures calls { ReadCalls L.contents table.now tag.now held.now (is_some ring.old)
-        sought.new.hint (choice_state queue.old ring.old census.old)
-        (choice_state queue.new ring.new census.new) (lane_number tag.now (lanes_in table.now))
+        backend.new.lookups.hint (choice_of backend.old ring.old)
+        (choice_of backend.new ring.new) (lane_number tag.now (lanes_in table.now))
         seat.old.me.0 seat.new.me.0 result }
-    ensures counted { sought.new.turns ≡ shown_count seat.new.me.0.turns }
     // Only where the block's hint gave its frame no latch of a partition was taken.
-    ensures turns { TakesTurns sought.new.hint seat.old.me.0.turns seat.new.me.0.turns }
+    ensures turns { TakesTurns backend.new.lookups.hint seat.old.me.0.turns seat.new.me.0.turns }
     // Where the hint gave it, no hint was stored. Else the hint names the frame that the block was pinned in.
-    ensures hints { ReadNotes (frames_of table.now) tag.now sought.new.hint
+    ensures hints { ReadNotes (frames_of table.now) tag.now backend.new.lookups.hint
         seat.old.me.0.hints seat.new.me.0.hints result }
 {
-    let pin = match pin_block(
-        table, rt, seat, held, sweep, queue, census, page, tag, ring, sought,
-    ) {
+    let pin = match pin_block(table, rt, seat, held, sweep, backend, tag, ring) {
         Ok(pin) => pin,
         Err(why) => return Err(BlockError::NoFrame(why)),
     };
     let frame = pin.frame();
-    match load(table, rt, seat, held, frame, tag, page) {
+    match load(table, rt, seat, held, frame, tag, &mut backend.page) {
         Ok(Loaded::Hit) => Ok(PinnedBlock { pin, hit: true }),
         Ok(Loaded::Read) => Ok(PinnedBlock { pin, hit: false }),
         Err(LoadError::ReadFault) => {

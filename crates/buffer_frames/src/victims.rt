@@ -8,18 +8,17 @@ ghost use Rattle.frame_table.specs.FrameSteps.{Did};
 ghost use Rattle.frame_table.specs.Kinds.{pins};
 ghost use Rattle.frame_table.specs.Seats.{frames_of, relations_of, tag_word};
 ghost use Rattle.buffer_frames.specs.Rests.{HasNoLatch, Stands};
-ghost use Rattle.clock_sweep.specs.FreeFrames.{SameQueue};
-ghost use Rattle.clock_sweep.specs.FreeLists.{IsFreeList};
 ghost use Rattle.buffer_frames.specs.Tokens.{IsNew};
+ghost use Rattle.buffer_frames.specs.Backends.{IsFurnished, KeepsOwn, choice_of};
 ghost use Rattle.buffer_frames.specs.Bringing.{PushesNone};
 ghost use Rattle.buffer_frames.specs.Hinting.{NotesHint};
 ghost use Rattle.buffer_frames.specs.Keeps.{IsReady, Keeps};
-ghost use Rattle.buffer_frames.specs.Outside.{kept_by_block_reads, outside_of, ring_shape, shown_count};
+ghost use Rattle.buffer_frames.specs.Outside.{kept_by_block_reads, outside_of, ring_shape};
 ghost use Rattle.buffer_frames.specs.Stages.{HasVictim};
-ghost use Rattle.buffer_frames.specs.VictimChoices.{choice_state};
 ghost use Rattle.buffer_frames.specs.Victims.{CensusClaimed, CensusFreed, ClaimAnswer, FreedAnswer, PinsOrRests, met_claimed, met_freed};
 ghost use Rattle.buffer_frames.specs.Working.{Calls, IsFlushCall};
 
+use crate::backend::Backend;
 use crate::choosing::{Chosen, choose};
 use crate::entering::{enter_or_pin, give_up};
 use crate::erasing::erase;
@@ -28,10 +27,9 @@ use crate::pins::HeldPins;
 use access_rings::Ring;
 use atomic_table::Seat;
 use block_tag::Tag;
-use clock_sweep::{Census, QueuePass, Sweep};
+use clock_sweep::Sweep;
 use frame_table::{FrameTable, Pin, Value};
 use log_device::LogDevice;
-use page_layout::Page;
 use pin_core::View;
 use segment_store::BlockLane;
 use std::sync::Wait;
@@ -85,34 +83,33 @@ fn make_victim<L: BlockLane, G: LogDevice, R: Wait>(
     seat: &mut Seat<Value<L, G>, View>,
     held: &HeldPins,
     sweep: &Sweep,
-    queue: &mut QueuePass,
-    census: &mut Census,
-    page: &mut Page,
+    backend: &mut Backend,
     ring: &mut Option<Ring>,
-    turns: &mut u64,
 ) -> Freed
     requires ready { IsReady table.now held.now seat.old }
-    requires queue { IsFreeList table.now sweep.now queue.old }
-    requires census { census.old.frames ≡ frames_of table.now }
-    requires counted { turns.old ≡ shown_count seat.old.me.0.turns }
+    requires own { IsFurnished table.now sweep.now backend.old seat.old.me.0 }
     ensures keeps { Keeps kept_by_block_reads None table.now seat.old seat.new }
-    ensures queue { IsFreeList table.now sweep.now queue.new }
-    ensures lasts { SameQueue queue.old queue.new }
-    ensures unpushed { PushesNone queue.old queue.new }
-    ensures room { census.new.frames ≡ census.old.frames }
+    ensures own { KeepsOwn table.now sweep.now backend.old backend.new seat.new.me.0 }
+    ensures unpushed { PushesNone backend.old.queue backend.new.queue }
     ensures ring { ring_shape ring.new ≡ ring_shape ring.old }
     ensures answer { FreedAnswer L.contents table.now held.now
-        seat.old.me.0 (choice_state queue.old ring.old census.old)
-        seat.new.me.0 (choice_state queue.new ring.new census.new) result }
-    ensures census { CensusFreed (frames_of table.now) census.new result }
+        seat.old.me.0 (choice_of backend.old ring.old)
+        seat.new.me.0 (choice_of backend.new ring.new) result }
+    ensures census { CensusFreed (frames_of table.now) backend.new.census result }
     ensures met { seat.new.me.0.met ≡ met_freed result seat.old.me.0.met }
     ensures calls { Calls IsFlushCall seat.old.me.0 seat.new.me.0 }
-    ensures counted { turns.new ≡ shown_count seat.new.me.0.turns }
     ensures turns { seat.old.me.0.turns ≤ seat.new.me.0.turns }
     ensures hints { seat.new.me.0.hints ≡ seat.old.me.0.hints }
 {
     let Chosen { pin, from_ring } = match choose(
-        table, rt, seat, held, sweep, queue, census, ring,
+        table,
+        rt,
+        seat,
+        held,
+        sweep,
+        &mut backend.queue,
+        &mut backend.census,
+        ring,
     ) {
         Ok(chosen) => chosen,
         Err(why) => {
@@ -123,7 +120,17 @@ fn make_victim<L: BlockLane, G: LogDevice, R: Wait>(
     let Some(tag) = tag_of_victim(table, seat, held, frame) else {
         return Freed::Ready(pin);
     };
-    match flush_victim(table, rt, seat, held, frame, tag, page, ring, from_ring) {
+    match flush_victim(
+        table,
+        rt,
+        seat,
+        held,
+        frame,
+        tag,
+        &mut backend.page,
+        ring,
+        from_ring,
+    ) {
         Ok(VictimPage::Clean) => {}
         Ok(VictimPage::Spared) => {
             give_up(table, rt, seat, held, pin);
@@ -134,7 +141,15 @@ fn make_victim<L: BlockLane, G: LogDevice, R: Wait>(
             return Freed::Refused(VictimError::Flush(why));
         }
     }
-    if erase(table, rt, seat, held, frame, &tag, turns) {
+    if erase(
+        table,
+        rt,
+        seat,
+        held,
+        frame,
+        &tag,
+        &mut backend.lookups.turns,
+    ) {
         return Freed::Ready(pin);
     }
     give_up(table, rt, seat, held, pin);
@@ -148,34 +163,26 @@ pub(crate) fn claim<L: BlockLane, G: LogDevice, R: Wait>(
     seat: &mut Seat<Value<L, G>, View>,
     held: &HeldPins,
     sweep: &Sweep,
-    queue: &mut QueuePass,
-    census: &mut Census,
-    page: &mut Page,
+    backend: &mut Backend,
     tag: Tag,
     ring: &mut Option<Ring>,
-    turns: &mut u64,
 ) -> Result<Pin, VictimError>
     requires ready { IsReady table.now held.now seat.old }
-    requires queue { IsFreeList table.now sweep.now queue.old }
-    requires census { census.old.frames ≡ frames_of table.now }
+    requires own { IsFurnished table.now sweep.now backend.old seat.old.me.0 }
     requires tag { names_block tag ≡ true }
     requires block { has_block (relations_of table.now) tag ≡ true }
     requires new { IsNew tag held.now }
-    requires counted { turns.old ≡ shown_count seat.old.me.0.turns }
     ensures keeps { Keeps kept_by_block_reads None table.now seat.old seat.new }
-    ensures queue { IsFreeList table.now sweep.now queue.new }
-    ensures lasts { SameQueue queue.old queue.new }
-    ensures unpushed { IfErr result (λ _. PushesNone queue.old queue.new) }
-    ensures room { census.new.frames ≡ census.old.frames }
+    ensures own { KeepsOwn table.now sweep.now backend.old backend.new seat.new.me.0 }
+    ensures unpushed { IfErr result (λ _. PushesNone backend.old.queue backend.new.queue) }
     ensures ring { ring_shape ring.new ≡ ring_shape ring.old }
     ensures pinned { PinsOrRests (frames_of table.now) (packed_tag tag) held.now seat.new.me.0 result }
     ensures answer { ClaimAnswer L.contents table.now tag held.now (is_some ring.old)
-        seat.old.me.0 (choice_state queue.old ring.old census.old)
-        seat.new.me.0 (choice_state queue.new ring.new census.new) result }
-    ensures census { CensusClaimed (frames_of table.now) census.new result }
+        seat.old.me.0 (choice_of backend.old ring.old)
+        seat.new.me.0 (choice_of backend.new ring.new) result }
+    ensures census { CensusClaimed (frames_of table.now) backend.new.census result }
     ensures met { seat.new.me.0.met ≡ met_claimed result seat.old.me.0.met }
     ensures calls { Calls IsFlushCall seat.old.me.0 seat.new.me.0 }
-    ensures counted { turns.new ≡ shown_count seat.new.me.0.turns }
     ensures turns { seat.old.me.0.turns ≤ seat.new.me.0.turns }
     ensures hints { MatchResult result
         (λ p. NotesHint (frames_of table.now) tag p.frame seat.old.me.0.hints seat.new.me.0.hints)
@@ -183,12 +190,19 @@ pub(crate) fn claim<L: BlockLane, G: LogDevice, R: Wait>(
 {
     let ringed = ring.is_some();
     for _ in rt.forever() {
-        match make_victim(
-            table, rt, seat, held, sweep, queue, census, page, ring, turns,
-        ) {
+        match make_victim(table, rt, seat, held, sweep, backend, ring) {
             Freed::Ready(victim) => {
                 if let Some(pin) = enter_or_pin(
-                    table, rt, seat, held, sweep, queue, victim, tag, ringed, turns,
+                    table,
+                    rt,
+                    seat,
+                    held,
+                    sweep,
+                    &mut backend.queue,
+                    victim,
+                    tag,
+                    ringed,
+                    &mut backend.lookups.turns,
                 ) {
                     return Ok(pin);
                 }

@@ -8,7 +8,7 @@ ghost use Rattle.table_tests.specs.Work.{IsFresh, KeepsSeat, SeatHoldsNothing, b
 
 use crate::fixture::{Table, TableSeat};
 use block_tag::{Fork, RelNo, Tag};
-use buffer_frames::{HeldPins, HintSeen, PinnedBlock, Sought, read_block};
+use buffer_frames::{Backend, HeldPins, HintSeen, PinnedBlock, Sought, read_block};
 use cleanup_lock::unpin_and_wake;
 use clock_sweep::{Census, QueuePass, Sweep};
 use map_partitions::store_hint;
@@ -37,23 +37,29 @@ fn read_released<R: Wait>(
     seat: &mut TableSeat,
     held: &HeldPins,
     sweep: &Sweep,
-    queue: &mut QueuePass,
-    census: &mut Census,
-    page: &mut Page,
+    queue: QueuePass,
+    census: Census,
+    page: Page,
 ) -> Sighted
     requires fresh { IsFresh table.now seat.old }
-    requires queue { IsFreeList table.now sweep.now queue.old }
-    requires census { census.old.frames ≡ frames_of table.now }
+    requires queue { IsFreeList table.now sweep.now queue }
+    requires census { census.frames ≡ frames_of table.now }
     requires none { held.now ≡ no_tokens }
     ensures { SeatHoldsNothing table.now seat.new }
 {
-    let mut sought = Sought {
+    let lookups = Sought {
         turns: 0,
         hint: HintSeen::Unused,
     };
+    let mut backend = Backend {
+        queue,
+        census,
+        page,
+        lookups,
+    };
     if BLOCK.block >= table.blocks(&BLOCK) {
         return Sighted {
-            hint: sought.hint,
+            hint: backend.lookups.hint,
             frame: None,
         };
     }
@@ -63,23 +69,20 @@ fn read_released<R: Wait>(
         seat,
         held,
         sweep,
-        queue,
-        census,
-        page,
+        &mut backend,
         &BLOCK,
         &mut None,
-        &mut sought,
     ) {
         Ok(PinnedBlock { pin, hit: _ }) => {
             let frame = Some(pin.frame());
             unpin_and_wake(table, rt, seat, pin);
             Sighted {
-                hint: sought.hint,
+                hint: backend.lookups.hint,
                 frame,
             }
         }
         Err(_why) => Sighted {
-            hint: sought.hint,
+            hint: backend.lookups.hint,
             frame: None,
         },
     }
@@ -97,21 +100,12 @@ fn sight_hint<R: Wait>(
     requires frame { frame < frames_of table.now }
     ensures { SeatHoldsNothing table.now seat.new }
 {
-    let (sweep, mut queue) = Sweep::build(alloc, table.frames())?;
-    let mut census = Census::build(alloc, table.frames())?;
-    let mut page = Page::zeroed(alloc)?;
+    let (sweep, queue) = Sweep::build(alloc, table.frames())?;
+    let census = Census::build(alloc, table.frames())?;
+    let page = Page::zeroed(alloc)?;
     let held = HeldPins::build(alloc)?;
     store_hint(table, seat, &BLOCK, frame);
-    let sighted = read_released(
-        table,
-        rt,
-        seat,
-        &held,
-        &sweep,
-        &mut queue,
-        &mut census,
-        &mut page,
-    );
+    let sighted = read_released(table, rt, seat, &held, &sweep, queue, census, page);
     held.spend();
     Ok(sighted)
 }

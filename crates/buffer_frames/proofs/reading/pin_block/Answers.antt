@@ -20,7 +20,7 @@ use Rattle.buffer_frames.proofs.reading.pin_block.Goals as goal
 pub returns-in-Some-clause-calls : goal.returns-in-Some-clause-calls
 returns-in-Some-clause-calls g c = let u = c.look_up-found in
     let looks = subst (λ (o : Option Pin). LooksUp (frames_of c.args.table.now) c.args.tag.now c.args.held.now c.is_some-ringed.result c.args.seat.now.me.0 u.new.seat.me.0 u.result.1 (option_map Pin.frame o)) c.in-Some.is u.ensures.did in
-    subst (λ (b : Bool). Locates {L = g.row.L.Denot} {G = g.row.G.Denot} g.L.BlockLane.contents c.args.table.now c.args.tag.now c.args.held.now b u.result.1 (choice_state c.args.queue.now c.args.ring.now c.args.census.now) (choice_state c.args.queue.now c.args.ring.now c.args.census.now) c.in-Some.pin.frame [] c.args.seat.now.me.0 u.new.seat.me.0) c.is_some-ringed.ensures
+    subst (λ (b : Bool). Locates {L = g.row.L.Denot} {G = g.row.G.Denot} g.L.BlockLane.contents c.args.table.now c.args.tag.now c.args.held.now b u.result.1 (choice_state c.args.backend.now.queue c.args.ring.now c.args.backend.now.census) (choice_state c.args.backend.now.queue c.args.ring.now c.args.backend.now.census) c.in-Some.pin.frame [] c.args.seat.now.me.0 u.new.seat.me.0) c.is_some-ringed.ensures
     (locates_now _ _ _ _ _ _ _ c.in-Some.pin.frame c.args.seat.now.me.0 u.new.seat.me.0 looks u.ensures.keeps.same)
 
 pub returns-in-Some-clause-hints : goal.returns-in-Some-clause-hints
@@ -31,7 +31,7 @@ pub returns-in-Some-clause-census : goal.returns-in-Some-clause-census
 returns-in-Some-clause-census g c = inl refl
 
 -- it gave none
-module _ (g : Over) (c : goal.After-claim g) where
+module _ (g : Over) (c : goal.After-hint-2-1 g) where
   looks : LooksUp (frames_of c.args.table.now) c.args.tag.now c.args.held.now c.is_some-ringed.result c.args.seat.now.me.0 c.look_up-found.new.seat.me.0 c.look_up-found.result.1 None
   looks = subst (λ (o : Option Pin). LooksUp (frames_of c.args.table.now) c.args.tag.now c.args.held.now c.is_some-ringed.result c.args.seat.now.me.0 c.look_up-found.new.seat.me.0 c.look_up-found.result.1 (option_map Pin.frame o)) c.in_default.is c.look_up-found.ensures.did
 
@@ -45,25 +45,25 @@ module _ (g : Over) (c : goal.After-claim g) where
   since = c.look_up-found.ensures.keeps.rises
 
 pub returns-clause-met : goal.returns-clause-met
-returns-clause-met g c = c.claim.ensures.met ∙ ap (λ (m : FailedCalls). met_claimed c.claim.result m) (met_searched c.args.seat.now.me.0 c.look_up-found.new.seat.me.0 c.look_up-found.ensures.keeps.same)
+returns-clause-met g c = c.claim-claimed.ensures.met ∙ ap (λ (m : FailedCalls). met_claimed c.claim-claimed.result m) (met_searched c.args.seat.now.me.0 c.look_up-found.new.seat.me.0 c.look_up-found.ensures.keeps.same)
 
 pub returns-clause-calls : goal.returns-clause-calls
-returns-clause-calls g c = let u = c.look_up-found in let before = choice_state c.args.queue.now c.args.ring.now c.args.census.now in let after = choice_state c.claim.new.queue c.claim.new.ring c.claim.new.census in
-    let claimed = subst (λ (b : Bool). ClaimAnswer {L = g.row.L.Denot} {G = g.row.G.Denot} g.L.BlockLane.contents c.args.table.now c.args.tag.now c.args.held.now b u.new.seat.me.0 before c.claim.new.seat.me.0 after c.claim.result) (sym c.is_some-ringed.ensures) c.claim.ensures.answer in
-    subst (λ (b : Bool). PinAnswer {L = g.row.L.Denot} {G = g.row.G.Denot} g.L.BlockLane.contents c.args.table.now c.args.tag.now c.args.held.now b u.result.1 before after c.args.seat.now.me.0 c.claim.new.seat.me.0 c.claim.result) c.is_some-ringed.ensures
-    (answers_missed {L = g.row.L.Denot} {G = g.row.G.Denot} g.L.BlockLane.contents c.args.table.now c.args.tag.now c.args.held.now c.is_some-ringed.result before after u.result.1 c.args.seat.now.me.0 u.new.seat.me.0 c.claim.new.seat.me.0 c.claim.result c.requires.ready.rests (still g c) (looks g c) u.ensures.keeps.same (since g c) c.claim.ensures.keeps.rises c.claim.ensures.calls claimed c.claim.ensures.unpushed)
+returns-clause-calls g c = let u = c.look_up-found in let before = choice_state c.args.backend.now.queue c.args.ring.now c.args.backend.now.census in let after = choice_state c.claim-claimed.new.backend.queue c.claim-claimed.new.ring c.claim-claimed.new.backend.census in
+    let claimed = subst (λ (b : Bool). ClaimAnswer {L = g.row.L.Denot} {G = g.row.G.Denot} g.L.BlockLane.contents c.args.table.now c.args.tag.now c.args.held.now b u.new.seat.me.0 before c.claim-claimed.new.seat.me.0 after c.claim-claimed.result) (sym c.is_some-ringed.ensures) c.claim-claimed.ensures.answer in
+    subst (λ (b : Bool). PinAnswer {L = g.row.L.Denot} {G = g.row.G.Denot} g.L.BlockLane.contents c.args.table.now c.args.tag.now c.args.held.now b u.result.1 before after c.args.seat.now.me.0 c.claim-claimed.new.seat.me.0 c.claim-claimed.result) c.is_some-ringed.ensures
+    (answers_missed {L = g.row.L.Denot} {G = g.row.G.Denot} g.L.BlockLane.contents c.args.table.now c.args.tag.now c.args.held.now c.is_some-ringed.result before after u.result.1 c.args.seat.now.me.0 u.new.seat.me.0 c.claim-claimed.new.seat.me.0 c.claim-claimed.result c.requires.ready.rests (still g c) (looks g c) u.ensures.keeps.same (since g c) c.claim-claimed.ensures.keeps.rises c.claim-claimed.ensures.calls claimed c.claim-claimed.ensures.unpushed)
 
 pub returns-clause-turns : goal.returns-clause-turns
-returns-clause-turns g c = turns_then _ _ _ _ c.args.seat.now.me.0 c.look_up-found.new.seat.me.0 c.claim.new.seat.me.0 _ (looks g c) c.look_up-found.ensures.turns c.claim.ensures.turns
+returns-clause-turns g c = turns_then _ _ _ _ c.args.seat.now.me.0 c.look_up-found.new.seat.me.0 c.claim-claimed.new.seat.me.0 _ (looks g c) c.look_up-found.ensures.turns c.claim-claimed.ensures.turns
 
 pub returns-clause-hints : goal.returns-clause-hints
-returns-clause-hints g c = notes_then _ _ _ _ c.args.seat.now.me.0 c.look_up-found.new.seat.me.0 c.claim.new.seat.me.0 _ c.claim.result (looks g c) (same_hints g c) c.claim.ensures.hints
+returns-clause-hints g c = notes_then _ _ _ _ c.args.seat.now.me.0 c.look_up-found.new.seat.me.0 c.claim-claimed.new.seat.me.0 _ c.claim-claimed.result (looks g c) (same_hints g c) c.claim-claimed.ensures.hints
 
 pub returns-clause-census : goal.returns-clause-census
-returns-clause-census g c = census_claimed (frames_of c.args.table.now) c.args.census.now c.claim.new.census c.claim.result c.claim.ensures.census
+returns-clause-census g c = census_claimed (frames_of c.args.table.now) c.args.backend.now.census c.claim-claimed.new.backend.census c.claim-claimed.result c.claim-claimed.ensures.census
 
 pub returns-in-Some-clause-keeps : goal.returns-in-Some-clause-keeps
 returns-in-Some-clause-keeps g c = searched_keeps c.look_up-found.ensures.keeps
 
 pub returns-clause-keeps : goal.returns-clause-keeps
-returns-clause-keeps g c = keeps_on (searched_keeps c.look_up-found.ensures.keeps) c.claim.ensures.keeps
+returns-clause-keeps g c = keeps_on (searched_keeps c.look_up-found.ensures.keeps) c.claim-claimed.ensures.keeps

@@ -21,28 +21,28 @@ pub returns-in-Err-Unsound-clause-calls : goal.returns-in-Err-Unsound-clause-cal
 returns-in-Err-Unsound-clause-calls g c = let u = c.give_back-in-Err-Unsound in (c.in-Ok.pin.frame, (locates_given _ _ c.args.tag.now _ _ _ _ _ c.in-Ok.pin.frame c.frame-frame.result _ c.args.seat.now.me.0 c.pin_block.new.seat.me.0 c.load.new.seat.me.0 u.new.seat.me.0 c.frame-frame.ensures c.in-Ok.ensures.calls c.load.ensures.works (rw c.in-Err-Unsound.field-0-is at c.in-Err-Unsound.ensures.calls) u.ensures.touches u.ensures.keeps.same, fails_read Unsound c.args.tag.now c.in-Ok.pin.frame c.frame-frame.result c.args.seat.now.me.0 c.pin_block.new.seat.me.0 c.load.new.seat.me.0 u.new.seat.me.0 c.frame-frame.ensures c.pin_block.ensures.keeps.rises (rw c.in-Err-Unsound.field-0-is at c.in-Err-Unsound.ensures.unread) u.ensures.did u.ensures.keeps.same))
 
 pub returns-in-Ok-Hit-clause-turns : goal.returns-in-Ok-Hit-clause-turns
-returns-in-Ok-Hit-clause-turns g c = subst (TakesTurns c.pin_block.new.sought.hint c.args.seat.now.me.0.turns) (sym (ap (λ (x : View). x.turns) c.load.ensures.works.kept)) c.pin_block.ensures.turns
+returns-in-Ok-Hit-clause-turns g c = subst (TakesTurns c.pin_block.new.backend.lookups.hint c.args.seat.now.me.0.turns) (sym (ap (λ (x : View). x.turns) c.load.ensures.works.kept)) c.pin_block.ensures.turns
 
 pub returns-in-Ok-Read-clause-turns : goal.returns-in-Ok-Read-clause-turns
-returns-in-Ok-Read-clause-turns g c = subst (TakesTurns c.pin_block.new.sought.hint c.args.seat.now.me.0.turns) (sym (ap (λ (x : View). x.turns) c.load.ensures.works.kept)) c.pin_block.ensures.turns
+returns-in-Ok-Read-clause-turns g c = subst (TakesTurns c.pin_block.new.backend.lookups.hint c.args.seat.now.me.0.turns) (sym (ap (λ (x : View). x.turns) c.load.ensures.works.kept)) c.pin_block.ensures.turns
 
 pub returns-in-Err-ReadFault-clause-turns : goal.returns-in-Err-ReadFault-clause-turns
-returns-in-Err-ReadFault-clause-turns g c = subst (TakesTurns c.pin_block.new.sought.hint c.args.seat.now.me.0.turns) (sym (ap (λ (x : View). x.turns) c.give_back.ensures.keeps.same ∙ ap (λ (x : View). x.turns) c.load.ensures.works.kept)) c.pin_block.ensures.turns
+returns-in-Err-ReadFault-clause-turns g c = subst (TakesTurns c.pin_block.new.backend.lookups.hint c.args.seat.now.me.0.turns) (sym (ap (λ (x : View). x.turns) c.give_back.ensures.keeps.same ∙ ap (λ (x : View). x.turns) c.load.ensures.works.kept)) c.pin_block.ensures.turns
 
 pub returns-in-Err-Unsound-clause-turns : goal.returns-in-Err-Unsound-clause-turns
-returns-in-Err-Unsound-clause-turns g c = subst (TakesTurns c.pin_block.new.sought.hint c.args.seat.now.me.0.turns) (sym (ap (λ (x : View). x.turns) c.give_back-in-Err-Unsound.ensures.keeps.same ∙ ap (λ (x : View). x.turns) c.load.ensures.works.kept)) c.pin_block.ensures.turns
+returns-in-Err-Unsound-clause-turns g c = subst (TakesTurns c.pin_block.new.backend.lookups.hint c.args.seat.now.me.0.turns) (sym (ap (λ (x : View). x.turns) c.give_back-in-Err-Unsound.ensures.keeps.same ∙ ap (λ (x : View). x.turns) c.load.ensures.works.kept)) c.pin_block.ensures.turns
 
 pub returns-in-Ok-Hit-clause-hints : goal.returns-in-Ok-Hit-clause-hints
-returns-in-Ok-Hit-clause-hints g c = subst (LeavesHint (frames_of c.args.table.now) c.args.tag.now c.in-Ok.pin.frame c.pin_block.new.sought.hint c.args.seat.now.me.0.hints) (sym (ap (λ (x : View). x.hints) c.load.ensures.works.kept)) c.in-Ok.ensures.hints
+returns-in-Ok-Hit-clause-hints g c = subst (LeavesHint (frames_of c.args.table.now) c.args.tag.now c.in-Ok.pin.frame c.pin_block.new.backend.lookups.hint c.args.seat.now.me.0.hints) (sym (ap (λ (x : View). x.hints) c.load.ensures.works.kept)) c.in-Ok.ensures.hints
 
 pub returns-in-Ok-Read-clause-hints : goal.returns-in-Ok-Read-clause-hints
-returns-in-Ok-Read-clause-hints g c = subst (LeavesHint (frames_of c.args.table.now) c.args.tag.now c.in-Ok.pin.frame c.pin_block.new.sought.hint c.args.seat.now.me.0.hints) (sym (ap (λ (x : View). x.hints) c.load.ensures.works.kept)) c.in-Ok.ensures.hints
+returns-in-Ok-Read-clause-hints g c = subst (LeavesHint (frames_of c.args.table.now) c.args.tag.now c.in-Ok.pin.frame c.pin_block.new.backend.lookups.hint c.args.seat.now.me.0.hints) (sym (ap (λ (x : View). x.hints) c.load.ensures.works.kept)) c.in-Ok.ensures.hints
 
 pub returns-in-Err-ReadFault-clause-hints : goal.returns-in-Err-ReadFault-clause-hints
-returns-in-Err-ReadFault-clause-hints g c = (c.in-Ok.pin.frame, subst (LeavesHint (frames_of c.args.table.now) c.args.tag.now c.in-Ok.pin.frame c.pin_block.new.sought.hint c.args.seat.now.me.0.hints) (sym (ap (λ (x : View). x.hints) c.give_back.ensures.keeps.same ∙ ap (λ (x : View). x.hints) c.load.ensures.works.kept)) c.in-Ok.ensures.hints)
+returns-in-Err-ReadFault-clause-hints g c = (c.in-Ok.pin.frame, subst (LeavesHint (frames_of c.args.table.now) c.args.tag.now c.in-Ok.pin.frame c.pin_block.new.backend.lookups.hint c.args.seat.now.me.0.hints) (sym (ap (λ (x : View). x.hints) c.give_back.ensures.keeps.same ∙ ap (λ (x : View). x.hints) c.load.ensures.works.kept)) c.in-Ok.ensures.hints)
 
 pub returns-in-Err-Unsound-clause-hints : goal.returns-in-Err-Unsound-clause-hints
-returns-in-Err-Unsound-clause-hints g c = (c.in-Ok.pin.frame, subst (LeavesHint (frames_of c.args.table.now) c.args.tag.now c.in-Ok.pin.frame c.pin_block.new.sought.hint c.args.seat.now.me.0.hints) (sym (ap (λ (x : View). x.hints) c.give_back-in-Err-Unsound.ensures.keeps.same ∙ ap (λ (x : View). x.hints) c.load.ensures.works.kept)) c.in-Ok.ensures.hints)
+returns-in-Err-Unsound-clause-hints g c = (c.in-Ok.pin.frame, subst (LeavesHint (frames_of c.args.table.now) c.args.tag.now c.in-Ok.pin.frame c.pin_block.new.backend.lookups.hint c.args.seat.now.me.0.hints) (sym (ap (λ (x : View). x.hints) c.give_back-in-Err-Unsound.ensures.keeps.same ∙ ap (λ (x : View). x.hints) c.load.ensures.works.kept)) c.in-Ok.ensures.hints)
 
 pub returns-in-Err-ReadFault-clause-census : goal.returns-in-Err-ReadFault-clause-census
 returns-in-Err-ReadFault-clause-census g c = c.in-Ok.ensures.census

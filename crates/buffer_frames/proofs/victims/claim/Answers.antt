@@ -13,16 +13,13 @@ use Rattle.buffer_frames.proofs.victims.claim.Goals as goal
 
 pub loop-init : goal.loop-init
 loop-init g c = record {
+  own = record { queue = c.requires.own.queue; lasts = refl; room = refl; counted = c.requires.own.counted };
   keeps = ready_keeps c.requires.ready;
-  queue = c.requires.queue;
-  lasts = refl;
   unpushed = refl;
   rests = c.requires.ready.rests;
-  room = c.requires.census;
   ring = refl;
   met = refl;
   calls = calls_none IsFlushCall c.args.seat.now.me.0 c.args.seat.now.me.0 refl;
-  counted = c.requires.counted;
   turns = (omega arith);
   hints = refl;
   tries = none_tried;
@@ -33,19 +30,16 @@ returns-in-Some-enter_or_pin-clause-calls g c = calls_on _ _ c.make_victim.new.s
 
 pub loop-preserved-in_default : goal.loop-preserved-in_default
 loop-preserved-in_default g c = let i = c.loop.invariant in let m = c.make_victim.ensures in let e = c.enter_or_pin.ensures in record {
+  own = record { queue = e.queue; lasts = e.lasts ∙ m.own.lasts ∙ i.own.lasts; room = m.own.room ∙ i.own.room; counted = e.counted };
   keeps = keeps_on (keeps_on i.keeps m.keeps) (searched_keeps e.keeps);
-  queue = e.queue;
-  lasts = e.lasts ∙ m.lasts ∙ i.lasts;
   unpushed = ap (λ (x : QueueState). x.known.pushed) c.in_default.ensures.unpushed ∙ m.unpushed ∙ i.unpushed;
   rests = c.in_default.ensures.rests;
-  room = m.room ∙ i.room;
   ring = m.ring ∙ i.ring;
-  counted = e.counted;
   turns = (let a = i.turns in let b = m.turns in let d = e.turns in omega arith);
   hints = c.in_default.ensures.hints ∙ m.hints ∙ i.hints;
   met = met_searched c.make_victim.new.seat.me.0 c.enter_or_pin.new.seat.me.0 e.keeps.same ∙ c.in-Ready.ensures.met ∙ i.met;
   calls = calls_on _ _ c.make_victim.new.seat.me.0 _ (calls_on _ _ c.loop.seat.me.0 _ i.calls m.calls) (calls_by _ c.make_victim.new.seat.me.0 c.enter_or_pin.new.seat.me.0 e.keeps.same);
-  tries = taken_then {L = g.row.L.Denot} {G = g.row.G.Denot} g.L.BlockLane.contents c.args.table.now c.in-Ready.victim.frame c.args.seat.now.me.0 c.loop.seat.me.0 c.make_victim.new.seat.me.0 c.enter_or_pin.new.seat.me.0 _ _ c.make_victim.new.queue c.enter_or_pin.new.queue c.make_victim.new.ring c.make_victim.new.census c.in_default.ensures.unpushed i.tries c.in-Ready.ensures.answer.2 c.in_default.ensures.gave_up;
+  tries = taken_then {L = g.row.L.Denot} {G = g.row.G.Denot} g.L.BlockLane.contents c.args.table.now c.in-Ready.victim.frame c.args.seat.now.me.0 c.loop.seat.me.0 c.make_victim.new.seat.me.0 c.enter_or_pin.new.seat.me.0 _ _ c.make_victim.new.backend.queue c.enter_or_pin.new.queue c.make_victim.new.ring c.make_victim.new.backend.census c.in_default.ensures.unpushed i.tries c.in-Ready.ensures.answer.2 c.in_default.ensures.gave_up;
 }
 
 pub returns-in-Refused-clause-answer : goal.returns-in-Refused-clause-answer
@@ -59,15 +53,12 @@ returns-in-Refused-clause-calls g c = calls_on _ _ c.loop.seat.me.0 _ c.loop.inv
 
 pub loop-preserved : goal.loop-preserved
 loop-preserved g c = let i = c.loop.invariant in let m = c.make_victim.ensures in record {
+  own = record { queue = m.own.queue; lasts = m.own.lasts ∙ i.own.lasts; room = m.own.room ∙ i.own.room; counted = m.own.counted };
   keeps = keeps_on i.keeps m.keeps;
-  queue = m.queue;
-  lasts = m.lasts ∙ i.lasts;
   unpushed = m.unpushed ∙ i.unpushed;
   rests = c.in-Again.ensures.answer.0;
-  counted = m.counted;
   turns = (let a = i.turns in let b = m.turns in omega arith);
   hints = m.hints ∙ i.hints;
-  room = m.room ∙ i.room;
   ring = m.ring ∙ i.ring;
   met = c.in-Again.ensures.met ∙ i.met;
   calls = calls_on _ _ c.loop.seat.me.0 _ i.calls m.calls;
@@ -77,15 +68,15 @@ loop-preserved g c = let i = c.loop.invariant in let m = c.make_victim.ensures i
 pub returns-in-Some-enter_or_pin-clause-answer : goal.returns-in-Some-enter_or_pin-clause-answer
 returns-in-Some-enter_or_pin-clause-answer g c = record {
   start = c.loop.seat.me.0;
-  by = choice_state c.loop.queue c.loop.ring c.loop.census;
+  by = choice_state c.loop.backend.queue c.loop.ring c.loop.backend.census;
   tries = c.loop.invariant.tries;
   victim = c.in-Ready.victim.frame;
   chosen = c.make_victim.new.seat.me.0;
-  popped = c.make_victim.new.queue;
+  popped = c.make_victim.new.backend.queue;
   empties = c.in-Ready.ensures.answer.2;
   before = rises_on _ c.loop.seat.me.0 _ c.loop.invariant.keeps.rises c.make_victim.ensures.keeps.rises;
   unpushed = c.make_victim.ensures.unpushed ∙ c.loop.invariant.unpushed;
-  enters = subst (λ (b : Bool). EntersAndStores (frames_of c.args.table.now) c.args.tag c.args.held.now b c.in-Ready.victim.frame c.in-Some-enter_or_pin.pin.frame [] c.make_victim.new.seat.me.0 c.make_victim.new.queue c.enter_or_pin.new.seat.me.0 c.enter_or_pin.new.queue) c.is_some-ringed.ensures c.in-Some-enter_or_pin.ensures.stored;
+  enters = subst (λ (b : Bool). EntersAndStores (frames_of c.args.table.now) c.args.tag c.args.held.now b c.in-Ready.victim.frame c.in-Some-enter_or_pin.pin.frame [] c.make_victim.new.seat.me.0 c.make_victim.new.backend.queue c.enter_or_pin.new.seat.me.0 c.enter_or_pin.new.queue) c.is_some-ringed.ensures c.in-Some-enter_or_pin.ensures.stored;
 }
 
 pub returns-in-Refused-clause-unpushed : goal.returns-in-Refused-clause-unpushed

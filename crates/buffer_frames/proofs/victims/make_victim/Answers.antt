@@ -58,7 +58,7 @@ returns-in-Err-clause-answer g c = let e = c.in-Err.ensures in let v = c.args.se
     e.frames,
     record {
       start = v;
-      by = choice_state c.args.queue.now c.args.ring.now c.args.census.now;
+      by = choice_state c.args.backend.now.queue c.args.ring.now c.args.backend.now.census;
       tries = none_tried;
       since = rises_none v;
       pins = λ f. refl;
@@ -76,7 +76,7 @@ returns-in-Err-flush_victim-clause-answer g c = let v = c.args.seat.now.me.0 in 
   u.ensures.rests,
   record {
     start = v;
-    by = choice_state c.args.queue.now c.args.ring.now c.args.census.now;
+    by = choice_state c.args.backend.now.queue c.args.ring.now c.args.backend.now.census;
     tries = none_tried;
     since = rises_none v;
     frame = c.in-Ok.chosen.pin.frame;

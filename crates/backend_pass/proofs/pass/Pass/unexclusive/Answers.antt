@@ -1,12 +1,15 @@
 use Rattle.std.proofs.Common.{◌≡◌, ◌∙◌, ℕ, Some, refl, sym, ap, subst}
 use Rattle.buffer_frames.specs.Tokens.{held_at}
+use Rattle.pin_core.specs.declared.view.Content.TheVariants.{Unlocked}
+use Rattle.pin_core.specs.declared.view.Link.{Link}
 use Rattle.pin_core.specs.declared.view.View.{View}
+use Rattle.pin_core.specs.State.{link}
 use Rattle.buffer_frames.specs.Outside.{shown_count}
 use Rattle.backend_pass.specs.Managers.{Belongs}
 use Rattle.backend_pass.specs.Passes.{IsNumbered, PassState, view_in}
 use Rattle.backend_pass.proofs.Releasing.{belongs_touched, numbered_self, same_touched, shown_self}
-use Rattle.backend_pass.proofs.Relocking.{Relocks, beside_lock, held_same, rests_relocked}
-use Rattle.backend_pass.proofs.Seated.{moved, same_from}
+use Rattle.backend_pass.proofs.Relocking.{Relocks, changes_lock, beside_lock, held_same, rests_relocked}
+use Rattle.backend_pass.proofs.Seated.{moved, moved_one, same_from}
 use Rattle.backend_pass.proofs.pass.Pass.unexclusive.Given.{Over}
 use Rattle.backend_pass.proofs.pass.Pass.unexclusive.Goals as goal
 
@@ -44,3 +47,6 @@ returns-clause-same g c =
     let table = sym c.return_seat.ensures.table ∙ c.unexclusive.ensures.seat.table ∙ c.take_seat-seat.ensures.table in
     let id = sym c.return_seat.ensures.id ∙ c.unexclusive.ensures.seat.id ∙ c.take_seat-seat.ensures.id in
     same_from _ _ _ c.self.view_is (same_touched _ _ f table id refl k.touches)
+
+pub returns-clause-lock : goal.returns-clause-lock
+returns-clause-lock g c = changes_lock Unlocked c.args.exclusive.pinned.frame _ _ _ c.self.view_is (relocked g c) (moved_one (λ (w : View). (link w c.args.exclusive.pinned.frame).content ≡ Unlocked) _ _ c.return_seat.ensures.view (ap (λ (l : Link). l.content) c.unexclusive.ensures.unexclusive))
