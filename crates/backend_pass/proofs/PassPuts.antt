@@ -10,7 +10,7 @@ use Rattle.pin_core.specs.declared.view.Content.TheVariants.{Exclusive}
 use Rattle.pin_core.specs.declared.view.FailedCalls.{FailedCalls}
 use Rattle.pin_core.specs.declared.view.View.{View}
 use Rattle.pin_core.specs.State.{Page, link}
-use Rattle.history_core.specs.Log.{IsFront}
+use Rattle.history_core.specs.Log.{image_record, IsFront}
 use Rattle.table_rule.specs.Blocks.{is_block}
 use Rattle.frame_table.specs.Opened.{WasSoundAtOpening}
 use Rattle.frame_table.specs.Seats.{base_of, frames_of, relations_of}
@@ -74,7 +74,7 @@ same_put f p q table id census k = let e = k.kept in record {
 }
 
 pub front_put : (base : ℕ) (relations : List RelEntry) (f : ℕ) (tag : Tag) (page : Page) (v w : View) (r : Result ℕ InsertError) → PutAnswer relations f tag page v w r → IsFront base v.calls v.front → IsFront base w.calls w.front
-front_put base relations f tag page v w (Ok lsn) a = front_added base v w (Write v.number (packed_tag tag) (with_lsn lsn page) lsn true) a.calls a.front (let later = a.later in omega arith)
+front_put base relations f tag page v w (Ok lsn) a = front_added base v w (Write v.number (packed_tag tag) (with_lsn lsn page) lsn image_record) a.calls a.front (let later = a.later in omega arith)
 front_put base relations f tag page v w (Err why) a = front_kept base v w a.calls a.front
 
 pub belongs_put : {L G : Type 0} (contents : L → Option Pages) (m : Manager L G) (p q : PassState) → q.table ≡ p.table → own_of q ≡ own_of p → q.tokens ≡ p.tokens → (IsFront (base_of m.table) p.view.calls p.view.front → IsFront (base_of m.table) q.view.calls q.view.front) → p.view.end_seen ≤ q.view.end_seen → Belongs contents m p → Belongs contents m q

@@ -13,6 +13,7 @@ use Rattle.pin_core.specs.declared.view.Link.{Link}
 use Rattle.pin_core.specs.declared.view.TornRecord.{TornRecord}
 use Rattle.pin_core.specs.declared.view.View.{View}
 use Rattle.pin_core.specs.State.{Page, idle, link}
+use Rattle.history_core.specs.Log.{image_record}
 use Rattle.page_core.specs.Kinds as kinds
 use Rattle.page_core.specs.Kinds.{copied_after}
 use Rattle.table_rule.specs.Blocks.{has_block}
@@ -189,8 +190,8 @@ module _ (f : ℕ) (t : Tokens) (v u : View) (m : MarkedFrameDirty f v u) where
       pub puts_done : (page : Page) → p ≡ with_lsn lsn page → AppliesImage f p x w → DidPut relations f tag page lsn v w
       puts_done page is applies = record {
         work = subst (λ (q : Page). PutsPage relations f tag q lsn v w) is record { marked = u; entered = x; marks = m.did; inserts = did; applies = applies };
-        calls = subst (λ (q : Page). w.calls ≡ v.calls ++ Write v.number (packed_tag tag) q lsn true ∷ []) is
-            (ap (λ (y : View). y.calls) touches.self ∙ ap (λ (y : View). y.calls) e ∙ ap (λ (y : View). y.calls ++ Write y.number (packed_tag tag) p lsn true ∷ []) m.touches.self);
+        calls = subst (λ (q : Page). w.calls ≡ v.calls ++ Write v.number (packed_tag tag) q lsn image_record ∷ []) is
+            (ap (λ (y : View). y.calls) touches.self ∙ ap (λ (y : View). y.calls) e ∙ ap (λ (y : View). y.calls ++ Write y.number (packed_tag tag) p lsn image_record ∷ []) m.touches.self);
         front = ap (λ (y : View). y.front) touches.self ∙ ap (λ (y : View). y.front) e;
         later = let start = did.later in let ends = did.ends in let front = ap (λ (y : View). y.front) m.touches.self in omega arith;
       }

@@ -11,7 +11,7 @@ use Rattle.pin_core.specs.declared.view.FailedCalls.{FailedCalls}
 use Rattle.pin_core.specs.declared.view.View.{View}
 use Rattle.pin_core.specs.State.{Page, link}
 use Rattle.page_core.specs.Kinds as kinds
-use Rattle.history_core.specs.Log.{record_size}
+use Rattle.history_core.specs.Log.{image_record, record_size}
 use Rattle.history_core.specs.State.{last_position}
 use Rattle.frame_table.specs.FrameSteps.{Did, Tried}
 use Rattle.frame_table.specs.Kinds.{pages}
@@ -55,7 +55,7 @@ pub record PutsPage (relations : List RelEntry) (f : ℕ) (tag : Tag) (page : Pa
 -- The page was put, with its position, which is the view's front from then on: one write more is among its calls
 pub record DidPut (relations : List RelEntry) (f : ℕ) (tag : Tag) (page : Page) (lsn : ℕ) (v w : View) : Type 0 where
   pub work : PutsPage relations f tag (with_lsn lsn page) lsn v w
-  pub calls : w.calls ≡ v.calls ++ Write v.number (packed_tag tag) (with_lsn lsn page) lsn true ∷ []
+  pub calls : w.calls ≡ v.calls ++ Write v.number (packed_tag tag) (with_lsn lsn page) lsn image_record ∷ []
   pub front : w.front ≡ lsn
   pub later : v.front < lsn
 

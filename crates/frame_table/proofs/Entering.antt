@@ -61,6 +61,7 @@ module _ (s : State) (id : ℕ) (v : View) (laws : Laws s) (there : get_elem? s.
     ends = e.ends ∙ ap (λ (n : ℕ). n + record_size) same;
     room = (let z = e.room in omega arith);
     makes = (refl, refl);
+    past = tt;
     allowed = tt;
   }
 
@@ -76,13 +77,14 @@ module _ (s : State) (id : ℕ) (v : View) (laws : Laws s) (there : get_elem? s.
     ends = c.ends;
     room = c.room;
     makes = (refl, refl);
+    past = tt;
     allowed = tt;
     appended = m.appended ∙ ap (λ (l : List ℕ). Some l) (is_entry relations names f tag p m.start m.bytes m.enters m.is_record) ∙ ap (λ (word : ℕ). Some (record_bytes s.names (new_entry s v.number (image word p)))) (sym c.tagged);
   }
 
 -- the view after it
 abbrev written : ℕ → Page → State → View → View
-written f p s v = has_written (image (s.pool.core.frame f).tag p) (s.end + record_size) (s.pool.core.frame f).tag p (paged (make_entry p) s.pool f v)
+written f p s v = has_written (image (s.pool.core.frame f).tag p) (link v f).copied (s.end + record_size) (s.pool.core.frame f).tag p (paged (make_entry p) s.pool f v)
 
 -- and the state
 abbrev entered : ℕ → ℕ → Page → State → View → State

@@ -10,15 +10,15 @@ use Rattle.pin_core.specs.declared.view.View.{View}
 use Rattle.pin_core.specs.Kinds as pin
 use Rattle.page_core.specs.Kinds as paged
 use Rattle.history_core.specs.State.{State, next_hand}
-use Rattle.history_core.specs.Words.{end_word, flushed_word, hand_word, hint_word}
+use Rattle.history_core.specs.Words.{end_word, flushed_word, redo_word, hand_word, hint_word}
 use Rattle.history_core.specs.Trail.{Follows}
 use Rattle.history_core.proofs.Trail.{Ticks, listed_made, next_tick, next_word}
 use Rattle.table_rule.specs.declared.opening.Opening.{Opening}
-use Rattle.table_rule.specs.Layout.{end_place, flushed_place, hand_place, hint_place}
+use Rattle.table_rule.specs.Layout.{end_place, flushed_place, redo_place, hand_place, hint_place}
 use Rattle.table_rule.specs.Shows.{Devices}
-use Rattle.frame_table.specs.WordSteps.{DidWord, add_hand, raise_flushed, store_hint}
+use Rattle.frame_table.specs.WordSteps.{DidWord, add_hand, raise_flushed, raise_redo, store_hint}
 use Rattle.frame_table.specs.Kinds.{FrameWord, state_word, FrameKind, pins, pages, part_of, frame_after, view_after}
-use Rattle.frame_table.specs.Stores.{Makes, MustStore, HandMustMove, FlushedMustRise, HintMustBeStored}
+use Rattle.frame_table.specs.Stores.{Makes, MustStore, HandMustMove, FlushedMustRise, RedoMustRise, HintMustBeStored}
 use Rattle.frame_table.specs.FrameSteps.{part_place, SaysOf, Did}
 use Rattle.grid.proofs.Lists.{put_at}
 
@@ -129,6 +129,27 @@ module _ {L G : Type 0} (d : Devices L G) (o : Opening L G) where
       let shown : g n ≡ h'.state.flushed = sym (get_or-set_same t.words at (g n) 0 (let e = h.shows.words in omega arith)) ∙ h'.shows.latches.word flushed_word tt in
       let highest = h.laws.trail.flushed.above id me.0 here in
       let is_flushed : n ≡ s.flushed = h.shows.latches.word flushed_word tt in
+      let is_end : get_or t.words (end_place o.config.frames) 0 ≡ s.end = h.shows.latches.word end_word tt in
+      omega arith
+
+  -- and what an operation on the word of the redo position stores, if it keeps the rule and tells that the position was raised
+  pub redo_rises : RedoMustRise d o
+  redo_rises slots id a b g me t h0 allows =
+      let at : ℕ = redo_place o.config.frames in
+      let n : ℕ = get_or t.words at 0 in
+      let h = h0.held in
+      let s = h.state in
+      let r = allows t h h0.wide h0.there h0.small in
+      let w : View = r.0 in
+      let h' = r.3 in
+      let did : DidWord raise_redo me.0 w n = r.4.1 in
+      let here : get_elem? s.pool.core.views id ≡ some me.0 = ap (λ (l : List View). get_elem? l id) (sym h.shows.views) ∙ h0.there in
+      let raised : w.redo_raised ≡ me.0.redo_raised ++ s.end ∷ [] = ap (λ (v : View). v.redo_raised) did.after ∙ ap (λ (e : Option ℕ). me.0.redo_raised ++ unwrap_or e 0 ∷ []) did.allowed
+      ∙ ap (λ (z : ℕ). me.0.redo_raised ++ z ∷ []) (((h.laws.invariant.device.cells id me.0 0 here (lit< tt)).end did.state.end did.allowed).1) in
+      let base : h'.state.log.base ≡ s.log.base = h'.shows.fixed.base ∙ sym h.shows.fixed.base in
+      let made = (listed_made s h'.state h.laws h'.laws id me.0 w here (sym h'.shows.views ∙ ap (λ (l : List View). set l id w) h.shows.views)).raised_redo base s.end raised in
+      let shown : g n ≡ h'.state.redo = sym (get_or-set_same t.words at (g n) 0 (let e = h.shows.words in omega arith)) ∙ h'.shows.latches.word redo_word tt in
+      let is_redo : n ≡ s.redo = h.shows.latches.word redo_word tt in
       let is_end : get_or t.words (end_place o.config.frames) 0 ≡ s.end = h.shows.latches.word end_word tt in
       omega arith
 

@@ -29,11 +29,11 @@ use Rattle.table_rule.specs.declared.turn.Place.TheVariants as place
 use Rattle.table_rule.specs.declared.turn.Turn.{Turn}
 use Rattle.table_rule.specs.declared.turn.Turn.TheVariants as turn
 use Rattle.table_rule.specs.Shows.{is_taken, ShowsLatches, Devices, Shows, RuleHolds, is_out}
-use Rattle.frame_table.specs.WordSteps.{WordKind, at_word, load_end, read_end, begin_checkpoint, load_flushed, raise_flushed, load_hand, add_hand, load_hint, store_hint, kind_word, number_left, word_event, IsWordAllowed, end_known, read_of, view_of, next_of, DidWord, tells_word, tells_hint}
+use Rattle.frame_table.specs.WordSteps.{WordKind, at_word, load_end, read_end, begin_checkpoint, load_flushed, raise_flushed, load_redo, raise_redo, load_hand, add_hand, load_hint, store_hint, kind_word, number_left, word_event, IsWordAllowed, end_known, read_of, view_of, next_of, DidWord, tells_word, tells_hint}
 use Rattle.frame_table.specs.declared.log_words.EndLoad.{EndLoad}
 use Rattle.frame_table.specs.declared.log_words.EndLoad.TheVariants.{Plain, Read, Checkpoint}
 use Rattle.frame_table.specs.EndLoads.{IsEndAllowed, end_kind}
-use Rattle.table_rule.specs.Layout.{latch_place, word_place, word_count, HasWord, end_place, flushed_place, hand_place, hint_place}
+use Rattle.table_rule.specs.Layout.{latch_place, word_place, word_count, HasWord, end_place, flushed_place, redo_place, hand_place, hint_place}
 use Rattle.history_core.specs.Words.{hint_count}
 use Rattle.table_rule.proofs.Places.{word_behind, latch_apart, said}
 use Rattle.frame_table.proofs.Allowing.{allows_with}
@@ -42,6 +42,7 @@ use Rattle.frame_table.proofs.Frames.{frame_else, lane_none, device_none, same_o
 -- what a kind at a word asks, it asks in the protocol, where the log ends as the view has loaded it
 core_kind : (k : core.WordKind) (s : State) (v : View) → IsWordAllowed (at_word k) s v → WordAllowed k s v × (after_word k s v ≡ view_of (at_word k) (word_of (word_at k) s) v)
 core_kind core.raise_flushed s v a = (a.0, ap (λ (end : ℕ). view_after_word core.raise_flushed s.flushed end v) (sym (ap (λ (o : Option ℕ). unwrap_or o 0) a.1)))
+core_kind core.raise_redo s v a = (a, ap (λ (end : ℕ). view_after_word core.raise_redo s.redo end v) (sym (ap (λ (o : Option ℕ). unwrap_or o 0) a)))
 core_kind _ s v a = (a, refl)
 
 -- each kind is a step of the protocol
@@ -146,6 +147,12 @@ module _ {L G : Type 0} (d : Devices L G) (o : Opening L G) (slots id : ℕ) (me
   pub raises_there : (end : ℕ) → me.0.log.synced ≡ true → me.0.log.end ≡ Some end → Allows (RuleHolds d o) slots id me (flushed_place o.config.frames) (λ _. end) (tells_word raise_flushed (step slots (flushed_place o.config.frames) end 0 none) me)
   raises_there end synced noted = acts_behind d o raise_flushed tt slots id end 0 (λ _. end) me live (λ s l f there small. ((synced, noted ∙ ap (λ (n : ℕ). Some n) ((l.invariant.device.cells id me.0 0 there (lit< tt)).end end noted).1), (let e = ((l.invariant.device.cells id me.0 0 there (lit< tt)).end end noted).1 in let low = l.invariant.flushed_to in omega arith)))
 
+  pub loads_redo_there : me.0.log.held ≡ true → Allows (RuleHolds d o) slots id me (redo_place o.config.frames) (λ n. n) (tells_word load_redo (step slots (redo_place o.config.frames) 0 0 none) me)
+  loads_redo_there held = acts_behind d o load_redo tt slots id 0 0 (λ n. n) me live (λ s l f there small. (held, refl))
+
+  pub raises_redo_there : (end : ℕ) → me.0.log.end ≡ Some end → Allows (RuleHolds d o) slots id me (redo_place o.config.frames) (λ _. end) (tells_word raise_redo (step slots (redo_place o.config.frames) end 0 none) me)
+  raises_redo_there end noted = acts_behind d o raise_redo tt slots id end 0 (λ _. end) me live (λ s l f there small. (noted ∙ ap (λ (n : ℕ). Some n) ((l.invariant.device.cells id me.0 0 there (lit< tt)).end end noted).1, (let e = ((l.invariant.device.cells id me.0 0 there (lit< tt)).end end noted).1 in let low = l.redo.within in omega arith)))
+
   pub loads_hand_there : Allows (RuleHolds d o) slots id me (hand_place o.config.frames) (λ n. n) (tells_word load_hand (step slots (hand_place o.config.frames) 0 0 none) me)
   loads_hand_there = acts_behind d o load_hand tt slots id 0 0 (λ n. n) me live (λ s l f there small. (tt, refl))
 
@@ -166,6 +173,10 @@ module _ {L G : Type 0} (d : Devices L G) (o : Opening L G) (slots id : ℕ) (me
 -- the flushed position is never below what a view has loaded of it
 pub flushed_below : (v w : View) (found : ℕ) → DidWord load_flushed v w found → v.flushed ≤ found
 flushed_below v w found d = let a = (d.laws.invariant.history.calls d.seat v d.there).loaded in let e = d.says in omega arith
+
+-- the redo position is at most the log's end, as the holder of its latch has loaded it
+pub redo_below : (v w : View) (found : ℕ) → DidWord load_redo v w found → (end : ℕ) → v.log.end ≡ Some end → found ≤ end
+redo_below v w found d end noted = let e = ((d.laws.invariant.device.cells d.seat v 0 d.there (lit< tt)).end end noted).1 in let low = d.laws.redo.within in let s = d.says in omega arith
 
 -- the place of a read is at least all that the backend had seen
 pub front_below : (k : WordKind) (v w : View) (found : ℕ) → ((s : State) → word_of (kind_word k) s ≡ s.end) → DidWord k v w found → v.front ≤ found

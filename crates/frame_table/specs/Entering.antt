@@ -18,7 +18,7 @@ use Rattle.page_core.specs.Steps.{HasNoneUnapplied}
 use Rattle.history_core.specs.Laws.{Laws}
 use Rattle.history_core.specs.Log.{image, record_size}
 use Rattle.history_core.specs.State.{State, last_position}
-use Rattle.history_core.specs.Steps.{CanEnter, has_written, paged}
+use Rattle.history_core.specs.Steps.{CanEnter, logged_as, has_written, paged}
 use Rattle.table_rule.specs.declared.value.Value.{Value}
 use Rattle.table_rule.specs.LogCalls.{block_record}
 
@@ -67,7 +67,7 @@ pub record DidEnter (f : ℕ) (p : Page) (v w : View) : Type 0 where
   pub live : v.emptied ≡ false
   pub inside : f < state.pool.core.frames
   pub allowed : CanEnter state f p (image (state.pool.core.frame f).tag p) v
-  pub after : w ≡ has_written (image (state.pool.core.frame f).tag p) (state.end + record_size) (state.pool.core.frame f).tag p (paged (make_entry p) state.pool f v)
+  pub after : w ≡ has_written (image (state.pool.core.frame f).tag p) (link v f).copied (state.end + record_size) (state.pool.core.frame f).tag p (paged (make_entry p) state.pool f v)
 
 -- what it has at the frame then: the entry isn't applied yet
 abbrev pub entered_link : Page → Link → Link
@@ -77,7 +77,7 @@ entered_link p l = record l { entered = true; unapplied = true; image = Some p; 
 abbrev pub view_entered : ℕ → ℕ → Page → ℕ → View → View
 view_entered f tag p end v = record v {
   links = slice_set v.links f (entered_link p (link v f));
-  calls = v.calls ++ Write v.number tag p end true ∷ [];
+  calls = v.calls ++ Write v.number tag p end (logged_as (image tag p) v.log.redo (link v f).copied) ∷ [];
   front = end;
   end_seen = max v.end_seen end;
   log = record v.log { appended = None; end = Some end };

@@ -1,4 +1,4 @@
--- What the table's rule makes a step store: at a state word what the kind of step that it tells of makes of the word found, at the clock's hand the number of the next frame, at the flushed position the larger of it and the log's end, and at a hint word the value that it tells.
+-- What the table's rule makes a step store: at a state word what the kind of step that it tells of makes of the word found, at the clock's hand the number of the next frame, at the flushed position and the redo position the larger of it and the log's end, and at a hint word the value that it tells.
 use Rattle.std.specs.Prelude.{◌≡◌, ℕ, ◌<◌, max, length, slice_index}
 use mathlib.Core.Option.{none, some}
 use lib.ListN.{get_elem?}
@@ -11,9 +11,9 @@ use Rattle.history_core.specs.State.{State, next_hand}
 use Rattle.history_core.specs.Words.{hint_count}
 use Rattle.table_rule.specs.declared.value.Value.{Value}
 use Rattle.table_rule.specs.declared.opening.Opening.{Opening}
-use Rattle.table_rule.specs.Layout.{end_place, flushed_place, hand_place, hint_place, state_place}
+use Rattle.table_rule.specs.Layout.{end_place, flushed_place, redo_place, hand_place, hint_place, state_place}
 use Rattle.table_rule.specs.Shows.{Devices, RuleHolds}
-use Rattle.frame_table.specs.WordSteps.{add_hand, raise_flushed, store_hint, tells_word}
+use Rattle.frame_table.specs.WordSteps.{add_hand, raise_flushed, raise_redo, store_hint, tells_word}
 use Rattle.frame_table.specs.Kinds.{state_word, FrameKind, frame_after}
 use Rattle.frame_table.specs.FrameSteps.{Choice, chosen, choice_part, tells}
 
@@ -48,6 +48,12 @@ module _ {L G : Type 0} (d : Devices L G) (o : Opening L G) where
   FlushedMustRise = (slots id a b : ℕ) (g : ℕ → ℕ) (me : Me (Value L G) View) (t : table.State (Value L G) View) → IsSeated slots id (flushed_place o.config.frames) me t
       → Allows (RuleHolds d o) slots id me (flushed_place o.config.frames) g (tells_word raise_flushed (step slots (flushed_place o.config.frames) a b none) me)
       → g (slice_index t.words (flushed_place o.config.frames)) ≡ max (slice_index t.words (flushed_place o.config.frames)) (slice_index t.words (end_place o.config.frames))
+
+  -- And whatever operation g on the word of the redo position keeps the rule and tells that the position was raised: it stores the larger of that word and of the log's end
+  abbrev pub RedoMustRise : Type 0
+  RedoMustRise = (slots id a b : ℕ) (g : ℕ → ℕ) (me : Me (Value L G) View) (t : table.State (Value L G) View) → IsSeated slots id (redo_place o.config.frames) me t
+      → Allows (RuleHolds d o) slots id me (redo_place o.config.frames) g (tells_word raise_redo (step slots (redo_place o.config.frames) a b none) me)
+      → g (slice_index t.words (redo_place o.config.frames)) ≡ max (slice_index t.words (redo_place o.config.frames)) (slice_index t.words (end_place o.config.frames))
 
   -- And whatever operation g on a hint word keeps the rule and tells that the word got a value stores that value
   abbrev pub HintMustBeStored : Type 0

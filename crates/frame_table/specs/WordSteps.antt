@@ -35,6 +35,13 @@ load_flushed = at_word core.load_flushed
 abbrev pub raise_flushed : WordKind
 raise_flushed = at_word core.raise_flushed
 
+-- the redo position is loaded, and raised to the log's end
+abbrev pub load_redo : WordKind
+load_redo = at_word core.load_redo
+
+abbrev pub raise_redo : WordKind
+raise_redo = at_word core.raise_redo
+
 -- the clock's hand is loaded, and moves on
 abbrev pub load_hand : WordKind
 load_hand = at_word core.load_hand

@@ -25,6 +25,7 @@ mod maps;
 mod pages;
 mod pin;
 mod plays;
+mod redo;
 mod rights;
 mod seats;
 mod table;

@@ -18,7 +18,7 @@ use std::marker::Brand;
 use table_rule::{Value, end_place, flushed_place, hand_place};
 
 /// What the log's end is loaded for.
-#[derive(Clone, Copy, PartialEq, Eq, Debug)]
+#[derive(Clone, Copy)]
 pub enum EndLoad {
     Plain,
     /// As the place of a read of the page that was copied from a frame.

@@ -8,7 +8,7 @@ ghost use Rattle.table_rule.specs.Layout as layout;
 ghost use Rattle.table_rule.specs.Shows.{devices};
 ghost use Rattle.frame_table.specs.Kinds as kinds;
 ghost use Rattle.frame_table.specs.Kinds.{FrameKind, pages, part_of, pins};
-ghost use Rattle.frame_table.specs.Stores.{FlushedMustRise, HandMustMove, HintMustBeStored, Makes, MustStore};
+ghost use Rattle.frame_table.specs.Stores.{FlushedMustRise, RedoMustRise, HandMustMove, HintMustBeStored, Makes, MustStore};
 
 use atomic_table::Table;
 use block_tag::Catalog;
@@ -56,6 +56,7 @@ impl<L: BlockLane, G: LogDevice> FrameTable<L, G> {
         ensures dirtied { MustStore (devices L.BlockLane G.LogDevice) self.now.table.shared.key (pages page_kinds.mark_dirty) (λ f found left. left ≡ dirtied_fields found) }
         ensures hand { HandMustMove (devices L.BlockLane G.LogDevice) self.now.table.shared.key }
         ensures flushed { FlushedMustRise (devices L.BlockLane G.LogDevice) self.now.table.shared.key }
+        ensures redo { RedoMustRise (devices L.BlockLane G.LogDevice) self.now.table.shared.key }
         ensures hints { HintMustBeStored (devices L.BlockLane G.LogDevice) self.now.table.shared.key }
     {}
 }

@@ -5,7 +5,7 @@ ghost use Rattle.segment_store.specs.Contents.{Pages};
 ghost use Rattle.frame_table.specs.declared.log_words.EndLoad.{EndLoad};
 ghost use Rattle.frame_table.specs.declared.log_words.EndLoad.TheVariants.{Plain};
 ghost use Rattle.frame_table.specs.EndLoads.{tells_end_load};
-ghost use Rattle.frame_table.specs.WordSteps.{WordKind, tells_hint, tells_word, load_flushed, raise_flushed, load_hand, add_hand};
+ghost use Rattle.frame_table.specs.WordSteps.{WordKind, tells_hint, tells_word, load_flushed, raise_flushed, load_redo, raise_redo, load_hand, add_hand};
 
 use atomic_table::Play;
 use pin_core::View;
@@ -77,6 +77,18 @@ pub(crate) struct RaiseFlushed;
 
 impl StepsAt for RaiseFlushed {
     ghost kind = { raise_flushed };
+}
+
+pub(crate) struct LoadRedo;
+
+impl StepsAt for LoadRedo {
+    ghost kind = { load_redo };
+}
+
+pub(crate) struct RaiseRedo;
+
+impl StepsAt for RaiseRedo {
+    ghost kind = { raise_redo };
 }
 
 pub(crate) struct LoadHand;

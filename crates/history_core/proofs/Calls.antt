@@ -6,12 +6,15 @@ use mathlib.Core.Logic.{dite}
 use native.Mathlib.Decide.{ℕ_discrete}
 use mathlib.Core.Option.{some, some-ne-none, some-injective}
 use lib.ListN.{get_elem?}
+use Rattle.page_layout.specs.Fields.{lsn_of}
 use Rattle.pin_core.specs.declared.view.Call.{Call}
 use Rattle.pin_core.specs.declared.view.Call.TheVariants.{Read, Write}
+use Rattle.pin_core.specs.declared.view.ImageTest.{ImageTest}
 use Rattle.pin_core.specs.declared.view.JoinedCheckpoint.{JoinedCheckpoint}
+use Rattle.pin_core.specs.declared.view.WriteRecord.{WriteRecord}
 use Rattle.pin_core.specs.declared.view.View.{View}
 use Rattle.pin_core.specs.State.{Page, emptied_view, joined_view, kept_checkpoint}
-use Rattle.history_core.specs.Log.{Entry, Log, LogLaw, image, is_image, tag_in, end_of, log_end, cell, IsLegal, IsLegalRead, place_of, backend_of, write_weight, weight_at, writes_in, writes_at, HasPlace, AreInOrder}
+use Rattle.history_core.specs.Log.{Entry, Log, LogLaw, image, tag_in, end_of, log_end, cell, cut, change_size, IsLegal, IsLegalRead, place_of, backend_of, write_weight, weight_at, writes_in, writes_at, HasPlace, AreInOrder}
 use Rattle.history_core.specs.Invariant.{HasNumber, CallsLaw, KeptLaw, HistoryLaw}
 use Rattle.grid.specs.Shape.{total}
 use Rattle.grid.proofs.Lists.{at_set, at_end, at_longer, set_else, set_here}
@@ -36,7 +39,7 @@ at_right (y ∷ l) m p x = let z = at_right l m p x in (suc z.0, z.1, z.2, z.3)
 at_last_place : (l : List Call) (c : Call) (p : ℕ) → place_of c ≡ p → HasPlace (l ++ c ∷ []) p
 at_last_place l c p e = at_right l (c ∷ []) p (0, c, refl, e)
 
-index_below : {A : Type 0} (l : List A) (j : ℕ) (y : A) → get_elem? l j ≡ some y → j < length l
+pub index_below : {A : Type 0} (l : List A) (j : ℕ) (y : A) → get_elem? l j ≡ some y → j < length l
 index_below [] j y t = absurd (some-ne-none y (sym t))
 index_below (z ∷ l) zero y t = omega arith
 index_below (z ∷ l) (suc j) y t = omega (arith, index_below l j y t)
@@ -59,21 +62,22 @@ legal_longer known origin log e starts h (Read backend tag page place) l = let w
   within = omega (arith, end_longer log e h, some_size e.change);
   reads = λ is. ap (λ (es : List Entry). cell origin es tag) (cut_longer place log.entries e (omega (arith, some_size e.change))) ∙ l.reads is;
 }
-legal_longer known origin log e starts h (Write backend tag page place whole) l = let x = l.ends in let low = ends_below log e h l.index l.entry l.entered.there in record {
+legal_longer known origin log e starts h (Write backend tag page place logged) l = let x = l.ends in let low = ends_below log e h l.index l.entry l.entered.there in record {
   index = l.index;
   entry = l.entry;
   entered = record { there = at_longer log.entries (e ∷ []) l.index l.entry l.entered.there; of = l.entered.of };
   made = l.made;
   ends = l.ends;
   image_is = l.image_is;
-  is_whole = l.is_whole;
+  sized = l.sized;
+  tested = λ t test is. let x = l.tested t test is in (x.0, ap (λ (es : List Entry). cell origin es tag) (cut_longer l.entry.start log.entries e (omega (arith, some_size e.change))) ∙ x.1, x.2);
   writes = λ is. ap (λ (es : List Entry). cell origin es tag) (cut_longer place log.entries e (omega (arith, some_size e.change))) ∙ l.writes is;
 }
 
 -- a legal call has its place at the log's end or before it
 legal_within : (known : ℕ → Bool) (origin : ℕ → Option Page) (log : Log) (e : Entry) → LogLaw log → (c : Call) → IsLegal known origin log c → place_of c ≤ log_end log
 legal_within known origin log e h (Read backend tag page place) l = l.within
-legal_within known origin log e h (Write backend tag page place whole) l = let x = l.ends in let y = ends_below log e h l.index l.entry l.entered.there in omega arith
+legal_within known origin log e h (Write backend tag page place logged) l = let x = l.ends in let y = ends_below log e h l.index l.entry l.entered.there in omega arith
 
 -- A view's calls and front are those of another one
 pub record SameCalls (v w : View) : Type 0 where
@@ -333,12 +337,13 @@ module _ (known : ℕ → Bool) (origin : ℕ → Option Page) (log : Log) (flus
 
 -- An entry is made, and the write of it gets its end as its place
 module _ (known : ℕ → Bool) (origin : ℕ → Option Page) (log : Log) (flushed : ℕ) (views : List View) (h : HistoryLaw known origin log flushed views) (logged : LogLaw log) (i : ℕ) (v w : View) (there : get_elem? views i ≡ some v) (e : Entry) (starts : e.start ≡ log_end log)
-    (tag : ℕ) (p : Page) (of : tag_in e.change ≡ Some tag) (whole : (t : ℕ) (q : Page) → e.change ≡ image t q → q ≡ p) (is : known tag ≡ true → cell origin (log.entries ++ e ∷ []) tag ≡ Some p) (calls : w.calls ≡ v.calls ++ Write e.backend tag p (end_of e) (is_image e.change) ∷ []) (front : w.front ≡ end_of e) (emptied : w.emptied ≡ v.emptied) (loaded : w.flushed ≡ v.flushed) (number : w.number ≡ v.number) (kept : w.joined_checkpoints ≡ v.joined_checkpoints) (maker : e.backend ≡ v.number) where
+    (tag : ℕ) (p : Page) (record_is : WriteRecord) (of : tag_in e.change ≡ Some tag) (whole : (t : ℕ) (q : Page) → e.change ≡ image t q → q ≡ p) (sized : change_size e.change ≡ record_is.size) (tested : (t : ImageTest) → record_is.test ≡ Some t → known tag ≡ true → (q : Page) × (cell origin log.entries tag ≡ Some q) × (lsn_of q ≡ t.before))
+    (is : known tag ≡ true → cell origin (log.entries ++ e ∷ []) tag ≡ Some p) (calls : w.calls ≡ v.calls ++ Write e.backend tag p (end_of e) record_is ∷ []) (front : w.front ≡ end_of e) (emptied : w.emptied ≡ v.emptied) (loaded : w.flushed ≡ v.flushed) (number : w.number ≡ v.number) (kept : w.joined_checkpoints ≡ v.joined_checkpoints) (maker : e.backend ≡ v.number) where
   abbrev longer : Log
   longer = record log { entries = log.entries ++ e ∷ [] }
 
   abbrev call : Call
-  call = Write e.backend tag p (end_of e) (is_image e.change)
+  call = Write e.backend tag p (end_of e) record_is
 
   more : (g : Call → ℕ) → total g w.calls ≡ total g v.calls + g call
   more g = ap (total g) calls ∙ total-snoc g v.calls call
@@ -349,7 +354,7 @@ module _ (known : ℕ → Bool) (origin : ℕ → Option Page) (log : Log) (flus
     where
       other : (x : Call) → place_of x ≤ log_end log → weight_at (end_of e) x ≡ 0
       other (Read backend tag page place) low = refl
-      other (Write backend tag page place whole) low = ap (λ (b : Bool). cond b 1 0) (ne_eqb place (end_of e) (λ z. omega (arith, some_size e.change)))
+      other (Write backend tag page place logged) low = ap (λ (b : Bool). cond b 1 0) (ne_eqb place (end_of e) (λ z. omega (arith, some_size e.change)))
 
   later : (j : ℕ) (u : View) → CallsLaw known origin log flushed u → CallsLaw known origin longer flushed u
   later j u c = record {
@@ -365,7 +370,7 @@ module _ (known : ℕ → Bool) (origin : ℕ → Option Page) (log : Log) (flus
 
   here : CallsLaw known origin longer flushed w
   here = let c = later i v (h.calls i v there) in record {
-    legal = λ k x at. ⊎_elim (λ (t : get_elem? v.calls k ≡ some x). c.legal k x t) (λ (t : (call ≡ x) × (k ≡ length v.calls)). subst (IsLegal known origin longer) t.0 (record { index = length log.entries; entry = e; entered = record { there = at_last log.entries; of = of }; made = refl; ends = refl; image_is = whole; is_whole = refl; writes = λ has. ap (λ (es : List Entry). cell origin es tag) (cut_all (end_of e) longer.entries all_within) ∙ is has })) (at_end v.calls call x k (subst (λ (l : List Call). get_elem? l k ≡ some x) calls at));
+    legal = λ k x at. ⊎_elim (λ (t : get_elem? v.calls k ≡ some x). c.legal k x t) (λ (t : (call ≡ x) × (k ≡ length v.calls)). subst (IsLegal known origin longer) t.0 (record { index = length log.entries; entry = e; entered = record { there = at_last log.entries; of = of }; made = refl; ends = refl; image_is = whole; sized = sized; tested = λ y test has. let z = tested y test has in (z.0, ap (λ (es : List Entry). cell origin es tag) cut_before ∙ z.1, z.2); writes = λ has. ap (λ (es : List Entry). cell origin es tag) (cut_all (end_of e) longer.entries all_within) ∙ is has })) (at_end v.calls call x k (subst (λ (l : List Call). get_elem? l k ≡ some x) calls at));
     own = λ k x at. ⊎_elim (λ (t : get_elem? v.calls k ≡ some x). own_same v w number kept (backend_of x) (c.own k x t)) (λ (t : (call ≡ x) × (k ≡ length v.calls)) other. absurd (other (ap backend_of (sym t.0) ∙ maker ∙ sym number)))
         (at_end v.calls call x k (subst (λ (l : List Call). get_elem? l k ≡ some x) calls at));
     fronted = λ k x at. ⊎_elim (λ (t : get_elem? v.calls k ≡ some x). let y = c.fronted k x t in let z = (h.calls i v there).within in omega arith) (λ (t : (call ≡ x) × (k ≡ length v.calls)). let y : end_of e ≡ place_of x = ap place_of t.0 in omega arith)
@@ -380,6 +385,10 @@ module _ (known : ℕ → Bool) (origin : ℕ → Option Page) (log : Log) (flus
       at_last : (l : List Entry) → get_elem? (l ++ e ∷ []) (length l) ≡ some e
       at_last [] = refl
       at_last (x ∷ l) = at_last l
+
+      -- the entries that end where the new one starts are those before it
+      cut_before : cut e.start longer.entries ≡ log.entries
+      cut_before = cut_longer e.start log.entries e (omega (arith, some_size e.change)) ∙ cut_all e.start log.entries (λ k x at. let low = ends_below log e logged k x at in omega arith)
 
       all_within : (k : ℕ) (x : Entry) → get_elem? longer.entries k ≡ some x → end_of x ≤ end_of e
       all_within k x at = ⊎_elim (λ (t : get_elem? log.entries k ≡ some x). let low = ends_below log e logged k x t in omega arith) (λ (t : (e ≡ x) × (k ≡ length log.entries)). let same : end_of e ≡ end_of x = ap end_of t.0 in omega arith) (at_end log.entries e x k at)

@@ -273,8 +273,8 @@ module _ (s : State) (h : HistoryInvariant s) (m : MarksLaw s) where
   aside_marks i v w there more a b c none = let x = one_view i v w there more (λ q z. same_quiet v w a b c (q.views i v there)) none in record { frames = x.0.frames; blocks = x.0.blocks; views = x.1 }
 
 -- an entry is made
-entered_marks : (s : State) (h : HistoryInvariant s) → MarksLaw s → (i f : ℕ) (p : Page) (ch : Change) (v : View) → get_elem? s.pool.core.views i ≡ some v → f < s.pool.core.frames → {t : State} → t.pool.core.views ≡ set s.pool.core.views i (has_written ch (s.end + change_size ch) (s.pool.core.frame f).tag p (paged (make_entry p) s.pool f v)) → t.pool.core.frames ≡ s.pool.core.frames → t.pool.core.frame ≡ put s.pool.core.frame f (s.pool.core.frame f) → ((tag : ℕ) → failed t tag ≡ failed s tag) → MarksLaw t
-entered_marks s h m i f p ch v there inside {t = t} vs size frames same none = let w : View = has_written ch (s.end + change_size ch) (s.pool.core.frame f).tag p (paged (make_entry p) s.pool f v) in let more = or_more v.dirtied_or_synced false in
+entered_marks : (s : State) (h : HistoryInvariant s) → MarksLaw s → (i f : ℕ) (p : Page) (ch : Change) (v : View) → get_elem? s.pool.core.views i ≡ some v → f < s.pool.core.frames → {t : State} → t.pool.core.views ≡ set s.pool.core.views i (has_written ch (link v f).copied (s.end + change_size ch) (s.pool.core.frame f).tag p (paged (make_entry p) s.pool f v)) → t.pool.core.frames ≡ s.pool.core.frames → t.pool.core.frame ≡ put s.pool.core.frame f (s.pool.core.frame f) → ((tag : ℕ) → failed t tag ≡ failed s tag) → MarksLaw t
+entered_marks s h m i f p ch v there inside {t = t} vs size frames same none = let w : View = has_written ch (link v f).copied (s.end + change_size ch) (s.pool.core.frame f).tag p (paged (make_entry p) s.pool f v) in let more = or_more v.dirtied_or_synced false in
     let x = one_view s h m i v w there more (λ q z. let y = q.views i v there in record { output = either_false v.had_output false y.output refl; met = y.met; out = y.out }) (subst NoneMarked vs none) in record {
       frames = λ g below. ap (λ (y : ℕ → Frame). (y g).word.dirty) frames ∙ quiet_put s.pool.core.frame s.pool.core.frames f (s.pool.core.frame f) x.0.frames (x.0.frames f inside) g (subst (λ (z : ℕ). g < z) size below);
       blocks = λ tag. same tag ∙ x.0.blocks tag;

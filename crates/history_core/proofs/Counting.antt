@@ -255,7 +255,7 @@ lane_counting (lanes {s = s} i q k v there live low a alone) h m = laned_counts 
 lane_counting (writes {s = s} i q f k v there live low inside a x) h m = laned_counts s h m i q k v (laned k q v (paged begin_write s.pool f v)) there live low a refl refl
 lane_counting (notes {s = s} i q f noted k v there live low inside a x) h m = laned_counts s h m i q (lane_kinds.lane_back noted) v (laned (lane_kinds.lane_back noted) q v (paged k (pool_noting k s f) f v)) there live low a refl refl
 lane_counting (logs {s = s} i k v there live a record_is) h m = logged_counts s h m i k v there
-lane_counting (enters {s = s} i f p ch v there live inside x) h m = unlaned_counts s h m i v (has_written ch (s.end + change_size ch) (s.pool.core.frame f).tag p (paged (make_entry p) s.pool f v)) there refl refl refl refl
+lane_counting (enters {s = s} i f p ch v there live inside x) h m = unlaned_counts s h m i v (has_written ch (link v f).copied (s.end + change_size ch) (s.pool.core.frame f).tag p (paged (make_entry p) s.pool f v)) there refl refl refl refl
 lane_counting (reads {s = s} i f tag p v there live inside a) h m = unlaned_counts s h m i v (looked (seen.LogEnd s.end) (has_read s.end tag p v)) there refl refl refl refl
 lane_counting (words {s = s} i k v there live a) h m = let x = unlaned_counts s h m i v (after_word k s v) there refl refl refl refl in record { lanes = record { columns = x.lanes.columns; cells = x.lanes.cells }; reads_rose = x.reads_rose; writes_rose = x.writes_rose }
 

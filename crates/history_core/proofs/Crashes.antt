@@ -1,5 +1,5 @@
 -- What redo makes of what a crash leaves.
-use Rattle.std.proofs.Common.{◌≡◌, ◌≢◌, ◌⊎◌, inl, inr, ℕ, zero, suc, ◌<◌, ◌≤◌, Bool, true, false, List, [], ◌∷◌, length, Option, Some, sym, refl, ap, ◌∙◌, subst, ⊎_elim, arith}
+use Rattle.std.proofs.Common.{◌≡◌, ◌≢◌, ◌⊎◌, inl, inr, ℕ, zero, suc, ◌<◌, ◌≤◌, Bool, true, false, List, [], ◌∷◌, ◌++◌, length, Option, Some, sym, refl, ap, ◌∙◌, subst, ⊎_elim, arith}
 use Rattle.std.proofs.lemmas.Option.{same_Some}
 use Rattle.std.proofs.lemmas.Bool.{cases_lt}
 use mathlib.Core.Logic.{dite}
@@ -16,7 +16,7 @@ use Rattle.pin_core.specs.State.{Config, Frame, Page, link, lane_hold}
 use Rattle.page_core.specs.State.{Block, block_of}
 use Rattle.page_core.specs.Tallies.{Tally, sharers, applied_locks, unapplied_locks, weigh, page_shape}
 use Rattle.page_core.specs.Invariant.{PageFrame}
-use Rattle.history_core.specs.Log.{Entry, Change, image, ranges, resize, IsChange, AreValid, IsEntryOf, end_of, tag_in, changed_page, page_after, cell}
+use Rattle.history_core.specs.Log.{Entry, Change, Span, image, ranges, resize, IsChange, AreValid, IsEntryOf, end_of, tag_in, changed_page, page_after, cell}
 use Rattle.history_core.specs.State.{Lane, State, Store, opening, stored_upto, failed, unsynced}
 use Rattle.history_core.specs.Lanes as lane_kinds
 use Rattle.history_core.specs.Lanes.{LaneKind, lane_after}
@@ -25,10 +25,11 @@ use Rattle.history_core.specs.Laws.{Laws}
 use Rattle.history_core.specs.Steps.{Event, MayWriteLane, LaneAlone, new_entry, Step, pools, lanes, writes, notes, logs, enters, reads, words}
 use Rattle.history_core.specs.Words.{WordKind, raise_flushed, number_after, word_at, word_set, flushed_word}
 use Rattle.history_core.specs.Unentered.{IsEntered, IsFlushedEntered, IsUnentered, IsHeldUnentered, DirtyHaveEntries, WrittenHaveEntries}
-use Rattle.history_core.specs.Crashes.{Survives, first, one_more, Crashed, RangesHaveWhole, IsExcepted, CrashesRedo, StartsSynced}
+use Rattle.history_core.specs.Redo.{CanFollow, HasWhole, StartsBased, RedoLaw}
+use Rattle.history_core.specs.Crashes.{Survives, first, one_more, Crashed, IsExcepted, CrashesRedo, StartsSynced}
 use Rattle.history_core.proofs.Calls.{at_both}
 use Rattle.history_core.proofs.Histories.{loaded, is_out}
-use Rattle.history_core.proofs.Logs.{is_of, changed_image, cell_absent, after_none, each_entry}
+use Rattle.history_core.proofs.Logs.{is_of, changed_image, cell_absent, after_none, each_entry, starts_above}
 use Rattle.history_core.proofs.Owing.{output_position}
 use Rattle.history_core.proofs.Always.{KeptByLaws, always}
 use Rattle.history_core.proofs.Unentered.{noted_kept, IsUnenteredLaw, unentered_kept, unentered_open}
@@ -193,6 +194,13 @@ entry_or_none (x ∷ es) tag = ⊎_elim
     (entry_or_none es tag))
     (is_of x.change tag)
 
+-- what is at a place before another one of the first list
+at_shorter : (l m : List Entry) (j k : ℕ) (x y : Entry) → get_elem? (l ++ m) j ≡ some x → j < k → get_elem? l k ≡ some y → get_elem? l j ≡ some x
+at_shorter [] m j k x y at lt there = absurd (some-ne-none y (sym there))
+at_shorter (z ∷ l) m zero k x y at lt there = at
+at_shorter (z ∷ l) m (suc j) zero x y at lt there = absurd (omega arith)
+at_shorter (z ∷ l) m (suc j) (suc k) x y at lt there = at_shorter l m j k x y at (omega arith) there
+
 either_way : (b : Bool) {A : Type 0} → (b ≡ true → A) → (b ≡ false → A) → A
 either_way true x y = x refl
 either_way false x y = y refl
@@ -201,7 +209,7 @@ module _ (s : State) (h : HistoryInvariant s) where
   -- what survives are entries as entries may be
   valid_left : (es : List Entry) → Survives s es → AreValid es
   valid_left _ (first es rest is high) k e at = h.log.valid k e (subst (λ (l : List Entry). get_elem? l k ≡ some e) (sym is) (at_longer es rest k e at))
-  valid_left _ (one_more x more bytes whole starts valid) k e at = ⊎_elim (λ (t : get_elem? s.log.entries k ≡ some e). h.log.valid k e t) (λ (t : (x ≡ e) × (k ≡ length s.log.entries)). subst (λ (y : Entry). IsChange (end_of y) y.change) t.0 valid) (at_end s.log.entries x e k at)
+  valid_left _ (one_more x more bytes whole starts valid follow) k e at = ⊎_elim (λ (t : get_elem? s.log.entries k ≡ some e). h.log.valid k e t) (λ (t : (x ≡ e) × (k ≡ length s.log.entries)). subst (λ (y : Entry). IsChange (end_of y) y.change) t.0 valid) (at_end s.log.entries x e k at)
 
   -- an entry that is flushed survives
   early_left : (es : List Entry) → Survives s es → (tag k : ℕ) (e : Entry) → IsEntryOf s.log.entries tag k e → end_of e ≤ s.flushed → IsEntered es tag
@@ -209,10 +217,19 @@ module _ (s : State) (h : HistoryInvariant s) where
       (λ (t : get_elem? es k ≡ some e). (k, e, record { there = t; of = of.of }))
       (λ (t : (n : ℕ) × (get_elem? rest n ≡ some e)). absurd (let x = high t.0 e t.1 in omega arith))
       (at_both es rest k e (subst (λ (l : List Entry). get_elem? l k ≡ some e) is of.there))
-  early_left _ (one_more x more bytes whole starts valid) tag k e of low = (k, e, record { there = at_longer s.log.entries (x ∷ []) k e of.there; of = of.of })
+  early_left _ (one_more x more bytes whole starts valid follow) tag k e of low = (k, e, record { there = at_longer s.log.entries (x ∷ []) k e of.there; of = of.of })
+
+  -- where an entry of ranges survives, a whole page of its block does
+  whole_left : RedoLaw s → (es : List Entry) → Survives s es → (tag k : ℕ) (e : Entry) (spans : List Span) → s.known tag ≡ true → get_elem? es k ≡ some e → e.change ≡ ranges tag spans → StartsBased s → HasWhole es tag
+  whole_left m _ (first es rest is high) tag k e spans known at change based = let there = subst (λ (l : List Entry). get_elem? l k ≡ some e) (sym is) (at_longer es rest k e at) in
+      let x = m.follows based tag s.log.base k e spans (inl refl) there change known (starts_above s.log e h.log k e there) in (x.index, x.entry, x.page, at_shorter es rest x.index k x.entry e (subst (λ (l : List Entry). get_elem? l x.index ≡ some x.entry) is x.there) x.before at, x.is)
+  whole_left m _ (one_more y more bytes whole starts valid follow) tag k e spans known at change based = ⊎_elim
+      (λ (t : get_elem? s.log.entries k ≡ some e). let x = m.follows based tag s.log.base k e spans (inl refl) t change known (starts_above s.log e h.log k e t) in (x.index, x.entry, x.page, at_longer s.log.entries (y ∷ []) x.index x.entry x.there, x.is))
+      (λ (t : (y ≡ e) × (k ≡ length s.log.entries)). let x = subst (CanFollow s) (ap (λ (z : Entry). z.change) t.0 ∙ change) follow based known in (x.0, x.1, x.2, at_longer s.log.entries (y ∷ []) x.0 x.1 x.3, x.4))
+      (at_end s.log.entries y e k at)
 
   -- an entry of a block survives: its whole page does
-  by_entry : (pages : ℕ → Option Page) (es : List Entry) (tag : ℕ) → RangesHaveWhole es tag → (k : ℕ) (e : Entry) (c : Change) → e.change ≡ c → get_elem? es k ≡ some e → tag_in c ≡ Some tag → cell pages es tag ≡ cell s.origin es tag
+  by_entry : (pages : ℕ → Option Page) (es : List Entry) (tag : ℕ) → ((k : ℕ) (e : Entry) (spans : List Span) → get_elem? es k ≡ some e → e.change ≡ ranges tag spans → HasWhole es tag) → (k : ℕ) (e : Entry) (c : Change) → e.change ≡ c → get_elem? es k ≡ some e → tag_in c ≡ Some tag → cell pages es tag ≡ cell s.origin es tag
   by_entry pages es tag whole k e (image t p) is at of = same_after tag k es e p (pages tag) (s.origin tag) at (is ∙ ap (λ (z : ℕ). image z p) (same_Some t tag of))
   by_entry pages es tag whole k e (ranges t spans) is at of = let x = whole k e spans at (is ∙ ap (λ (z : ℕ). ranges z spans) (same_Some t tag of)) in same_after tag x.0 es x.1 x.2 (pages tag) (s.origin tag) x.3 x.4
   by_entry pages es tag whole k e (resize fork old new) is at of = absurd (cc)
@@ -224,7 +241,7 @@ module _ (s : State) (h : HistoryInvariant s) where
       ∙ after_none tag (stored_upto s tag) s.log.entries (s.origin tag) h.log.valid (λ k e of. ⊎_elim (λ (high : stored_upto s tag < end_of e). high) (λ (low : end_of e ≤ stored_upto s tag). absurd (let x = early_left es c.log tag k e of (let w = cells.within in omega arith) in none x.0 x.1 x.2)) (cases_lt (stored_upto s tag) (end_of e)))
       ∙ sym (cell_absent s.origin es tag valid none)
 
-  module _ (m : WrittenHaveEntries s) where
+  module _ (m : WrittenHaveEntries s) (redo : RedoLaw s) where
     -- an excepted block has no entry that is flushed
     excepted : (pages : ℕ → Option Page) (es : List Entry) → Crashed s pages es → (tag : ℕ) → StartsSynced s tag → ((k : ℕ) (e : Entry) → IsEntryOf es tag k e → ⊥) → (unsynced s tag ≡ true) ⊎ (failed s tag ≡ true) → IsExcepted s es tag × IsUnentered s tag
     excepted pages es c tag synced none lost = (record { none = none; lost = lost }, ⊎_elim (λ (x : unsynced s tag ≡ true). by_case (m.of_unsynced tag x)) (λ (x : failed s tag ≡ true). by_failure (m.of_failed tag x)) lost)
@@ -240,12 +257,12 @@ module _ (s : State) (h : HistoryInvariant s) where
 
     redone : CrashesRedo s
     redone pages es c tag (inl (k, e, p, at, is)) = inl (same_after tag k es e p (pages tag) (s.origin tag) at is)
-    redone pages es c tag (inr (known, synced, whole)) = ⊎_elim
-        (λ (t : IsEntered es tag). inl (by_entry pages es tag whole t.0 t.1 t.1.change refl t.2.there t.2.of))
+    redone pages es c tag (inr (known, synced, based)) = ⊎_elim
+        (λ (t : IsEntered es tag). inl (by_entry pages es tag (λ k e spans at is. whole_left redo es c.log tag k e spans known at is (based k e spans at is)) t.0 t.1 t.1.change refl t.2.there t.2.of))
         (λ (none : (k : ℕ) (e : Entry) → IsEntryOf es tag k e → ⊥). either_way (unsynced s tag)
         (λ written. inr (excepted pages es c tag synced none (inl written)))
         (λ kept. either_way (failed s tag) (λ bad. inr (excepted pages es c tag synced none (inr bad))) (λ done. inl (by_none pages es c tag known none kept done))))
         (entry_or_none es tag)
 
 pub crashes_redo : (s : State) → Laws s → CrashesRedo s
-crashes_redo s h = redone s h.invariant (written_have s h)
+crashes_redo s h = redone s h.invariant (written_have s h) h.redo

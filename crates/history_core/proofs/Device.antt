@@ -186,3 +186,11 @@ module _ (w : Written) (d : Device) (saw : Bool) (h : LogHold) where
       by_held : (b : Bool) → h.held ≡ b → (e : ℕ) → cond h.held (Some w.end) h.end ≡ Some e → LogLink w d saw h → (h.held ≡ true) × (e ≡ w.end)
       by_held true z e is c = (z, sym (same_Some w.end e (sym (ap (λ (b : Bool). cond b (Some w.end) h.end) z) ∙ is)))
       by_held false z e is c = c.end e (sym (ap (λ (b : Bool). cond b (Some w.end) h.end) z) ∙ is)
+
+  -- the redo position is loaded, or forgotten
+  pub redo_keeps : (o : Option ℕ) → (h.held ≡ false → o ≡ None) → Keeps log_shape log_part log_part w w saw saw d h d (record h { redo = o })
+  redo_keeps o free = record {
+    column = λ t t' q c sums le _. grind (arith, q, sums holders, sums appenders);
+    cell = λ t q le c. record { resting = λ e. let x = c.resting e in (x.0, x.1, x.2, free e); home = c.home; end = c.end; appended = c.appended; synced = c.synced; saw = c.saw };
+    others = λ t n m q c le e. e;
+  }

@@ -57,7 +57,7 @@ ends_kept (lanes {s = s} i q k v there live low a alone) h m = ends_same s.end s
 ends_kept (writes {s = s} i q f k v there live low inside a x) h m = ends_same s.end s.pool.core.views m i v (laned k q v (paged begin_write s.pool f v)) there refl
 ends_kept (notes {s = s} i q f noted k v there live low inside a x) h m = ends_same s.end s.pool.core.views m i v (laned (lane_back noted) q v (paged k (pool_noting k s f) f v)) there refl
 ends_kept (logs {s = s} i k v there live a record_is) h m = ends_same s.end s.pool.core.views m i v (view_logged k v) there refl
-ends_kept (enters {s = s} i f p ch v there live inside x) h m = let low = m i v there in ends_set s.end s.pool.core.views m (s.end + change_size ch) i (has_written ch (s.end + change_size ch) (s.pool.core.frame f).tag p (paged (make_entry p) s.pool f v)) (omega arith) (omega arith)
+ends_kept (enters {s = s} i f p ch v there live inside x) h m = let low = m i v there in ends_set s.end s.pool.core.views m (s.end + change_size ch) i (has_written ch (link v f).copied (s.end + change_size ch) (s.pool.core.frame f).tag p (paged (make_entry p) s.pool f v)) (omega arith) (omega arith)
 ends_kept (reads {s = s} i f tag p v there live inside a) h m = ends_seen s.end s.pool.core.views m i v (looked (seen.LogEnd s.end) (has_read s.end tag p v)) there (omega arith)
 ends_kept (words {s = s} i k v there live a) h m = ends_seen s.end s.pool.core.views m i v (after_word k s v) there (seen_more k s v)
 

@@ -64,7 +64,7 @@ hints_kept (lanes {s = s} i q k v there live low a alone) m = record { named = m
 hints_kept (writes {s = s} i q f k v there live low inside a x) m = record { named = m.named; fixed = λ n. balances_aside (m.fixed n) i v (laned k q v (paged begin_write s.pool f v)) there refl }
 hints_kept (notes {s = s} i q f noted k v there live low inside a x) m = record { named = m.named; fixed = λ n. balances_aside (m.fixed n) i v (laned (lane_back noted) q v (paged k (pool_noting k s f) f v)) there refl }
 hints_kept (logs {s = s} i k v there live a record_is) m = record { named = m.named; fixed = λ n. balances_aside (m.fixed n) i v (view_logged k v) there refl }
-hints_kept (enters {s = s} i f p ch v there live inside x) m = record { named = m.named; fixed = λ n. balances_aside (m.fixed n) i v (has_written ch (s.end + change_size ch) (s.pool.core.frame f).tag p (paged (make_entry p) s.pool f v)) there refl }
+hints_kept (enters {s = s} i f p ch v there live inside x) m = record { named = m.named; fixed = λ n. balances_aside (m.fixed n) i v (has_written ch (link v f).copied (s.end + change_size ch) (s.pool.core.frame f).tag p (paged (make_entry p) s.pool f v)) there refl }
 hints_kept (reads {s = s} i f tag p v there live inside a) m = record { named = m.named; fixed = λ n. balances_aside (m.fixed n) i v (looked (seen.LogEnd s.end) (has_read s.end tag p v)) there refl }
 hints_kept (words {s = s} i k v there live a) m = record { named = named_after_word k s v m.named a; fixed = fixed_after_word k s i v there m.fixed }
 

@@ -25,6 +25,7 @@ use Rattle.history_core.specs.Homes.{IsUnframed}
 use Rattle.history_core.specs.Invariant.{HistoryInvariant}
 use Rattle.history_core.specs.Steps.{looked, stepped, laned, lanes, paged, has_read, has_written, new_entry, MakesPage, MayWriteLane, writes, enters, reads}
 use Rattle.history_core.specs.Histories.{IsReached, CallsAreLegal, ReadsAtBase, SyncsMakeDurable, JoinedAreApart, CallsAreOwn, FrontsAreReached, CallsAreInOrder, LoadedIsFlushed, LanesGoOutFlushed, NotedWritesAreDone, holds_log, LogIsHeld, WritesAreEntries, ReadsStand, WritesStand, LogBeforeData, LanesHoldFlushedPages, IsStored, CleanBlocksAreStored, FramesAreSound, FramesHoldCells, LogWords, holds_lane, LanesAreHeld, EntriesAreDurable, DeviceHoldsLog}
+use Rattle.history_core.specs.Redo.{RedoLaw}
 use Rattle.history_core.specs.Rest.{RestLaw}
 use Rattle.history_core.proofs.Logs.{some_size, cell_longer, cell_none, changed_image, cut_none_below, starts_above, end_longer}
 use Rattle.history_core.proofs.Opening.{opens}
@@ -140,7 +141,7 @@ module _ (s : State) (h : HistoryInvariant s) where
   at_base i k backend tag page v there at known = sym (cell_none s.origin tag) ∙ ap (λ (es : List Entry). cell s.origin es tag) (sym none_cut) ∙ ((h.history.calls i v there).legal k (Read backend tag page s.log.base) at).reads known
 
   pub writes_stand : WritesStand s
-  writes_stand _ _ _ _ t (enters i f p ch v there live inside a) = let tag = (s.pool.core.frame f).tag in let w : View = has_written ch (s.end + change_size ch) tag p (paged (make_entry p) s.pool f v) in let here = set_here s.pool.core.views i v w there in
+  writes_stand _ _ _ _ t (enters i f p ch v there live inside a) = let tag = (s.pool.core.frame f).tag in let w : View = has_written ch (link v f).copied (s.end + change_size ch) tag p (paged (make_entry p) s.pool f v) in let here = set_here s.pool.core.views i v w there in
       let c = h.history.calls i v there in let e = h.ends in let entry = new_entry s v.number ch in let end' = s.end + change_size ch in let l = link v f in (
         v,
         w,
@@ -212,8 +213,8 @@ module _ (s : State) (h : HistoryInvariant s) where
   pub hold_cells : FramesHoldCells s
   hold_cells f known below tag valid none = let t = (s.pool.core.frame f).tag in let e = logged_there s h t (h.pool.core.blocks f below tag.named) known in sym (h.logged t known) ∙ e ∙ ap (λ (q : Page). Some q) (sym (pages.frames_hold s.pool h.pool f (page_of s t) below tag valid none e))
 
-  pub words : LogWords s
-  words = record { ends = h.ends; limit = h.limit; flushed_from = h.flushed_from; flushed_to = h.flushed_to }
+  pub words : RedoLaw s → LogWords s
+  words m = record { ends = h.ends; limit = h.limit; flushed_from = h.flushed_from; flushed_to = h.flushed_to; redo_from = m.highest.from; redo_to = m.within }
 
   pub held : LanesAreHeld s
   held n below = sym (total-count (λ (v : View). flag_weight (lane_hold v n).held) (holds_lane n) (λ v. flag_cond (lane_hold v n).held) s.pool.core.views) ∙ sym (h.lanes.columns n below).taken ∙ flag_count (s.lane n).taken

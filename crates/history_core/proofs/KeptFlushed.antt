@@ -89,7 +89,7 @@ step_keeps (lanes {s = s} i m k u there live low a alone) j n v at leaves = set_
 step_keeps (writes {s = s} i m f k u there live low inside a x) j n v at leaves = set_stays s.pool.core.views i j n u (laned k m u (paged begin_write s.pool f u)) v there (λ e. lane_keeps k i m j n u (write_leaves k s i m f j n (lane_hold u m) (link u f) x) e) at
 step_keeps (notes {s = s} i m f noted k u there live low inside a x) j n v at leaves = set_stays s.pool.core.views i j n u (laned (lane_back noted) m u (paged k (pool_noting k s f) f u)) v there (λ e. lane_keeps (lane_back noted) i m j n u tt e) at
 step_keeps (logs {s = s} i k u there live a record_is) j n v at leaves = set_stays s.pool.core.views i j n u (view_logged k u) v there (λ e. refl) at
-step_keeps (enters {s = s} i f p ch u there live inside x) j n v at leaves = set_stays s.pool.core.views i j n u (has_written ch (s.end + change_size ch) (s.pool.core.frame f).tag p (paged (make_entry p) s.pool f u)) v there (λ e. refl) at
+step_keeps (enters {s = s} i f p ch u there live inside x) j n v at leaves = set_stays s.pool.core.views i j n u (has_written ch (link u f).copied (s.end + change_size ch) (s.pool.core.frame f).tag p (paged (make_entry p) s.pool f u)) v there (λ e. refl) at
 step_keeps (reads {s = s} i f tag p u there live inside a) j n v at leaves = set_stays s.pool.core.views i j n u (looked (seen.LogEnd s.end) (has_read s.end tag p u)) v there (λ e. refl) at
 step_keeps (words {s = s} i k u there live a) j n v at leaves = set_stays s.pool.core.views i j n u (after_word k s u) v there (λ e. refl) at
 

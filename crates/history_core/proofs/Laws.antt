@@ -12,6 +12,7 @@ use Rattle.history_core.proofs.Stepping.{step_keeps}
 use Rattle.history_core.proofs.Causes.{marks_open, marks_kept}
 use Rattle.history_core.proofs.Counting.{counts_open, counting}
 use Rattle.history_core.proofs.Owing.{debts_open, debts_kept}
+use Rattle.history_core.proofs.Redo.{redo_open, redo_kept}
 use Rattle.history_core.proofs.Rest.{rest_open, rest_kept}
 use Rattle.history_core.proofs.Outings.{outings_open, outings_kept}
 use Rattle.history_core.proofs.Spending.{spent_open, spent_kept}
@@ -36,7 +37,7 @@ laws_kept x h = record {
   marks = marks_kept x h.invariant h.marks;
   counts = counting x h.invariant h.counts;
   debts = debts_kept x h.invariant h.debts;
-  rest = rest_kept x h.invariant h.rest;
+  rest = rest_kept x h.invariant h.sound h.redo h.rest;
   outings = outings_kept x h.invariant h.outings;
   spent = spent_kept x h.invariant h.spent;
   sound = sound_kept x h.invariant h.sound;
@@ -44,6 +45,7 @@ laws_kept x h = record {
   trail = trail_kept x h.invariant h.trail;
   hints = hints_kept x h.hints;
   swept = swept_kept x h.invariant h.debts h.swept;
+  redo = redo_kept x h.invariant h.sound h.redo;
 }
 
 pub laws_after : {es : List Event} {s t : State} → Run es s t → Laws s → Laws t
@@ -51,7 +53,7 @@ laws_after rests h = h
 laws_after (goes x r) h = laws_after r (laws_kept x h)
 
 pub laws_open : (c : Config) (store : Store) (page : Page) → CanOpen c → CanStore c store → Laws (opening c store page)
-laws_open c store page can stores = record { reached = record { config = c; store = store; opens = can; stores = stores; page = page; events = []; run = rests }; invariant = opens c store page can stores; marks = marks_open c store page; counts = counts_open c store page; debts = debts_open c store page; rest = rest_open c store page; outings = outings_open c store page; spent = spent_open c store page; sound = sound_open c store page; ends = ends_open c store page; trail = trail_open c store page; hints = hints_open c store page; swept = swept_open c store page }
+laws_open c store page can stores = record { reached = record { config = c; store = store; opens = can; stores = stores; page = page; events = []; run = rests }; invariant = opens c store page can stores; marks = marks_open c store page; counts = counts_open c store page; debts = debts_open c store page; rest = rest_open c store page; outings = outings_open c store page; spent = spent_open c store page; sound = sound_open c store page; ends = ends_open c store page; trail = trail_open c store page; hints = hints_open c store page; swept = swept_open c store page; redo = redo_open c store page }
 
 pub laws : (s : State) → IsReached s → Laws s
 laws s r = laws_after r.run (laws_open r.config r.store r.page r.opens r.stores)

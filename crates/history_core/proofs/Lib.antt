@@ -31,6 +31,7 @@ pub mod Histories
 pub mod Spending
 pub mod Ends
 pub mod Sound
+pub mod Redo
 pub mod History
 pub mod Outings
 pub mod PinsStay

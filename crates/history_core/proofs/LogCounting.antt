@@ -200,7 +200,7 @@ log_counting (lanes {s = s} i q k v there live low a alone) h m = elsewhere s h 
 log_counting (writes {s = s} i q f k v there live low inside a x) h m = elsewhere s h i v there m (laned k q v (paged begin_write s.pool f v)) refl refl (same_logs k q v)
 log_counting (notes {s = s} i q f noted k v there live low inside a x) h m = elsewhere s h i v there m (laned (lane_kinds.lane_back noted) q v (paged k (pool_noting k s f) f v)) refl refl (same_logs (lane_kinds.lane_back noted) q v)
 log_counting (logs {s = s} i k v there live a record_is) h m = logged s h i v there k m a
-log_counting (enters {s = s} i f p ch v there live inside x) h m = elsewhere s h i v there m (has_written ch (s.end + change_size ch) (s.pool.core.frame f).tag p (paged (make_entry p) s.pool f v)) refl refl refl
+log_counting (enters {s = s} i f p ch v there live inside x) h m = elsewhere s h i v there m (has_written ch (link v f).copied (s.end + change_size ch) (s.pool.core.frame f).tag p (paged (make_entry p) s.pool f v)) refl refl refl
 log_counting (reads {s = s} i f tag p v there live inside a) h m = elsewhere s h i v there m (looked (seen.LogEnd s.end) (has_read s.end tag p v)) refl refl refl
 log_counting (words {s = s} i k v there live a) h m = elsewhere s h i v there m (after_word k s v) refl refl refl
 

@@ -254,6 +254,12 @@ image_size (image tag page) e = refl
 image_size (ranges tag spans) e = absurd (cc)
 image_size (resize fork old new) e = absurd (cc)
 
+-- only the record of a whole page has its size
+pub image_of_size : (end : ℕ) (c : Change) → IsChange end c → change_size c ≡ record_size → is_image c ≡ true
+image_of_size end (image tag page) valid e = refl
+image_of_size end (ranges tag spans) valid e = absurd (let low = valid.shorter in omega arith)
+image_of_size end (resize fork old new) valid e = absurd valid
+
 -- where a log of whole pages alone ends
 pub images_end : (from : ℕ) (es : List Entry) → AreChained from es → ((k : ℕ) (e : Entry) → get_elem? es k ≡ some e → is_image e.change ≡ true) → end_from from es ≡ from + record_size * length es
 unfolding AreChained end_from

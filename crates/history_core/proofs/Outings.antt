@@ -68,7 +68,7 @@ outings_kept (lanes {s = s} i q k v there live low a alone) h m = aside s.device
 outings_kept (writes {s = s} i q f k v there live low inside a x) h m = aside s.device s.pool.core.views m i v (laned k q v (paged begin_write s.pool f v)) there refl refl
 outings_kept (notes {s = s} i q f noted k v there live low inside a x) h m = aside s.device s.pool.core.views m i v (laned (lane_back noted) q v (paged k (pool_noting k s f) f v)) there refl refl
 outings_kept (logs {s = s} i k v there live a record_is) h m = logged s h m i v there k a
-outings_kept (enters {s = s} i f p ch v there live inside x) h m = aside s.device s.pool.core.views m i v (has_written ch (s.end + change_size ch) (s.pool.core.frame f).tag p (paged (make_entry p) s.pool f v)) there refl refl
+outings_kept (enters {s = s} i f p ch v there live inside x) h m = aside s.device s.pool.core.views m i v (has_written ch (link v f).copied (s.end + change_size ch) (s.pool.core.frame f).tag p (paged (make_entry p) s.pool f v)) there refl refl
 outings_kept (reads {s = s} i f tag p v there live inside a) h m = aside s.device s.pool.core.views m i v (looked (seen.LogEnd s.end) (has_read s.end tag p v)) there refl refl
 outings_kept (words {s = s} i k v there live a) h m = aside s.device s.pool.core.views m i v (after_word k s v) there refl refl
 

@@ -306,10 +306,10 @@ module _ (s : State) (h : HistoryInvariant s) (d : DebtsLaw s) (i f : ℕ) (p : 
       some_none : {q : Page} → Some q ≡ None → ⊥
       some_none e = cc
 
-  enters_owe : Debts longer s.pool.core.frames (put s.pool.core.frame f (s.pool.core.frame f)) end' logged' (set s.pool.core.views i (has_written c end' tag_of p (paged (make_entry p) s.pool f v)))
+  enters_owe : Debts longer s.pool.core.frames (put s.pool.core.frame f (s.pool.core.frame f)) end' logged' (set s.pool.core.views i (has_written c (link v f).copied end' tag_of p (paged (make_entry p) s.pool f v)))
   enters_owe = let l : Link = link_after (make_entry p) (block_of s.pool.logged tag_of) (s.pool.core.frame f) (link v f) in let own = (entries_longer.each i v there).own f inside in
-      debts_touched longer s.pool.core.frames s.pool.core.frame end' f (s.pool.core.frame f) (stays refl (λ e. e) (λ e. e)) logged' s.pool.core.views entries_longer inside (λ goes. absurd (goes refl)) i v (has_written c end' tag_of p (paged (make_entry p) s.pool f v)) l there
-      (touches_at s h d i f v (has_written c end' tag_of p (paged (make_entry p) s.pool f v)) l there live inside refl refl refl) (record { stored_or_left = own.stored_or_left; done = own.done })
+      debts_touched longer s.pool.core.frames s.pool.core.frame end' f (s.pool.core.frame f) (stays refl (λ e. e) (λ e. e)) logged' s.pool.core.views entries_longer inside (λ goes. absurd (goes refl)) i v (has_written c (link v f).copied end' tag_of p (paged (make_entry p) s.pool f v)) l there
+      (touches_at s h d i f v (has_written c (link v f).copied end' tag_of p (paged (make_entry p) s.pool f v)) l there live inside refl refl refl) (record { stored_or_left = own.stored_or_left; done = own.done })
 
 -- a kind at a word
 words_owe : (s : State) (h : HistoryInvariant s) (d : DebtsLaw s) (i : ℕ) (k : WordKind) (v : View) → get_elem? s.pool.core.views i ≡ some v → DebtsLaw (state_after_word k s i v)

@@ -53,7 +53,7 @@ step_stays i f (writes {s = s} j n g k u here live low inside a x) h out other =
 step_stays i f (notes {s = s} j n g noted k u here live low inside a x) h out other = let b : Block = block_of (logged_noting k s g) (s.pool.core.frame g).tag in let w : View = laned (lane_back noted) n u (paged k (pool_noting k s g) g u) in
     (beside s h i f out j u w here (role_same s h i f out j g k b u w here live inside refl), tag_same s h i f out g k b)
 step_stays i f (logs {s = s} j k u here live a record_is) h out other = (beside s h i f out j u (view_logged k u) here refl, refl)
-step_stays i f (enters {s = s} j g p ch u here live inside x) h out other = let b : Block = block_of s.pool.logged (s.pool.core.frame g).tag in let w : View = has_written ch (s.end + change_size ch) (s.pool.core.frame g).tag p (paged (make_entry p) s.pool g u) in
+step_stays i f (enters {s = s} j g p ch u here live inside x) h out other = let b : Block = block_of s.pool.logged (s.pool.core.frame g).tag in let w : View = has_written ch (link u g).copied (s.end + change_size ch) (s.pool.core.frame g).tag p (paged (make_entry p) s.pool g u) in
     (beside s h i f out j u w here (role_same s h i f out j g (make_entry p) b u w here live inside refl), tag_same s h i f out g (make_entry p) b)
 step_stays i f (reads {s = s} j g tag p u here live inside a) h out other = (beside s h i f out j u (looked (seen.LogEnd s.end) (has_read s.end tag p u)) here refl, refl)
 step_stays i f (words {s = s} j k u here live a) h out other = (beside s h i f out j u (after_word k s u) here (ap (λ (x : Link). x.role) (link_left k (word_of (word_at k) s) s.end u f)), refl)

@@ -62,7 +62,7 @@ module _ (s : State) (h : HistoryInvariant s) (entries : (k tag : ℕ) (e : Entr
       ((h.pool.pages.cells x.0 x.1 f x.2 below).unapplied (weighs_flag (link x.1 f).unapplied x.3)).is_sound p first))
 
   -- the block of a frame that a view has locked
-  locked_sound : (i f : ℕ) (v : View) → get_elem? s.pool.core.views i ≡ some v → f < s.pool.core.frames → (link v f).content ≢ Unlocked → WasSound s (s.pool.core.frame f).tag
+  pub locked_sound : (i f : ℕ) (v : View) → get_elem? s.pool.core.views i ≡ some v → f < s.pool.core.frames → (link v f).content ≢ Unlocked → WasSound s (s.pool.core.frame f).tag
   locked_sound i f v there below locked = let x = (h.pool.pages.cells i v f there below).content locked in valid_sound f below (x.2).named x.1
 
   -- and where its pin remembers the block
@@ -109,7 +109,7 @@ sound_kept (notes {s = s} i q f noted k v there live low inside a x) h m = recor
 sound_kept (logs {s = s} i k v there live a record_is) h m = record { entries = m.entries; calls = calls_same s s.pool.core.views m.calls i v (view_logged k v) there refl }
 sound_kept (enters {s = s} i f p ch v there live inside x) h m = let tag = (s.pool.core.frame f).tag in let end = s.end + change_size ch in let entry = new_entry s v.number ch in let was : WasSound s tag = locked_sound s h m.entries i f v there inside (exclusive_locked x.right.right) in record {
   entries = λ k z e of. ⊎_elim (λ (y : IsEntryOf s.log.entries z k e). m.entries k z e y) (λ (y : (entry ≡ e) × (tag_in ch ≡ Some z)). subst (WasSound s) (same_Some tag z (sym (makes_of ch end tag p (link v f) x.makes) ∙ y.1)) was) (entry_longer s.log.entries entry z k e of);
-  calls = calls_added s s.pool.core.views m.calls i v (has_written ch end tag p (paged (make_entry p) s.pool f v)) _ there refl was;
+  calls = calls_added s s.pool.core.views m.calls i v (has_written ch (link v f).copied end tag p (paged (make_entry p) s.pool f v)) _ there refl was;
 }
 sound_kept (reads {s = s} i f tag p v there live inside a) h m = record { entries = m.entries; calls = calls_added s s.pool.core.views m.calls i v (looked (seen.LogEnd s.end) (has_read s.end tag p v)) _ there refl (remembered s h m.entries i f tag v there inside a.remembered (locked_sound s h m.entries i f v there inside a.right)) }
 sound_kept (words {s = s} i k v there live a) h m = record { entries = m.entries; calls = calls_same s s.pool.core.views m.calls i v (after_word k s v) there refl }

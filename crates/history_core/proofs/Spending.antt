@@ -46,7 +46,7 @@ spent_kept (lanes {s = s} i q k v there live low a alone) h m = spent_live s.poo
 spent_kept (writes {s = s} i q f k v there live low inside a x) h m = spent_live s.pool.core.views m i (laned k q v (paged begin_write s.pool f v)) live
 spent_kept (notes {s = s} i q f noted k v there live low inside a x) h m = spent_live s.pool.core.views m i (laned (lane_back noted) q v (paged k (pool_noting k s f) f v)) live
 spent_kept (logs {s = s} i k v there live a record_is) h m = spent_live s.pool.core.views m i (view_logged k v) live
-spent_kept (enters {s = s} i f p ch v there live inside x) h m = spent_live s.pool.core.views m i (has_written ch (s.end + change_size ch) (s.pool.core.frame f).tag p (paged (make_entry p) s.pool f v)) live
+spent_kept (enters {s = s} i f p ch v there live inside x) h m = spent_live s.pool.core.views m i (has_written ch (link v f).copied (s.end + change_size ch) (s.pool.core.frame f).tag p (paged (make_entry p) s.pool f v)) live
 spent_kept (reads {s = s} i f tag p v there live inside a) h m = spent_live s.pool.core.views m i (looked (seen.LogEnd s.end) (has_read s.end tag p v)) live
 spent_kept (words {s = s} i k v there live a) h m = spent_live s.pool.core.views m i (after_word k s v) live
 

@@ -6,7 +6,7 @@ use native.Mathlib.Decide.{ℕ_discrete}
 use lib.ListN.{get_elem?}
 use Rattle.pin_core.specs.declared.view.LoadedWord.TheVariants as seen
 use Rattle.pin_core.specs.declared.view.View.{View}
-use Rattle.pin_core.specs.State.{hold, new_view, emptied_view, joined_view}
+use Rattle.pin_core.specs.State.{hold, link, new_view, emptied_view, joined_view}
 use Rattle.pin_core.specs.State as pins
 use Rattle.pin_core.specs.Steps as pin_steps
 use Rattle.pin_core.specs.Turns.{view_turned}
@@ -54,7 +54,7 @@ step_stays (lanes {s = s} i n k u there live low a alone) j v at leaves = set_st
 step_stays (writes {s = s} i n f k u there live low inside a x) j v at leaves = set_stays s.pool.core.views i j u (laned k n u (paged begin_write s.pool f u)) v there refl refl at
 step_stays (notes {s = s} i n f noted k u there live low inside a x) j v at leaves = set_stays s.pool.core.views i j u (laned (lane_back noted) n u (paged k (pool_noting k s f) f u)) v there refl refl at
 step_stays (logs {s = s} i k u there live a record_is) j v at leaves = set_stays s.pool.core.views i j u (view_logged k u) v there refl refl at
-step_stays (enters {s = s} i f p ch u there live inside x) j v at leaves = other_stays s.pool.core.views i j (has_written ch (s.end + change_size ch) (s.pool.core.frame f).tag p (paged (make_entry p) s.pool f u)) v leaves at
+step_stays (enters {s = s} i f p ch u there live inside x) j v at leaves = other_stays s.pool.core.views i j (has_written ch (link u f).copied (s.end + change_size ch) (s.pool.core.frame f).tag p (paged (make_entry p) s.pool f u)) v leaves at
 step_stays (reads {s = s} i f tag p u there live inside a) j v at leaves = other_stays s.pool.core.views i j (looked (seen.LogEnd s.end) (has_read s.end tag p u)) v leaves at
 step_stays (words {s = s} i k u there live a) j v at leaves = set_stays s.pool.core.views i j u (after_word k s u) v there refl refl at
 

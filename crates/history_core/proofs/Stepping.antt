@@ -14,6 +14,7 @@ use Rattle.pin_core.specs.declared.view.LaneHold.{LaneHold}
 use Rattle.pin_core.specs.declared.view.LogHold.{LogHold}
 use Rattle.pin_core.specs.declared.view.Link.{Link}
 use Rattle.pin_core.specs.declared.view.View.{View}
+use Rattle.pin_core.specs.declared.view.ImageTest.{ImageTest}
 use Rattle.pin_core.specs.declared.view.Call.TheVariants.{Read}
 use Rattle.pin_core.specs.declared.view.LoadedWord.TheVariants as seen
 use Rattle.pin_core.specs.State.{Frame, Page, no_tag, idle, link, hold, lane_hold, new_view, emptied_view, joined_view}
@@ -44,10 +45,10 @@ use Rattle.history_core.specs.Lanes as lane_kinds
 use Rattle.history_core.specs.Lanes.{swept_by, LaneKind, LaneAllowed, lane_after, lane_hold_after, lane_shape, lane_part}
 use Rattle.history_core.specs.Homes.{Home, home_of, IsClean, HomeLink, home_shape, home_part, IsUnframed, IsFlushedCell}
 use Rattle.history_core.specs.Invariant.{HistoryLaw, written_of, HistoryInvariant}
-use Rattle.history_core.specs.Steps.{Event, IsPlain, PoolAllowed, stepped, looked, aside, pool_after, pool_noting, CanNoteLaneRead, paged, laned, LaneAlone, CanWrite, MayWriteLane, Notes, new_entry, CanEnter, CanRead, has_read, has_written, Step, pools, lanes, writes, notes, enters, reads, logs, Run, rests, goes, words, after_word, state_after_word, has_raised, MakesPage}
-use Rattle.history_core.specs.Words.{WordKind, load_end, begin_checkpoint, load_flushed, raise_flushed, WordAllowed}
+use Rattle.history_core.specs.Steps.{Event, IsPlain, PoolAllowed, stepped, looked, aside, pool_after, pool_noting, CanNoteLaneRead, paged, laned, LaneAlone, CanWrite, MayWriteLane, Notes, new_entry, CanEnter, CanRead, has_read, logged_as, test_of, has_written, Step, pools, lanes, writes, notes, enters, reads, logs, Run, rests, goes, words, after_word, state_after_word, has_raised, MakesPage}
+use Rattle.history_core.specs.Words.{WordKind, load_end, begin_checkpoint, load_flushed, raise_flushed, load_redo, raise_redo, WordAllowed}
 use Rattle.history_core.specs.Device.{LogKind, take_log, leave_log, log_out, append, fail_append, sync_log, fail_sync, log_back, see_down, LogAllowed, device_after, view_logged, log_weigh, log_shape, log_part}
-use Rattle.history_core.proofs.Device.{log_keeps, enter_keeps, end_keeps, synced_all}
+use Rattle.history_core.proofs.Device.{log_keeps, enter_keeps, end_keeps, redo_keeps, synced_all}
 use Rattle.history_core.proofs.Calls.{SameCalls, history_same, history_read, history_written, history_loaded, history_raised}
 use Rattle.history_core.proofs.Logs.{bytes_longer, bytes_length, cell_longer, cut_longer, cell_at_position, end_longer, log_longer, some_size, changed_else, changed_image, changed_ranges, cut_all, entry_longer, ends_below, end_above}
 use Rattle.history_core.proofs.Lanes.{lane_later}
@@ -595,6 +596,11 @@ logs_step s h i k v there a = let w : View = view_logged k v in let views = s.po
       flushed_cells = blocks.flushed_cells;
     }
 
+-- a page that a backend has copied is the block's, where the contents of its lane are known
+pub copied_cell : (s : State) (h : HistoryInvariant s) (i f : ℕ) (v : View) → get_elem? s.pool.core.views i ≡ some v → f < s.pool.core.frames → (s.pool.core.frame f).tag ≢ no_tag → (q : Page) → (link v f).copied ≡ Some q → s.known (s.pool.core.frame f).tag ≡ true → cell s.origin s.log.entries (s.pool.core.frame f).tag ≡ Some q
+copied_cell s h i f v there inside named q copied known = let tag = (s.pool.core.frame f).tag in let e = logged_there s h tag (h.pool.core.blocks f inside named) known in let same : page_of s tag ≡ q = ((h.pool.pages.cells i v f there inside).copied q copied).is_logged (page_of s tag) e in
+    sym (h.logged tag known) ∙ e ∙ ap (λ (y : Page). Some y) same
+
 -- An entry of the page p of the frame f is made
 module _ (s : State) (h : HistoryInvariant s) (i f : ℕ) (p : Page) (ch : Change) (v : View) (there : get_elem? s.pool.core.views i ≡ some v) (live : v.emptied ≡ false) (inside : f < s.pool.core.frames) (x : CanEnter s f p ch v) where
   abbrev old : Frame
@@ -613,7 +619,7 @@ module _ (s : State) (h : HistoryInvariant s) (i f : ℕ) (p : Page) (ch : Chang
   end' = s.end + change_size ch
 
   abbrev after : View
-  after = has_written ch end' tag_of p (paged (make_entry p) s.pool f v)
+  after = has_written ch (link v f).copied end' tag_of p (paged (make_entry p) s.pool f v)
 
   abbrev entered : State
   entered = record s { pool = pool_after (make_entry p) s.pool i f after; log = record s.log { entries = s.log.entries ++ entry ∷ [] }; end = end' }
@@ -642,11 +648,20 @@ module _ (s : State) (h : HistoryInvariant s) (i f : ℕ) (p : Page) (ch : Chang
   block_here : home_of entered tag_of ≡ pages_home_after (make_entry p) (home_of s tag_of)
   block_here = let e : logged_after (make_entry p) s.pool.logged tag_of tag_of ≡ Some p = put_here s.pool.logged tag_of (Some p) in ap (λ (o : Option Page). record (home_of s tag_of) { block = record { logged = o } }) e
 
+  -- the page whose position was tested is the block's
+  tested_now : (t : ImageTest) → test_of v.log.redo (link v f).copied ≡ Some t → s.known tag_of ≡ true → (q : Page) × (cell s.origin s.log.entries tag_of ≡ Some q) × (lsn_of q ≡ t.before)
+  tested_now t = by_test v.log.redo (link v f).copied refl
+    where
+      by_test : (r : Option ℕ) (o : Option Page) → (link v f).copied ≡ o → test_of r o ≡ Some t → s.known tag_of ≡ true → (q : Page) × (cell s.origin s.log.entries tag_of ≡ Some q) × (lsn_of q ≡ t.before)
+      by_test None o e is known = absurd (cc)
+      by_test (Some r) None e is known = absurd (cc)
+      by_test (Some r) (Some q) e is known = (q, copied_cell s h i f v there inside named q e known, ap (λ (x : ImageTest). x.before) (same_Some (record { redo = r; before = lsn_of q }) t is))
+
   -- the change makes the page, where the contents of the block's lane are known
   makes_page : (c : Change) → MakesPage c end' tag_of p (link v f) → s.known tag_of ≡ true → changed_page c end' tag_of (cell s.origin s.log.entries tag_of) ≡ Some p
   makes_page (image t q) m _ = changed_image t end' tag_of q (cell s.origin s.log.entries tag_of) (sym m.0) ∙ ap (λ (y : Page). Some y) m.1
-  makes_page (ranges t spans) m known = let r = m.1 in let e = logged_there s h tag_of (h.pool.core.blocks f inside named) known in let same : page_of s tag_of ≡ r.before = ((h.pool.pages.cells i v f there inside).copied r.before r.copied).is_logged (page_of s tag_of) e in
-      ap (changed_page (ranges t spans) end' tag_of) (sym (h.logged tag_of known) ∙ e ∙ ap (λ (y : Page). Some y) same) ∙ changed_ranges t end' tag_of spans r.before (sym m.0) ∙ ap (λ (y : Page). Some y) r.made
+  makes_page (ranges t spans) m known = let r = m.1 in
+      ap (changed_page (ranges t spans) end' tag_of) (copied_cell s h i f v there inside named r.before r.copied known) ∙ changed_ranges t end' tag_of spans r.before (sym m.0) ∙ ap (λ (y : Page). Some y) r.made
   makes_page (resize fork o n) m _ = absurd m
 
   pub cell_now : s.known tag_of ≡ true → cell s.origin (s.log.entries ++ entry ∷ []) tag_of ≡ Some p
@@ -696,7 +711,7 @@ module _ (s : State) (h : HistoryInvariant s) (i f : ℕ) (p : Page) (ch : Chang
         durable = h.durable;
         device = sweep log_shape log_part log_part 1 (λ _. s.device) (λ _. s.device) (λ _. written_of s) (λ _. written_of entered) views i v after h.device there
             (λ g below. enter_keeps (written_of s) s.device v.saw_down v.log (record_bytes s.names entry) end' (log_bytes s.names entered.log) x.appended (bytes_longer s.names s.log entry));
-        history = history_written s.known s.origin s.log s.flushed views h.history h.log i v after there entry h.ends tag_of p of_block (makes_whole ch end' tag_of p (link v f) x.makes) cell_now refl refl refl refl refl refl refl;
+        history = history_written s.known s.origin s.log s.flushed views h.history h.log i v after there entry h.ends tag_of p (logged_as ch v.log.redo (link v f).copied) of_block (makes_whole ch end' tag_of p (link v f) x.makes) refl tested_now cell_now refl refl refl refl refl refl refl;
         lanes = steady lane_shape lane_part s.lanes s.lane (λ _. s.flushed) views h.lanes i v after there refl (λ q. refl);
         wide = wide_set s.lanes views h.wide i v after there refl refl;
         placed = h.placed;
@@ -730,12 +745,63 @@ module _ (s : State) (h : HistoryInvariant s) (i : ℕ) (v : View) (there : get_
       (outer_same s.known s.origin s.log s.lanes s.lane s.flushed (written_of s) s.device s.pool.core.views (outer_of s h) i v w there (record { calls = refl; front = refl; joined = refl; flushed = refl; emptied = refl; number = refl; kept = refl }) refl refl refl refl)
       (record { homes = homes_begun i v w begun s.pool.core.frames s.pool.core.frame (home_of s) s.pool.core.views h.homes there; unframed = h.unframed; flushed_cells = h.flushed_cells })
 
+  -- the holder of the log's latch keeps the redo position that it loads
+  loads_redo_step : v.log.held ≡ true → HistoryInvariant (state_after_word load_redo s i v)
+  loads_redo_step held = let w : View = after_word load_redo s v in let same : SameHere v w = record { backend = record { emptied = refl; number = refl; next = refl; links = refl; partitions = refl }; joined = refl; links = refl; partitions = refl } in
+      assemble_same s h (aside s.pool i w) s.lane (pool_aside s.pool i v w h.pool there same) refl h.known (refl, refl)
+      (record {
+        device = sweep log_shape log_part log_part 1 (λ _. s.device) (λ _. s.device) (λ _. written_of s) (λ _. written_of s) s.pool.core.views i v w h.device there (λ g below. redo_keeps (written_of s) s.device v.saw_down v.log (Some s.redo) (λ free. absurd (let x = held in cc)));
+        history = history_same s.known s.origin s.log s.flushed s.pool.core.views h.history i v w there (record { calls = refl; front = refl; joined = refl; flushed = refl; emptied = refl; number = refl; kept = refl });
+        lanes = steady lane_shape lane_part s.lanes s.lane (λ _. s.flushed) s.pool.core.views h.lanes i v w there refl (λ q. refl);
+        wide = wide_set s.lanes s.pool.core.views h.wide i v w there refl refl;
+      })
+      (blocks_aside s h i v w there refl)
+
+  -- and forgets it once it is raised
+  forgets_redo_step : HistoryInvariant (record s { pool = aside s.pool i (after_word raise_redo s v) })
+  forgets_redo_step = let w : View = after_word raise_redo s v in let same : SameHere v w = record { backend = record { emptied = refl; number = refl; next = refl; links = refl; partitions = refl }; joined = refl; links = refl; partitions = refl } in
+      assemble_same s h (aside s.pool i w) s.lane (pool_aside s.pool i v w h.pool there same) refl h.known (refl, refl)
+      (record {
+        device = sweep log_shape log_part log_part 1 (λ _. s.device) (λ _. s.device) (λ _. written_of s) (λ _. written_of s) s.pool.core.views i v w h.device there (λ g below. redo_keeps (written_of s) s.device v.saw_down v.log (None) (λ free. refl));
+        history = history_same s.known s.origin s.log s.flushed s.pool.core.views h.history i v w there (record { calls = refl; front = refl; joined = refl; flushed = refl; emptied = refl; number = refl; kept = refl });
+        lanes = steady lane_shape lane_part s.lanes s.lane (λ _. s.flushed) s.pool.core.views h.lanes i v w there refl (λ q. refl);
+        wide = wide_set s.lanes s.pool.core.views h.wide i v w there refl refl;
+      })
+      (blocks_aside s h i v w there refl)
+
+  raises_redo_step : HistoryInvariant (state_after_word raise_redo s i v)
+  raises_redo_step = let x = forgets_redo_step in record {
+    pool = x.pool;
+    logged = x.logged;
+    there = x.there;
+    pages = x.pages;
+    known = x.known;
+    log = x.log;
+    based = x.based;
+    ends = x.ends;
+    limit = x.limit;
+    flushed_from = x.flushed_from;
+    flushed_to = x.flushed_to;
+    named = x.named;
+    durable = x.durable;
+    device = x.device;
+    history = x.history;
+    lanes = x.lanes;
+    wide = x.wide;
+    placed = x.placed;
+    homes = x.homes;
+    unframed = x.unframed;
+    flushed_cells = x.flushed_cells;
+  }
+
   words_step : (k : WordKind) → WordAllowed k s v → HistoryInvariant (state_after_word k s i v)
   words_step load_end a = loads_end_step
   words_step begin_checkpoint a = begins_step
   words_step load_flushed a = let w : View = after_word load_flushed s v in with_view s h i v w there (record { backend = record { emptied = refl; number = refl; next = refl; links = refl; partitions = refl }; joined = refl; links = refl; partitions = refl }) refl refl refl
       (history_loaded s.known s.origin s.log s.flushed s.pool.core.views h.history i v w there refl refl refl refl refl refl refl)
   words_step raise_flushed synced = raises_step s h i v there synced
+  words_step load_redo held = loads_redo_step held
+  words_step raise_redo ended = raises_redo_step
   -- no law speaks of the others
   words_step k a = let w : View = after_word k s v in let x = with_view s h i v w there (record { backend = record { emptied = refl; number = refl; next = refl; links = refl; partitions = refl }; joined = refl; links = refl; partitions = refl }) refl refl refl
       (history_same s.known s.origin s.log s.flushed s.pool.core.views h.history i v w there (record { calls = refl; front = refl; joined = refl; flushed = refl; emptied = refl; number = refl; kept = refl })) in record {

@@ -230,7 +230,7 @@ swept_kept {t = t} (lanes {s = s} i q k v there live low a alone) h d m = laned_
 swept_kept {t = t} (writes {s = s} i q f k v there live low inside a x) h d m = laned_swept s h d m i q k v (laned k q v (paged begin_write s.pool f v)) t there live low refl refl refl refl refl refl refl
 swept_kept {t = t} (notes {s = s} i q f noted k v there live low inside a x) h d m = laned_swept s h d m i q (lane_kinds.lane_back noted) v (laned (lane_kinds.lane_back noted) q v (paged k (pool_noting k s f) f v)) t there live low refl refl refl refl refl refl refl
 swept_kept {t = t} (logs {s = s} i k v there live a record_is) h d m = aside_swept s h d m i v (view_logged k v) t there refl refl refl (plain s h d m t refl refl refl refl) m.below
-swept_kept {t = t} (enters {s = s} i f p ch v there live inside x) h d m = let entry = new_entry s v.number ch in aside_swept s h d m i v (has_written ch (s.end + change_size ch) (s.pool.core.frame f).tag p (paged (make_entry p) s.pool f v)) t there refl refl refl
+swept_kept {t = t} (enters {s = s} i f p ch v there live inside x) h d m = let entry = new_entry s v.number ch in aside_swept s h d m i v (has_written ch (link v f).copied (s.end + change_size ch) (s.pool.core.frame f).tag p (paged (make_entry p) s.pool f v)) t there refl refl refl
     (record { lane_of = refl; end = omega arith; entries = λ tag k e of. ⊎_elim (λ (y : IsEntryOf s.log.entries tag k e). inl y) (λ (y : (entry ≡ e) × (tag_in ch ≡ Some tag)). let z : s.end + change_size ch ≡ end_of e = ap end_of y.0 in inr (omega (arith, some_size ch))) (entry_longer s.log.entries entry tag k e of); synced = λ tag. omega arith }) m.below
 swept_kept {t = t} (reads {s = s} i f tag p v there live inside a) h d m = aside_swept s h d m i v (looked (seen.LogEnd s.end) (has_read s.end tag p v)) t there refl refl refl (plain s h d m t refl refl refl refl) m.below
 swept_kept {t = t} (words {s = s} i k v there live a) h d m = aside_swept s h d m i v (after_word k s v) t there refl refl refl (plain s h d m t refl refl refl refl) m.below

@@ -58,7 +58,7 @@ torn_length : (q : Page) (n : ℕ) → length (torn_record q n) ≤ n
 torn_length q n = omega (arith, length-take n (record_bytes sample_store.names (next_entry q)))
 
 may_log : (p q : Page) → IsNext q → CanLog (c4 p) 0 7 q (image 7 q) (view_of (c4 p))
-may_log p q is = record { inside = lit< tt; tagged = refl; right = record { right = refl; dirtied = refl; applied = refl; sound = is.sound; used = is.used }; around = at_frame (λ (l : Link). l.unapplied ≡ false) (view_of (c4 p)) _ refl refl refl; full = is.full; ends = is.ends; room = next_room; makes = (refl, refl); allowed = tt }
+may_log p q is = record { inside = lit< tt; tagged = refl; right = record { right = refl; dirtied = refl; applied = refl; sound = is.sound; used = is.used }; around = at_frame (λ (l : Link). l.unapplied ≡ false) (view_of (c4 p)) _ refl refl refl; full = is.full; ends = is.ends; room = next_room; makes = (refl, refl); past = tt; allowed = tt }
 
 tears : (p q : Page) (n : ℕ) → IsNext q → n < 32 → Run (tear p q n) (q32 p) (c5 p q n)
 tears p q n is few = goes (pools (page_steps.touches 0 0 exclude (view_of (q32 p)) refl refl (lit< tt) (record { pinned = λ e. cc; seen = refl; none = refl; free = refl; alone = refl; no_copy = refl }) tt) tt)
@@ -97,7 +97,7 @@ module _ (p q : Page) (n : ℕ) (few : n < 32) where
 
   only_first : (es : List Entry) → Survives t es → es ≡ put_entry p ∷ []
   only_first _ (first es rest is high) = is_first es rest is high
-  only_first _ (one_more e rest bytes whole starts valid) = absurd (none_more e rest bytes whole valid)
+  only_first _ (one_more e rest bytes whole starts valid follow) = absurd (none_more e rest bytes whole valid)
 
   put_again : (pages : ℕ → Option Page) → cell pages (put_entry p ∷ []) 7 ≡ Some p
   put_again pages = cell_longer pages [] (put_entry p) 7 ∙ changed_image 7 (end_of (put_entry p)) 7 p (cell pages [] 7) refl

@@ -79,6 +79,6 @@ torn_kept (lanes {s = s} i q k v there live low a alone) = torn_set s.pool.core.
 torn_kept (writes {s = s} i q f k v there live low inside a x) = torn_set s.pool.core.views i v (laned k q v (paged begin_write s.pool f v)) there (all_torn v.torn)
 torn_kept (notes {s = s} i q f noted k v there live low inside a x) = torn_set s.pool.core.views i v (laned (lane_kinds.lane_back noted) q v (paged k (pool_noting k s f) f v)) there (all_torn v.torn)
 torn_kept (logs {s = s} i k v there live a record_is) = torn_logged s i k v there
-torn_kept (enters {s = s} i f p c v there live inside x) = torn_set s.pool.core.views i v (has_written c (s.end + change_size c) (s.pool.core.frame f).tag p (paged (make_entry p) s.pool f v)) there (all_torn v.torn)
+torn_kept (enters {s = s} i f p c v there live inside x) = torn_set s.pool.core.views i v (has_written c (link v f).copied (s.end + change_size c) (s.pool.core.frame f).tag p (paged (make_entry p) s.pool f v)) there (all_torn v.torn)
 torn_kept (reads {s = s} i f tag p v there live inside a) = torn_set s.pool.core.views i v (looked (seen.LogEnd s.end) (has_read s.end tag p v)) there (all_torn v.torn)
 torn_kept (words {s = s} i k v there live a) = torn_set s.pool.core.views i v (after_word k s v) there (all_torn v.torn)

@@ -1,9 +1,9 @@
 -- Each step keeps what the views fix of the shared words.
-use Rattle.std.proofs.Common.{◌≡◌, ◌≢◌, ◌⊎◌, inl, inr, ℕ, ◌+◌, ◌%◌, ◌<◌, ◌≤◌, Bool, true, false, List, [], ◌∷◌, ◌++◌, length, set, cond, eq-eqb, ne_eqb, sym, refl, ap, ◌∙◌, subst, ⊎_elim, arith}
+use Rattle.std.proofs.Common.{◌≡◌, ◌≢◌, ◌⊎◌, inl, inr, ℕ, zero, suc, ◌+◌, ◌%◌, ◌<◌, ◌≤◌, Bool, true, false, List, [], ◌∷◌, ◌++◌, length, append-nil, set, cond, eq-eqb, ne_eqb, sym, refl, ap, ◌∙◌, subst, ⊎_elim, arith}
 use Rattle.std.specs.Prelude.{max}
 use Rattle.std.proofs.lemmas.Bool.{cases_lt}
 use mathlib.Core.Logic.{dite}
-use mathlib.Core.Option.{some, some-injective}
+use mathlib.Core.Option.{some, some-ne-none, some-injective}
 use native.Mathlib.Decide.{ℕ_discrete}
 use lib.ListN.{get_elem?}
 use Rattle.state_word.specs.declared.word.StateWord.{StateWord}
@@ -30,6 +30,8 @@ use Rattle.history_core.specs.Laws.{Laws}
 use Rattle.history_core.specs.Hints.{FollowsHints}
 use Rattle.history_core.proofs.Balances.{balances_aside, balances_listed, balances_split, balances_joined, balances_fixed}
 use Rattle.history_core.proofs.Hints.{hints_same, hints_unstored, hints_stored}
+use Rattle.history_core.specs.Redo.{IsHighestRaised}
+use Rattle.history_core.proofs.Redo.{highest_more, highest_is as redo_is}
 use Rattle.history_core.specs.Trail.{Follows, IsHighest, TrailLaw, HasSameWords, ListedIsMade}
 use Rattle.history_core.specs.Steps.{Event, stepped, looked, pool_noting, paged, laned, has_read, has_written, Step, pools, lanes, writes, notes, logs, enters, reads, words, after_word}
 use Rattle.history_core.specs.Words.{flushed_word, hand_word, WordKind, raise_flushed, add_hand, word_at, number_after, word_set}
@@ -109,7 +111,7 @@ words_kept (lanes {s = s} i q k v there live low a alone) m = λ g f. balances_a
 words_kept (writes {s = s} i q f k v there live low inside a x) m = moves s.pool.core.frame s.pool.core.views m i f v (laned k q v (paged begin_write s.pool f v)) (s.pool.core.frame f) there (lists_none f (s.pool.core.frame f).word v.changes)
 words_kept (notes {s = s} i q f noted k v there live low inside a x) m = let b : Block = block_of (pool_noting k s f).logged (s.pool.core.frame f).tag in moves s.pool.core.frame s.pool.core.views m i f v (laned (lane_back noted) q v (paged k (pool_noting k s f) f v)) (kinds.frame_after k b (s.pool.core.frame f)) there (pages_list k f b (s.pool.core.frame f) v.changes)
 words_kept (logs {s = s} i k v there live a record_is) m = λ g f. balances_aside (m g f) i v (view_logged k v) there refl
-words_kept (enters {s = s} i f p ch v there live inside x) m = moves s.pool.core.frame s.pool.core.views m i f v (has_written ch (s.end + change_size ch) (s.pool.core.frame f).tag p (paged (make_entry p) s.pool f v)) (s.pool.core.frame f) there (lists_none f (s.pool.core.frame f).word v.changes)
+words_kept (enters {s = s} i f p ch v there live inside x) m = moves s.pool.core.frame s.pool.core.views m i f v (has_written ch (link v f).copied (s.end + change_size ch) (s.pool.core.frame f).tag p (paged (make_entry p) s.pool f v)) (s.pool.core.frame f) there (lists_none f (s.pool.core.frame f).word v.changes)
 words_kept (reads {s = s} i f tag p v there live inside a) m = λ g f. balances_aside (m g f) i v (looked (seen.LogEnd s.end) (has_read s.end tag p v)) there refl
 words_kept (words {s = s} i k v there live a) m = λ g f. balances_aside (m g f) i v (after_word k s v) there refl
 
@@ -145,7 +147,7 @@ hand_kept (lanes {s = s} i q k v there live low a alone) m = m ∙ ap (λ (n : �
 hand_kept (writes {s = s} i q f k v there live low inside a x) m = m ∙ ap (λ (n : ℕ). n % 18446744073709551616) (sym (same_ticks s.pool.core.views i v (laned k q v (paged begin_write s.pool f v)) there refl))
 hand_kept (notes {s = s} i q f noted k v there live low inside a x) m = m ∙ ap (λ (n : ℕ). n % 18446744073709551616) (sym (same_ticks s.pool.core.views i v (laned (lane_back noted) q v (paged k (pool_noting k s f) f v)) there refl))
 hand_kept (logs {s = s} i k v there live a record_is) m = m ∙ ap (λ (n : ℕ). n % 18446744073709551616) (sym (same_ticks s.pool.core.views i v (view_logged k v) there refl))
-hand_kept (enters {s = s} i f p ch v there live inside x) m = m ∙ ap (λ (n : ℕ). n % 18446744073709551616) (sym (same_ticks s.pool.core.views i v (has_written ch (s.end + change_size ch) (s.pool.core.frame f).tag p (paged (make_entry p) s.pool f v)) there refl))
+hand_kept (enters {s = s} i f p ch v there live inside x) m = m ∙ ap (λ (n : ℕ). n % 18446744073709551616) (sym (same_ticks s.pool.core.views i v (has_written ch (link v f).copied (s.end + change_size ch) (s.pool.core.frame f).tag p (paged (make_entry p) s.pool f v)) there refl))
 hand_kept (reads {s = s} i f tag p v there live inside a) m = m ∙ ap (λ (n : ℕ). n % 18446744073709551616) (sym (same_ticks s.pool.core.views i v (looked (seen.LogEnd s.end) (has_read s.end tag p v)) there refl))
 hand_kept (words {s = s} i k v there live a) m = hand_after_word k s i v there m
 
@@ -201,7 +203,7 @@ highest_kept (lanes {s = s} i q k v there live low a alone) h m = highest_same s
 highest_kept (writes {s = s} i q f k v there live low inside a x) h m = highest_same s.flushed s.pool.core.views m i v (laned k q v (paged begin_write s.pool f v)) there refl
 highest_kept (notes {s = s} i q f noted k v there live low inside a x) h m = highest_same s.flushed s.pool.core.views m i v (laned (lane_back noted) q v (paged k (pool_noting k s f) f v)) there refl
 highest_kept (logs {s = s} i k v there live a record_is) h m = highest_same s.flushed s.pool.core.views m i v (view_logged k v) there refl
-highest_kept (enters {s = s} i f p ch v there live inside x) h m = highest_same s.flushed s.pool.core.views m i v (has_written ch (s.end + change_size ch) (s.pool.core.frame f).tag p (paged (make_entry p) s.pool f v)) there refl
+highest_kept (enters {s = s} i f p ch v there live inside x) h m = highest_same s.flushed s.pool.core.views m i v (has_written ch (link v f).copied (s.end + change_size ch) (s.pool.core.frame f).tag p (paged (make_entry p) s.pool f v)) there refl
 highest_kept (reads {s = s} i f tag p v there live inside a) h m = highest_same s.flushed s.pool.core.views m i v (looked (seen.LogEnd s.end) (has_read s.end tag p v)) there refl
 highest_kept (words {s = s} i k v there live a) h m = highest_after_word k s i v there m
 
@@ -244,12 +246,21 @@ other_word frame frame' views i f v w c m m' there listed other = same_measures 
 pub next_tick : (hand hand' : ℕ) (views : List View) (i : ℕ) (v w : View) → hand ≡ Ticks views % 18446744073709551616 → hand' ≡ Ticks (set views i w) % 18446744073709551616 → get_elem? views i ≡ some v → w.ticks ≡ v.ticks + 1 → hand' ≡ next_hand hand
 next_tick hand hand' views i v w e e' there more = e' ∙ ap (λ (n : ℕ). n % 18446744073709551616) (let a = total-set (λ (y : View). y.ticks) views i v w there in omega arith) ∙ sym (hand_on (Ticks views)) ∙ ap next_hand (sym e)
 
+-- one number, and the larger of two
+one_low : (n r q k : ℕ) → get_elem? (r ∷ []) k ≡ some q → q ≤ max n r
+one_low n r q zero at = let e = some-injective r q at in omega arith
+one_low n r q (suc k) at = absurd (some-ne-none q (sym at))
+
+which : (n r : ℕ) → (max n r ≡ n) ⊎ ((k : ℕ) × (get_elem? (r ∷ []) k ≡ some (max n r)))
+which n r = ⊎_elim (λ (low : r < n). inl (omega arith)) (λ (high : n ≤ r). inr (0, ap (λ (z : ℕ). some z) {x = r} {y = max n r} (omega arith))) (cases_lt r n)
+
 -- So of two states
 pub words_same : (s t : State) → Laws s → Laws t → s.pool.core.views ≡ t.pool.core.views → HasSameWords s t
 words_same s t a b same = record {
   words = words_fixed t.pool.core.frame s.pool.core.frame t.pool.core.views b.trail.words (subst (Follows s.pool.core.frame) same a.trail.words);
   hand = b.trail.hand ∙ ap (λ (l : List View). Ticks l % 18446744073709551616) (sym same) ∙ sym a.trail.hand;
   flushed = highest_is t.flushed s.flushed t.pool.core.views b.trail.flushed (subst (IsHighest s.flushed) same a.trail.flushed);
+  redo = λ base. redo_is t.log.base t.redo s.redo t.pool.core.views b.redo.highest (subst (λ (n : ℕ). IsHighestRaised n s.redo t.pool.core.views) (sym base) (subst (IsHighestRaised s.log.base s.redo) same a.redo.highest));
   hints = hints_same t.hint s.hint t.pool.core.views b.hints.fixed (subst (FollowsHints s.hint) same a.hints.fixed);
 }
 
@@ -261,6 +272,10 @@ listed_made s t a b i v w there views = let words : Follows t.pool.core.frame (s
   unmoved = λ same. hand ∙ ap (λ (n : ℕ). n % 18446744073709551616) (same_ticks s.pool.core.views i v w there same) ∙ sym a.trail.hand;
   moved = λ more. next_tick s.hand t.hand s.pool.core.views i v w a.trail.hand hand there more;
   raised = λ more. highest_is t.flushed (max s.flushed w.raised_to) (set s.pool.core.views i w) (subst (IsHighest t.flushed) views b.trail.flushed) (highest_set s.flushed s.pool.core.views a.trail.flushed i v w there more);
+  unraised = λ base same. redo_is t.log.base t.redo s.redo (set s.pool.core.views i w) (subst (IsHighestRaised t.log.base t.redo) views b.redo.highest) (subst (λ (n : ℕ). IsHighestRaised n s.redo (set s.pool.core.views i w)) (sym base)
+      (highest_more s.log.base s.redo s.redo s.pool.core.views a.redo.highest i v w [] there (same ∙ sym (append-nil v.redo_raised)) (omega arith) (λ k r at. absurd (some-ne-none r (sym at))) (inl refl)));
+  raised_redo = λ base r more. redo_is t.log.base t.redo (max s.redo r) (set s.pool.core.views i w) (subst (IsHighestRaised t.log.base t.redo) views b.redo.highest) (subst (λ (n : ℕ). IsHighestRaised n (max s.redo r) (set s.pool.core.views i w)) (sym base)
+      (highest_more s.log.base s.redo (max s.redo r) s.pool.core.views a.redo.highest i v w (r ∷ []) there more (omega arith) (λ k q at. one_low s.redo r q k at) (which s.redo r)));
   unstored = λ same. hints_unstored s.hint t.hint s.pool.core.views a.hints.fixed i v w there (subst (FollowsHints t.hint) views b.hints.fixed) same;
   stored = λ h listed was. hints_stored s.hint t.hint s.pool.core.views a.hints.fixed i v w h there (subst (FollowsHints t.hint) views b.hints.fixed) listed was;
 }

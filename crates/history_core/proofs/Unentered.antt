@@ -94,7 +94,7 @@ noted_kept (lanes {s = s} i q k v there live low a alone) = noted_set s.pool.cor
 noted_kept (writes {s = s} i q f k v there live low inside a x) = noted_set s.pool.core.views i v (laned k q v (paged begin_write s.pool f v)) there (all_noted v.unentered)
 noted_kept (notes {s = s} i q f noted k v there live low inside a x) = noted_set s.pool.core.views i v (laned (lane_kinds.lane_back noted) q v (paged k (pool_noting k s f) f v)) there (noted_more k (s.pool.core.frame f) (link v f) v.unentered)
 noted_kept (logs {s = s} i k v there live a record_is) = noted_set s.pool.core.views i v (view_logged k v) there (all_noted v.unentered)
-noted_kept (enters {s = s} i f p c v there live inside x) = noted_set s.pool.core.views i v (has_written c (s.end + change_size c) (s.pool.core.frame f).tag p (paged (make_entry p) s.pool f v)) there (all_noted v.unentered)
+noted_kept (enters {s = s} i f p c v there live inside x) = noted_set s.pool.core.views i v (has_written c (link v f).copied (s.end + change_size c) (s.pool.core.frame f).tag p (paged (make_entry p) s.pool f v)) there (all_noted v.unentered)
 noted_kept (reads {s = s} i f tag p v there live inside a) = noted_set s.pool.core.views i v (looked (seen.LogEnd s.end) (has_read s.end tag p v)) there (all_noted v.unentered)
 noted_kept (words {s = s} i k v there live a) = noted_set s.pool.core.views i v (after_word k s v) there (all_noted v.unentered)
 
@@ -322,7 +322,7 @@ unentered_kept (writes {s = s} i q f k v there live low inside a x) h m = pages_
 unentered_kept (notes {s = s} i q f noted k v there live low inside a x) h m = let p = pool_noting k s f in pages_law s h m i f k (block_of p.logged (s.pool.core.frame f).tag) v (laned (lane_kinds.lane_back noted) q v (paged k p f v)) s.log.entries (λ tag y. y) there live inside refl refl (needed_noted (IsEntered s.log.entries (s.pool.core.frame f).tag) k s q f (lane_hold v q) (link v f) x)
 unentered_kept (logs {s = s} i k v there live a record_is) h m = aside_law s h m i v (view_logged k v) there refl refl
 unentered_kept (enters {s = s} i f p c v there live inside x) h m = let tag = (s.pool.core.frame f).tag in let entry = new_entry s v.number c in
-    pages_law s h m i f (make_entry p) (block_of s.pool.logged tag) v (has_written c (s.end + change_size c) tag p (paged (make_entry p) s.pool f v)) (s.log.entries ++ entry ∷ []) (λ z y. (y.0, y.1, record { there = at_longer s.log.entries (entry ∷ []) y.0 y.1 y.2.there; of = y.2.of })) there live inside refl refl
+    pages_law s h m i f (make_entry p) (block_of s.pool.logged tag) v (has_written c (link v f).copied (s.end + change_size c) tag p (paged (make_entry p) s.pool f v)) (s.log.entries ++ entry ∷ []) (λ z y. (y.0, y.1, record { there = at_longer s.log.entries (entry ∷ []) y.0 y.1 y.2.there; of = y.2.of })) there live inside refl refl
     ((length s.log.entries, entry, record { there = at_last s.log.entries entry; of = makes_of c (s.end + change_size c) tag p (link v f) x.makes }), x.right.dirtied)
 unentered_kept (reads {s = s} i f tag p v there live inside a) h m = aside_law s h m i v (looked (seen.LogEnd s.end) (has_read s.end tag p v)) there refl refl
 unentered_kept (words {s = s} i k v there live a) h m = words_law s h m i k v there

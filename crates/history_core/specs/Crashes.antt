@@ -3,14 +3,15 @@ use Rattle.std.specs.Prelude.{◌≡◌, ℕ, ◌<◌, ◌⊎◌, true, false, L
 use mathlib.Core.Option.{some}
 use lib.ListN.{get_elem?}
 use Rattle.pin_core.specs.State.{Page}
-use Rattle.history_core.specs.Log.{Entry, image, ranges, Span, IsChange, IsEntryOf, end_of, cell, change_size, log_bytes}
+use Rattle.history_core.specs.Log.{Entry, ranges, Span, IsChange, IsEntryOf, end_of, cell, change_size, log_bytes}
 use Rattle.history_core.specs.State.{State, stored, failed, unsynced}
+use Rattle.history_core.specs.Redo.{CanFollow, HasWhole, StartsBased}
 use Rattle.history_core.specs.Unentered.{IsUnentered}
 
--- The entries that survive a crash. They are the first ones of the log, among them all that end at the flushed position or before it. Or they are all of them, and one more, whose record was appended whole and is not part of the log yet
+-- The entries that survive a crash. They are the first ones of the log, among them all that end at the flushed position or before it. Or they are all of them, and one more, whose record was appended whole and is not part of the log yet, and which redo can do after them
 pub data Survives (s : State) : List Entry → Type 0 where
   first : (es rest : List Entry) → s.log.entries ≡ es ++ rest → ((k : ℕ) (e : Entry) → get_elem? rest k ≡ some e → s.flushed < end_of e) → Survives s es
-  one_more : (e : Entry) (rest : List ℕ) → s.device.bytes ≡ log_bytes s.names s.log ++ rest → length rest ≡ change_size e.change → e.start ≡ s.end → IsChange (end_of e) e.change → Survives s (s.log.entries ++ e ∷ [])
+  one_more : (e : Entry) (rest : List ℕ) → s.device.bytes ≡ log_bytes s.names s.log ++ rest → length rest ≡ change_size e.change → e.start ≡ s.end → IsChange (end_of e) e.change → CanFollow s e.change → Survives s (s.log.entries ++ e ∷ [])
 
 -- What a crash may leave: the pages that the lanes hold, by their tags, and the entries
 pub record Crashed (s : State) (pages : ℕ → Option Page) (es : List Entry) : Type 0 where
@@ -23,21 +24,17 @@ pub record IsExcepted (s : State) (es : List Entry) (tag : ℕ) : Type 0 where
   pub none : (k : ℕ) (e : Entry) → IsEntryOf es tag k e → ⊥
   pub lost : (unsynced s tag ≡ true) ⊎ (failed s tag ≡ true)
 
--- one of the entries has the whole page of the block
-abbrev pub HasWhole : List Entry → ℕ → Type 0
-HasWhole es tag = (k : ℕ) × (e : Entry) × (p : Page) × (get_elem? es k ≡ some e) × (e.change ≡ image tag p)
-
--- where an entry changes bytes of the block's page, another has the page whole. It says nothing of a block with whole pages alone, or with no entry
-abbrev pub RangesHaveWhole : List Entry → ℕ → Type 0
-RangesHaveWhole es tag = (k : ℕ) (e : Entry) (spans : List Span) → get_elem? es k ≡ some e → e.change ≡ ranges tag spans → HasWhole es tag
+-- where an entry changes bytes of the block's page, no sound page had a position past the log's base at the start. It says nothing of a block with whole pages alone, or with no entry
+abbrev pub RangesAreBased : State → List Entry → ℕ → Type 0
+RangesAreBased s es tag = (k : ℕ) (e : Entry) (spans : List Span) → get_elem? es k ≡ some e → e.change ≡ ranges tag spans → StartsBased s
 
 -- the block had been synced when the table was opened over its lane
 abbrev pub StartsSynced : State → ℕ → Type 0
 StartsSynced s tag = s.unsynced_at_start tag ≡ false
 
--- What redo needs of a block: one of the entries has its whole page; or none changes bytes of it, the contents of its lane are known, and it had been synced when the table was opened over it
+-- What redo needs of a block: one of the entries has its whole page; or the contents of its lane are known, it had been synced when the table was opened over it, and where an entry changes bytes of it the log began past the pages' positions
 abbrev pub CanRedo : State → List Entry → ℕ → Type 0
-CanRedo s es tag = HasWhole es tag ⊎ ((s.known tag ≡ true) × StartsSynced s tag × RangesHaveWhole es tag)
+CanRedo s es tag = HasWhole es tag ⊎ ((s.known tag ≡ true) × StartsSynced s tag × RangesAreBased s es tag)
 
 -- What redo makes of a block: its page after the surviving entries, done on the page of the start. The exceptions are blocks whose frame a backend marked dirty with no entry made
 abbrev pub RedoGives : State → (ℕ → Option Page) → List Entry → ℕ → Type 0

@@ -15,13 +15,14 @@ use Rattle.pin_core.specs.Invariant.{HasTag}
 use Rattle.pin_core.specs.Steps as pin_steps
 use Rattle.page_core.specs.Steps as page_steps
 use Rattle.page_core.specs.Histories.{NoneUnapplied}
-use Rattle.history_core.specs.Log.{Entry, log_end, end_of, cell, cut, head_size, log_bytes, AreImages, Change, image, is_image, change_size, tag_in, IsEntryOf, IsLegal, IsFront, place_of, backend_of, writes_in, writes_at, AreInOrder}
+use Rattle.history_core.specs.Log.{Entry, log_end, end_of, cell, cut, head_size, log_bytes, AreImages, Change, Span, image, ranges, is_image, change_size, tag_in, IsEntryOf, IsLegal, IsFront, place_of, backend_of, writes_in, writes_at, AreInOrder}
 use Rattle.history_core.specs.State.{State, Store, CanStore, stored, stored_upto, synced_upto, failed, unsynced, last_position, opening}
 use Rattle.history_core.specs.Homes.{home_of, IsFlushedCell}
 use Rattle.history_core.specs.Lanes.{LaneKind, lane_out, sync_lane}
 use Rattle.history_core.specs.Device.{HasRisen}
 use Rattle.history_core.specs.Invariant.{HasNumber, KeptLaw}
-use Rattle.history_core.specs.Steps.{Event, pool, lane, write, enter, read, new_entry, Step, Run}
+use Rattle.history_core.specs.Steps.{Event, pool, lane, write, enter, read, new_entry, logged_as, Step, Run}
+use Rattle.history_core.specs.Redo.{HasBeenRedo, StartsBased, FollowsImage}
 use Rattle.history_core.specs.Rest.{NoneAppended, HasRest}
 use Rattle.grid.specs.Shape.{total}
 
@@ -147,7 +148,7 @@ pub record WriteStands (s t : State) (f : ℕ) (p : Page) (change : Change) (v w
   -- the page is the entry's image, if it has one
   pub image_is : (q : Page) → change ≡ image (s.pool.core.frame f).tag q → q ≡ p
   -- the calls grow by the write, which is the front now
-  pub added : w.calls ≡ v.calls ++ Write v.number (s.pool.core.frame f).tag p t.end (is_image change) ∷ []
+  pub added : w.calls ≡ v.calls ++ Write v.number (s.pool.core.frame f).tag p t.end (logged_as change v.log.redo (link v f).copied) ∷ []
   pub front : w.front ≡ t.end
   -- the page's position in the log is its place, and it is the block's page after all entries now, if the entry has it whole or the contents of the block's lane are known
   pub position : lsn_of p ≡ t.end
@@ -223,12 +224,19 @@ FramesAreSound s = (f : ℕ) → f < s.pool.core.frames → (s.pool.core.frame f
 abbrev pub FramesHoldCells : State → Type 0
 FramesHoldCells s = (f : ℕ) → s.known (s.pool.core.frame f).tag ≡ true → f < s.pool.core.frames → HasTag (s.pool.core.frame f) → (s.pool.core.frame f).word.valid ≡ true → NoneUnapplied s.pool f → cell s.origin s.log.entries (s.pool.core.frame f).tag ≡ Some (s.pool.core.frame f).page
 
+-- full page writes: where no sound page had a position past the log's base at the start, each entry of ranges that starts where the redo position stood, or after it, follows an entry of its block's whole page that does, if the contents of the block's lane are known
+abbrev pub RangesFollowImages : State → Type 0
+RangesFollowImages s = StartsBased s → (tag r k : ℕ) (e : Entry) (spans : List Span) → HasBeenRedo s r → get_elem? s.log.entries k ≡ some e → e.change ≡ ranges tag spans → s.known tag ≡ true → r ≤ e.start → FollowsImage s.log.entries tag r k
+
 -- The words of the log
 pub record LogWords (s : State) : Type 0 where
   pub ends : s.end ≡ log_end s.log
   pub limit : s.end ≤ last_position
   pub flushed_from : s.log.base ≤ s.flushed
   pub flushed_to : s.flushed ≤ s.end
+  -- the redo position is between the base and the log's end
+  pub redo_from : s.log.base ≤ s.redo
+  pub redo_to : s.redo ≤ s.end
 
 -- each entry that ends at the flushed position or before it is durable in the log's device
 abbrev pub EntriesAreDurable : State → Type 0

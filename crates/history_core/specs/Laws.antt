@@ -13,6 +13,7 @@ use Rattle.history_core.specs.Trail.{TrailLaw}
 use Rattle.history_core.specs.Hints.{HintsLaw}
 use Rattle.history_core.specs.Histories.{IsReached}
 use Rattle.history_core.specs.Swept.{SweptLaw}
+use Rattle.history_core.specs.Redo.{RedoLaw}
 
 pub record Laws (s : State) : Type 0 where
   -- some list of events leads to it, from the start of a buffer pool
@@ -41,3 +42,5 @@ pub record Laws (s : State) : Type 0 where
   pub hints : HintsLaw s
   -- of what the lanes' syncs have covered
   pub swept : SweptLaw s
+  -- of the redo position, which the views fix, and of what entries of ranges follow
+  pub redo : RedoLaw s

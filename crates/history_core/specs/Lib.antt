@@ -5,6 +5,7 @@ pub mod Lanes
 pub mod Device
 pub mod Steps
 pub mod TornRecords
+pub mod Redo
 pub mod Rest
 pub mod Homes
 pub mod Invariant

@@ -7,6 +7,8 @@ use Rattle.page_layout.specs.Fields.{lsn_of, with_lsn}
 use Rattle.page_layout.specs.Soundness.{is_new_page, is_sound_page}
 use Rattle.pin_core.specs.declared.view.Call.{Call}
 use Rattle.pin_core.specs.declared.view.Call.TheVariants.{Read, Write}
+use Rattle.pin_core.specs.declared.view.ImageTest.{ImageTest}
+use Rattle.pin_core.specs.declared.view.WriteRecord.{WriteRecord}
 use Rattle.pin_core.specs.State.{Page}
 use Rattle.grid.specs.Shape.{total}
 
@@ -228,41 +230,47 @@ pub record IsLegalRead (known : ℕ → Bool) (origin : ℕ → Option Page) (lo
   pub within : place ≤ log_end log
   pub reads : known tag ≡ true → cell origin (cut place log.entries) tag ≡ Some page
 
--- A write is legal where it is an entry of its backend, and its place the entry's end; it says whether the entry has the page whole. Its page is that image then, and the block's page after the entries up to there, if the contents of the block's lane are known
-pub record IsLegalWrite (known : ℕ → Bool) (origin : ℕ → Option Page) (log : Log) (backend tag : ℕ) (page : Page) (place : ℕ) (whole : Bool) : Type 0 where
+-- the record of a whole page, which no test chose
+abbrev pub image_record : WriteRecord
+image_record = record { size = record_size; test = None }
+
+-- A write is legal where it is an entry of its backend, and its place the entry's end; it says how long the entry's record is, and by which test it was chosen. Its page is the image of the entry, if that has one, and the block's page after the entries up to there, if the contents of the block's lane are known
+pub record IsLegalWrite (known : ℕ → Bool) (origin : ℕ → Option Page) (log : Log) (backend tag : ℕ) (page : Page) (place : ℕ) (logged : WriteRecord) : Type 0 where
   pub index : ℕ
   pub entry : Entry
   pub entered : IsEntryOf log.entries tag index entry
   pub made : entry.backend ≡ backend
   pub ends : end_of entry ≡ place
   pub image_is : (t : ℕ) (q : Page) → entry.change ≡ image t q → q ≡ page
-  pub is_whole : is_image entry.change ≡ whole
+  pub sized : change_size entry.change ≡ logged.size
+  -- the position that was tested is that of the block's page after the entries before this one
+  pub tested : (t : ImageTest) → logged.test ≡ Some t → known tag ≡ true → (q : Page) × (cell origin (cut entry.start log.entries) tag ≡ Some q) × (lsn_of q ≡ t.before)
   pub writes : known tag ≡ true → cell origin (cut place log.entries) tag ≡ Some page
 
 abbrev pub IsLegal : (ℕ → Bool) → (ℕ → Option Page) → Log → Call → Type 0
 IsLegal known origin log (Read backend tag page place) = IsLegalRead known origin log tag page place
-IsLegal known origin log (Write backend tag page place whole) = IsLegalWrite known origin log backend tag page place whole
+IsLegal known origin log (Write backend tag page place logged) = IsLegalWrite known origin log backend tag page place logged
 
 abbrev pub place_of : Call → ℕ
 place_of (Read backend tag page place) = place
-place_of (Write backend tag page place whole) = place
+place_of (Write backend tag page place logged) = place
 
 abbrev pub tag_of : Call → ℕ
 tag_of (Read backend tag page place) = tag
-tag_of (Write backend tag page place whole) = tag
+tag_of (Write backend tag page place logged) = tag
 
 abbrev pub backend_of : Call → ℕ
 backend_of (Read backend tag page place) = backend
-backend_of (Write backend tag page place whole) = backend
+backend_of (Write backend tag page place logged) = backend
 
 -- 1 for a write, and for a write at the place p
 abbrev pub write_weight : Call → ℕ
 write_weight (Read backend tag page place) = 0
-write_weight (Write backend tag page place whole) = 1
+write_weight (Write backend tag page place logged) = 1
 
 abbrev pub weight_at : ℕ → Call → ℕ
 weight_at p (Read backend tag page place) = 0
-weight_at p (Write backend tag page place whole) = if nat_eq place p then 1 else 0
+weight_at p (Write backend tag page place logged) = if nat_eq place p then 1 else 0
 
 -- how many writes are among the calls, and how many at the place p
 abbrev pub writes_in : List Call → ℕ

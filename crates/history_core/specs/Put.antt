@@ -11,7 +11,7 @@ use Rattle.pin_core.specs.declared.view.View.{View}
 use Rattle.pin_core.specs.State.{Page}
 use Rattle.pin_core.specs.Kinds as pins
 use Rattle.page_core.specs.Kinds.{share, unshare, exclude, unexclude, mark_dirty, page_out, overwrite_logged, page_back, start_output, clear_just_dirtied, note_write, end_io}
-use Rattle.history_core.specs.Log.{Entry, image, record_size, head_bytes, record_bytes, log_bytes}
+use Rattle.history_core.specs.Log.{Entry, image, record_size, head_bytes, record_bytes, image_record, log_bytes}
 use Rattle.history_core.specs.State.{State, stored}
 use Rattle.history_core.specs.Lanes.{take_lane, leave_lane, lane_out, write_block, lane_back}
 use Rattle.history_core.specs.Device.{take_log, leave_log, log_out, append, sync_log, log_back}
@@ -66,7 +66,7 @@ pub record HasPut (p : Page) (t : State) : Type 0 where
   pub durable : t.device.synced ≡ length t.device.bytes
   pub flushed : t.flushed ≡ record_size
   -- and the backend's one call is the write of it, at the entry's end
-  pub called : (v : View) × (get_elem? t.pool.core.views 0 ≡ some v) × (v.calls ≡ Write 0 7 p record_size true ∷ []) × (v.front ≡ record_size)
+  pub called : (v : View) × (get_elem? t.pool.core.views 0 ≡ some v) × (v.calls ≡ Write 0 7 p record_size image_record ∷ []) × (v.front ≡ record_size)
 
 abbrev pub PutRuns : Type 0
 PutRuns = IsPut some_page × ((p : Page) → IsPut p → (t : State) × Run (miss ++ fill ++ change p ++ flush p ++ write_out 0 p) miss_start t × HasPut p t)

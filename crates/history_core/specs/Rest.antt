@@ -5,6 +5,7 @@ use lib.ListN.{get_elem?}
 use Rattle.pin_core.specs.declared.view.View.{View}
 use Rattle.history_core.specs.Log.{Entry, IsChange, MayMake, end_of, record_size, record_bytes, log_bytes}
 use Rattle.history_core.specs.State.{State}
+use Rattle.history_core.specs.Redo.{CanFollow}
 use Rattle.history_core.specs.TornRecords.{NotesTorn}
 
 -- no view has appended a record that is not part of the log yet
@@ -25,6 +26,8 @@ pub record HasRest (s : State) : Type 0 where
   pub rest : List ℕ
   pub is_bytes : s.device.bytes ≡ log_bytes s.names s.log ++ rest
   pub begins : rest ≢ [] → BeginsRecord s.ranges s.names s.end rest
+  -- redo can do the entry after those of the log
+  pub follows : (some : rest ≢ []) → CanFollow s (begins some).entry.change
   -- once the log is down, of a record that a backend failed to append
   pub torn : (some : rest ≢ []) → s.device.down ≢ None → NotesTorn s.pool.core.views (begins some).entry.change
   pub short : length rest ≤ record_size

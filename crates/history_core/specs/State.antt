@@ -82,6 +82,8 @@ pub record State : Type 0 where
   -- the word of the log's end, and the word up to which the log is flushed
   pub end : ℕ
   pub flushed : ℕ
+  -- the word of the redo position (`RedoRecPtr`): a change of a page that has a position up to there is logged with the whole page
+  pub redo : ℕ
   -- the word of the clock's hand (`nextVictimBuffer`)
   pub hand : ℕ
   -- the hint words: each names no frame, by 0, or the frame f, by f + 1
@@ -175,6 +177,7 @@ opening c store p = record {
   log_faults = store.log_faults;
   end = c.base;
   flushed = c.base;
+  redo = c.base;
   hand = 0;
   hint = λ _. 0;
 }

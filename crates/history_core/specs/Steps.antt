@@ -16,6 +16,8 @@ use Rattle.pin_core.specs.declared.view.LoadedWord.TheVariants as seen
 use Rattle.pin_core.specs.declared.view.Link.{Link}
 use Rattle.pin_core.specs.declared.view.View.{View}
 use Rattle.pin_core.specs.declared.view.Call.TheVariants.{Read, Write}
+use Rattle.pin_core.specs.declared.view.ImageTest.{ImageTest}
+use Rattle.pin_core.specs.declared.view.WriteRecord.{WriteRecord}
 use Rattle.pin_core.specs.State.{Page, link, lane_hold, local}
 use Rattle.pin_core.specs.Kinds.{load_of}
 use Rattle.page_core.specs.State as page
@@ -24,9 +26,9 @@ use Rattle.page_core.specs.Kinds as pages
 use Rattle.page_core.specs.Kinds.{Kind, note_read, begin_write, note_write, make_entry}
 use Rattle.page_core.specs.Steps as page_steps
 use Rattle.page_core.specs.Steps.{logged_after}
-use Rattle.history_core.specs.Log.{Entry, Span, Change, image, is_image, ranges, resize, AreRanges, MayMake, change_size, record_bytes, with_spans}
+use Rattle.history_core.specs.Log.{Entry, Span, Change, image, ranges, resize, AreRanges, MayMake, change_size, record_bytes, with_spans}
 use Rattle.history_core.specs.State.{State, last_position}
-use Rattle.history_core.specs.Words.{Word, flushed_word, hand_word, hint_word, word_of, WordKind, load_end, begin_checkpoint, load_flushed, raise_flushed, load_hand, add_hand, load_hint, store_hint, word_at, WordAllowed, number_after, word_set}
+use Rattle.history_core.specs.Words.{Word, flushed_word, redo_word, hand_word, hint_word, word_of, WordKind, load_end, begin_checkpoint, load_flushed, raise_flushed, load_redo, raise_redo, load_hand, add_hand, load_hint, store_hint, word_at, WordAllowed, number_after, word_set}
 use Rattle.history_core.specs.Lanes.{LaneKind, read_block, fail_read, write_block, fail_write, lane_back, LaneAllowed, lane_after, lane_changed, swept_by}
 use Rattle.history_core.specs.Device.{LogKind, append, fail_append, LogAllowed, device_after, view_logged}
 use Rattle.grid.specs.Shape.{put}
@@ -167,6 +169,19 @@ MakesPage (image t q) end tag p l = (t ≡ tag) × (q ≡ p)
 MakesPage (ranges t spans) end tag p l = (t ≡ tag) × Replaces end spans p l
 MakesPage (resize fork old new) end tag p l = ⊥
 
+-- An entry of ranges is of a page whose position in the log was past the redo position, as the backend has loaded that under the log's latch
+pub record IsPastRedo (h : LogHold) (l : Link) : Type 0 where
+  pub redo : ℕ
+  pub loaded : h.redo ≡ Some redo
+  pub before : Page
+  pub copied : l.copied ≡ Some before
+  pub past : redo < lsn_of before
+
+abbrev pub MayPass : Change → LogHold → Link → Type 0
+MayPass (image t q) h l = Unit {0}
+MayPass (ranges t spans) h l = IsPastRedo h l
+MayPass (resize fork old new) h l = ⊥
+
 -- the page p is a whole page that the backend may enter by the change for the block of the frame f, whose tag is this, and has the position of the entry's end, which is at most the last one
 pub record CanLog (s : State) (f tag : ℕ) (p : Page) (c : Change) (v : View) : Type 0 where
   pub inside : f < s.pool.core.frames
@@ -177,6 +192,7 @@ pub record CanLog (s : State) (f tag : ℕ) (p : Page) (c : Change) (v : View) :
   pub ends : lsn_of p ≡ s.end + change_size c
   pub room : s.end + change_size c ≤ last_position
   pub makes : MakesPage c (s.end + change_size c) tag p (link v f)
+  pub past : MayPass c v.log (link v f)
   pub allowed : MayMake s.ranges c
 
 -- what is appended is the record of the entry that the backend would make of the page now; an append that fails leaves the first bytes of it
@@ -197,6 +213,7 @@ pub record CanEnter (s : State) (f : ℕ) (p : Page) (c : Change) (v : View) : T
   pub ends : lsn_of p ≡ s.end + change_size c
   pub room : s.end + change_size c ≤ last_position
   pub makes : MakesPage c (s.end + change_size c) (s.pool.core.frame f).tag p (link v f)
+  pub past : MayPass c v.log (link v f)
   pub allowed : MayMake s.ranges c
   pub appended : v.log.appended ≡ Some (record_bytes s.names (new_entry s v.number c))
 
@@ -211,9 +228,18 @@ pub record CanRead (tag : ℕ) (p : Page) (l : Link) : Type 0 where
 abbrev pub end_loaded : ℕ → LogHold → LogHold
 end_loaded end h = record h { end = if h.held then Some end else h.end }
 
--- a view that has written the page p of the block of a tag; its record is part of the log now
-abbrev pub has_written : Change → ℕ → ℕ → Page → View → View
-has_written c end tag p v = record v { calls = v.calls ++ Write v.number tag p end (is_image c) ∷ []; front = end; end_seen = max v.end_seen end; log = record v.log { appended = None; end = Some end } }
+-- the test by which a record was chosen: there was one where the redo position had been loaded, and the page copied
+abbrev pub test_of : Option ℕ → Option Page → Option ImageTest
+test_of (Some redo) (Some before) = Some (record { redo = redo; before = lsn_of before })
+test_of _ _ = None
+
+-- how a write is in the log
+abbrev pub logged_as : Change → Option ℕ → Option Page → WriteRecord
+logged_as c redo before = record { size = change_size c; test = test_of redo before }
+
+-- a view that has written the page p of the block of a tag, where it had copied the page `before`, if any; its record is part of the log now
+abbrev pub has_written : Change → Option Page → ℕ → ℕ → Page → View → View
+has_written c before end tag p v = record v { calls = v.calls ++ Write v.number tag p end (logged_as c v.log.redo before) ∷ []; front = end; end_seen = max v.end_seen end; log = record v.log { appended = None; end = Some end } }
 
 -- a checkpoint that begins has visited no frame, and none is left for it to write
 abbrev pub unmarked : Link → Link
@@ -228,6 +254,7 @@ abbrev pub seen_by : WordKind → ℕ → Option LoadedWord
 seen_by load_end found = Some (seen.LogEnd found)
 seen_by begin_checkpoint found = Some (seen.LogEnd found)
 seen_by load_flushed found = Some (seen.Flushed found)
+seen_by load_redo found = Some (seen.Redo found)
 seen_by load_hand found = Some (seen.Hand found)
 seen_by (load_hint number) found = Some (seen.Hint number found)
 seen_by _ found = None
@@ -253,6 +280,12 @@ abbrev pub log_end_by : WordKind → ℕ → LogHold → Option ℕ
 log_end_by load_end found h = if h.held then Some found else h.end
 log_end_by _ found h = h.end
 
+-- the redo position that was loaded is forgotten once it is raised
+abbrev pub redo_by : WordKind → ℕ → LogHold → Option ℕ
+redo_by load_redo found h = Some found
+redo_by raise_redo found h = None
+redo_by _ found h = h.redo
+
 abbrev pub end_seen_by : WordKind → ℕ → ℕ → ℕ
 end_seen_by load_end found n = max n found
 end_seen_by begin_checkpoint found n = max n found
@@ -267,6 +300,11 @@ abbrev pub raised_by : WordKind → ℕ → ℕ → ℕ
 raised_by raise_flushed end n = max n end
 raised_by _ end n = n
 
+-- it raises the redo position to there
+abbrev pub redo_raised_by : WordKind → ℕ → List ℕ → List ℕ
+redo_raised_by raise_redo end raised = raised ++ end ∷ []
+redo_raised_by _ end raised = raised
+
 abbrev pub ticks_by : WordKind → ℕ → ℕ
 ticks_by add_hand n = n + 1
 ticks_by _ n = n
@@ -280,9 +318,10 @@ hints_by _ found hs = hs
 abbrev pub view_after_word : WordKind → ℕ → ℕ → View → View
 view_after_word k found end v = record v {
   links = links_by k v.links;
-  log = record v.log { end = log_end_by k found v.log };
+  log = record v.log { end = log_end_by k found v.log; redo = redo_by k found v.log };
   flushed = flushed_by k found v.flushed;
   raised_to = raised_by k end v.raised_to;
+  redo_raised = redo_raised_by k end v.redo_raised;
   end_seen = end_seen_by k found v.end_seen;
   steps = steps_with (seen_by k found) v.steps;
   ticks = ticks_by k v.ticks;
@@ -303,7 +342,7 @@ has_raised end v = view_after_word raise_flushed end end v
 
 -- The state where backend i has the view w, and the word has the number, unless it is the log's end, which no kind changes
 abbrev pub state_set : Word → ℕ → State → ℕ → View → State
-state_set at number s i w = record s { pool = aside s.pool i w; flushed = word_set at number s flushed_word; hand = word_set at number s hand_word; hint = λ j. word_set at number s (hint_word j) }
+state_set at number s i w = record s { pool = aside s.pool i w; flushed = word_set at number s flushed_word; redo = word_set at number s redo_word; hand = word_set at number s hand_word; hint = λ j. word_set at number s (hint_word j) }
 
 abbrev pub state_after_word : WordKind → State → ℕ → View → State
 state_after_word k s i v = state_set (word_at k) (number_after k s) s i (after_word k s v)
@@ -325,7 +364,7 @@ pub data Step : Event → State → State → Type 0 where
   -- backend i makes an entry of the page p of the frame f
   enters : {s : State} (i f : ℕ) (p : Page) (c : Change) (v : View) → get_elem? s.pool.core.views i ≡ some v → v.emptied ≡ false → f < s.pool.core.frames → CanEnter s f p c v
       → Step (enter i f p c) s (let tag = (s.pool.core.frame f).tag in let end = s.end + change_size c in record s {
-        pool = pool_after (make_entry p) s.pool i f (has_written c end tag p (paged (make_entry p) s.pool f v));
+        pool = pool_after (make_entry p) s.pool i f (has_written c (link v f).copied end tag p (paged (make_entry p) s.pool f v));
         log = record s.log { entries = s.log.entries ++ new_entry s v.number c ∷ [] };
         end = end;
       })

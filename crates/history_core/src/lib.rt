@@ -29,7 +29,7 @@ ghost use Rattle.history_core.specs.Put.{PutRuns};
 ghost use Rattle.history_core.specs.Faults.{FaultRuns};
 ghost use Rattle.history_core.specs.Checkpoints.{CheckpointRuns};
 ghost use Rattle.history_core.specs.Evictions.{EvictionRuns, WaitRuns};
-ghost use Rattle.history_core.specs.Histories.{IsReached, BlocksAreThere, CallsAreLegal, EntriesAreOfBlocks, ImagesAlone, ReadsAtBase, SyncsMakeDurable, SyncsCover, JoinedAreApart, CallsAreOwn, FrontsAreReached, CallsStay, CallsAreInOrder, LoadedIsFlushed, LanesGoOutFlushed, HoldsKeepFlushed, NotedWritesAreDone, LogIsHeld, HintsNameFrames, WritesAreEntries, ReadsStand, WritesStand, LogBeforeData, LanesHoldFlushedPages, CleanBlocksAreStored, FramesAreSound, FramesHoldCells, LogWords, EntriesAreDurable, DeviceHoldsLog, LanesAreHeld};
+ghost use Rattle.history_core.specs.Histories.{IsReached, BlocksAreThere, CallsAreLegal, EntriesAreOfBlocks, ImagesAlone, RangesFollowImages, ReadsAtBase, SyncsMakeDurable, SyncsCover, JoinedAreApart, CallsAreOwn, FrontsAreReached, CallsStay, CallsAreInOrder, LoadedIsFlushed, LanesGoOutFlushed, HoldsKeepFlushed, NotedWritesAreDone, LogIsHeld, HintsNameFrames, WritesAreEntries, ReadsStand, WritesStand, LogBeforeData, LanesHoldFlushedPages, CleanBlocksAreStored, FramesAreSound, FramesHoldCells, LogWords, EntriesAreDurable, DeviceHoldsLog, LanesAreHeld};
 
 /// What every list of events keeps, whatever the backends do and in whatever order.
 pub fn all_histories()
@@ -51,6 +51,7 @@ pub fn all_histories()
     ensures in_order { (s : State) → Laws s → CallsAreInOrder s }
     ensures entries { (s : State) → Laws s → WritesAreEntries s }
     ensures images_alone { (s : State) → Laws s → ImagesAlone s }
+    ensures ranges_follow { (s : State) → Laws s → RangesFollowImages s }
     ensures of_blocks { (s : State) → Laws s → EntriesAreOfBlocks s }
     ensures at_base { (s : State) → Laws s → ReadsAtBase s }
     ensures reads_stand { (s : State) → Laws s → ReadsStand s }

@@ -13,7 +13,8 @@ use Rattle.pin_core.specs.State.{Page}
 use Rattle.history_core.specs.Log.{Change, image, ranges, resize, Entry, Log, IsEntryOf, change_size, record_size, is_image, log_bytes, end_of, tag_in, page_after, changed_page, cell}
 use Rattle.history_core.specs.State.{State, stored, unsynced, last_position}
 use Rattle.history_core.specs.Laws.{Laws}
-use Rattle.history_core.specs.Crashes.{Survives, Crashed, HasWhole, RangesHaveWhole, StartsSynced, CanRedo, RedoGives, IsExcepted}
+use Rattle.history_core.specs.Redo.{CanFollow, HasWhole}
+use Rattle.history_core.specs.Crashes.{Survives, Crashed, RangesAreBased, StartsSynced, CanRedo, RedoGives, IsExcepted}
 use Rattle.history_core.specs.Crashes as crash
 use Rattle.history_core.specs.Unentered.{IsUnentered}
 use Rattle.history_core.proofs.Crashes.{crashes_redo}
@@ -48,8 +49,8 @@ without_at (d ∷ es) (suc k) e at = without_at es k e at
 whole_with : (es : List Entry) (tag : ℕ) → HasWhole (without_backends es) tag → HasWhole es tag
 whole_with es tag (k, d, p, at, is) = let x = with_backend_at es k d at in (k, x.0, p, x.1, sym x.2 ∙ is)
 
-ranges_with : (es : List Entry) (tag : ℕ) → RangesHaveWhole (without_backends es) tag → RangesHaveWhole es tag
-ranges_with es tag h k e spans at is = whole_with es tag (h k (record e { backend = 0 }) spans (without_at es k e at) is)
+ranges_with : (s : State) (es : List Entry) (tag : ℕ) → RangesAreBased s (without_backends es) tag → RangesAreBased s es tag
+ranges_with s es tag h k e spans at is = h k (record e { backend = 0 }) spans (without_at es k e at) is
 
 none_with : (es : List Entry) (tag : ℕ) → ((k : ℕ) (e : Entry) → IsEntryOf es tag k e → ⊥) → (k : ℕ) (d : Entry) → IsEntryOf (without_backends es) tag k d → ⊥
 none_with es tag none k d of = let x = with_backend_at es k d of.there in none k x.0 (record { there = x.1; of = ap (λ (c : Change). tag_in c) (sym x.2) ∙ of.of })
@@ -127,7 +128,7 @@ module _ (relations : List RelEntry) (s : State) (laws : Laws s) (by : IsLogBy r
     )
     by_left ds long (one_beyond d word page image_is read starts valid whole) = (
       s.log.entries ++ d ∷ [],
-      crash.one_more d laws.rest.behind.rest laws.rest.behind.is_bytes whole (starts ∙ sym laws.invariant.ends) valid,
+      crash.one_more d laws.rest.behind.rest laws.rest.behind.is_bytes whole (starts ∙ sym laws.invariant.ends) valid (subst (CanFollow s) (sym image_is) tt),
       read,
     )
 
@@ -146,7 +147,7 @@ module _ (relations : List RelEntry) (s : State) (laws : Laws s) (by : IsLogBy r
         where
           can_with : CanRedo s (without_backends es) tag → CanRedo s es tag
           can_with (inl whole) = inl (whole_with es tag whole)
-          can_with (inr (known, synced, whole)) = inr (known, synced, ranges_with es tag whole)
+          can_with (inr (known, synced, whole)) = inr (known, synced, ranges_with s es tag whole)
 
       pub by_read : (es ds : List Entry) → ds ≡ without_backends es → Survives s es → (tag : ℕ) → CanRedo s ds tag → RedoGives s pages ds tag
       by_read es ds read survives tag = subst (λ (l : List Entry). CanRedo s l tag → RedoGives s pages l tag) (sym read) (by_entries es survives tag)

@@ -23,6 +23,7 @@ use Rattle.pin_core.specs.declared.view.FailedCalls.{FailedCalls}
 use Rattle.pin_core.specs.declared.view.Link.{Link}
 use Rattle.pin_core.specs.declared.view.View.{View}
 use Rattle.pin_core.specs.State.{Page, link}
+use Rattle.history_core.specs.Log.{image_record}
 use Rattle.frame_table.specs.Seats.{relations_of}
 use Rattle.frame_table.proofs.Rising.{rises_on}
 use Rattle.buffer_frames.specs.Tokens.{IsPinnedFor, Tokens, no_tokens, tokens_less}
@@ -198,10 +199,10 @@ module _ {L G : Type 0} (contents : L → Option Pages) (m : Manager L G) where
       outcome = changed tag.block p.view.number page place lsn;
       block = refl;
       calls = did.calls
-          ∙ ap (λ (n : ℕ). q.view.calls ++ Write n (packed_tag tag) (with_lsn lsn after) lsn true ∷ []) same.keeps.number
-          ∙ ap (λ (x : Page). q.view.calls ++ Write p.view.number (packed_tag tag) (with_lsn lsn x) lsn true ∷ []) image
-          ∙ ap (λ (l : List Call). l ++ Write p.view.number (packed_tag tag) (with_lsn lsn (rewritten_page page)) lsn true ∷ []) reads.calls
-          ∙ append_assoc p.view.calls (Read p.view.number (packed_tag tag) page place ∷ []) (Write p.view.number (packed_tag tag) (with_lsn lsn (rewritten_page page)) lsn true ∷ []);
+          ∙ ap (λ (n : ℕ). q.view.calls ++ Write n (packed_tag tag) (with_lsn lsn after) lsn image_record ∷ []) same.keeps.number
+          ∙ ap (λ (x : Page). q.view.calls ++ Write p.view.number (packed_tag tag) (with_lsn lsn x) lsn image_record ∷ []) image
+          ∙ ap (λ (l : List Call). l ++ Write p.view.number (packed_tag tag) (with_lsn lsn (rewritten_page page)) lsn image_record ∷ []) reads.calls
+          ∙ append_assoc p.view.calls (Read p.view.number (packed_tag tag) page place ∷ []) (Write p.view.number (packed_tag tag) (with_lsn lsn (rewritten_page page)) lsn image_record ∷ []);
       follows = (refl, reads.sound, ap is_changed_outcome told ∙ is_changed, (let x = reads.front in let w = did.later in omega arith));
       torn = torn_none (rule_of tag.rel.0 tag.fork) (changed tag.block p.view.number page place lsn ∷ []) p.view.torn r.view.torn (torn ∙ same.torn);
       mark = λ unput. absurd (let no : false ≡ true = unput in cc);

@@ -6,13 +6,13 @@ use lib.ListN.{get_elem?}
 use Rattle.pin_core.specs.declared.view.Call.{Call}
 use Rattle.pin_core.specs.declared.view.Call.TheVariants.{Read, Write}
 use Rattle.pin_core.specs.State.{Page}
-use Rattle.history_core.specs.Log.{Entry, Change, image, ranges, resize, is_image, tag_in, IsEntryOf, AreChained, AreValid, Log, end_of, cell, cut, IsLegal, IsLegalRead, IsLegalWrite, writes_in, writes_at}
+use Rattle.history_core.specs.Log.{Entry, Change, image, ranges, resize, is_image, tag_in, image_record, IsEntryOf, AreChained, AreValid, Log, end_of, cell, cut, IsLegal, IsLegalRead, IsLegalWrite, writes_in, writes_at}
 use Rattle.grid.proofs.Sums.{total-same, some_term}
 use Rattle.history_core.specs.History.{IsHistory}
 use Rattle.page_jobs.specs.Rewrites.{Rule, Outcome, unsound, kept, refused, changed, outcome_block, outcome_calls}
 use Rattle.page_jobs.specs.RewriteEnds.{BackendCalls, all_done, block_weight, Rewrites, RewritesAll, HasRewrites, HasEntry, IsPageEntry, IsRewritten, change_weight, page_at_start}
 use Rattle.page_jobs.proofs.RewriteCounts.{Each, each_done, test_is, outcome_at, outcome_weight, writes_at_are, writes_are, same_place, total_blocks}
-use Rattle.history_core.proofs.Logs.{after_none, chain_above, images_end, some_size}
+use Rattle.history_core.proofs.Logs.{after_none, chain_above, image_of_size, images_end, some_size}
 
 -- what is there is the page at the start
 start_is : (o : Option Page) (q : Page) → o ≡ Some q → q ≡ unwrap_or o []
@@ -65,7 +65,7 @@ module _ {r : Rule} {n : ℕ} {known : ℕ → Bool} {origin : ℕ → Option Pa
       by_case j (unsound b) t low = absurd (omega arith)
       by_case j (kept b i q p) t low = absurd (omega arith)
       by_case j (refused b i q p) t low = absurd (omega arith)
-      by_case j (changed b i q p m) t low = let is : m ≡ end_of e = test_is m (end_of e) low in let l : IsLegalWrite known origin log i (r.tag b) (r.rewritten q m) m true = legal_done j (changed b i q p m) t 1 (Write i (r.tag b) (r.rewritten q m) m true) refl in
+      by_case j (changed b i q p m) t low = let is : m ≡ end_of e = test_is m (end_of e) low in let l : IsLegalWrite known origin log i (r.tag b) (r.rewritten q m) m image_record = legal_done j (changed b i q p m) t 1 (Write i (r.tag b) (r.rewritten q m) m image_record) refl in
           let same = same_entry l.index k l.entry e l.entered.there at (same_index l.index k l.entry e l.entered.there at (l.ends ∙ is)) in record {
             block = b;
             backend = i;
@@ -73,7 +73,7 @@ module _ {r : Rule} {n : ℕ} {known : ℕ → Bool} {origin : ℕ → Option Pa
             place = p;
             index = j;
             there = subst (λ (x : ℕ). get_elem? (all_done ps) j ≡ some (changed b i q p x)) is t;
-            entered = ap (λ (x : Entry). x.change) (sym same) ∙ page_entry l.entry.change (r.tag b) (r.rewritten q m) l.is_whole l.entered.of l.image_is ∙ ap (λ (z : ℕ). image (r.tag b) (r.rewritten q z)) is;
+            entered = ap (λ (x : Entry). x.change) (sym same) ∙ page_entry l.entry.change (r.tag b) (r.rewritten q m) (image_of_size (end_of l.entry) l.entry.change (h.law.valid l.index l.entry l.entered.there) l.sized) l.entered.of l.image_is ∙ ap (λ (z : ℕ). image (r.tag b) (r.rewritten q z)) is;
           }
 
       from : ((j : ℕ) × (o : Outcome) × (get_elem? (all_done ps) j ≡ some o) × (0 < outcome_at (end_of e) o)) → MadeBy e
@@ -140,7 +140,7 @@ module _ {r : Rule} {n : ℕ} {known : ℕ → Bool} {origin : ℕ → Option Pa
   changes_here j (changed b i q p m) at = ap (λ (t : Bool). cond t 1 0) (sym (w.rewrites.fair j (changed b i q p m) at).0 ∙ ap r.changes (changed_read j b i q p m at))
 
   has_entry : (j : ℕ) (o : Outcome) → get_elem? (all_done ps) j ≡ some o → outcome_weight o ≡ 1 → HasEntry log (r.tag (outcome_block o))
-  has_entry j (changed b i q p m) at e = let l : IsLegalWrite known origin log i (r.tag b) (r.rewritten q m) m true = legal_done h w.rewrites j (changed b i q p m) at 1 (Write i (r.tag b) (r.rewritten q m) m true) refl in record { index = l.index; entry = l.entry; entered = l.entered }
+  has_entry j (changed b i q p m) at e = let l : IsLegalWrite known origin log i (r.tag b) (r.rewritten q m) m image_record = legal_done h w.rewrites j (changed b i q p m) at 1 (Write i (r.tag b) (r.rewritten q m) m image_record) refl in record { index = l.index; entry = l.entry; entered = l.entered }
   has_entry j (unsound b) at e = absurd (omega arith)
   has_entry j (kept b i q p) at e = absurd (omega arith)
   has_entry j (refused b i q p) at e = absurd (omega arith)

@@ -14,6 +14,7 @@ use Rattle.pin_core.specs.declared.view.Call.{Call}
 use Rattle.pin_core.specs.declared.view.Call.TheVariants.{Read, Write}
 use Rattle.pin_core.specs.declared.view.TornRecord.{TornRecord}
 use Rattle.pin_core.specs.State.{Page}
+use Rattle.history_core.specs.Log.{image_record}
 use Rattle.history_core.specs.State.{last_position}
 
 -- A rule for pages, and the packed tags of the blocks of a relation
@@ -58,7 +59,7 @@ abbrev pub outcome_calls : Rule → Outcome → List Call
 outcome_calls r (unsound b) = []
 outcome_calls r (kept b i p n) = Read i (r.tag b) p n ∷ []
 outcome_calls r (refused b i p n) = Read i (r.tag b) p n ∷ []
-outcome_calls r (changed b i p n m) = Read i (r.tag b) p n ∷ Write i (r.tag b) (r.rewritten p m) m true ∷ []
+outcome_calls r (changed b i p n m) = Read i (r.tag b) p n ∷ Write i (r.tag b) (r.rewritten p m) m image_record ∷ []
 
 -- and for blocks one after the other
 abbrev pub calls_for : Rule → List Outcome → List Call

@@ -190,6 +190,22 @@ pub struct LogHold {
     pub redo: Option<u64>,
 }
 
+/// What decided whether a record has its page whole, or ranges of the page's bytes (`needs_backup` in `XLogRecordAssemble`).
+pub struct ImageTest {
+    /// The redo position, as the backend had loaded it under the log's latch.
+    pub redo: u64,
+    /// The page's position in the log before the write.
+    pub before: u64,
+}
+
+/// The record of a write.
+pub struct WriteRecord {
+    /// How many bytes of the log it takes.
+    pub size: u64,
+    /// The test that it was chosen by, if it was.
+    pub test: Option<ImageTest>,
+}
+
 /// A page that a backend read or wrote, and its place in the log.
 pub enum Call {
     Read {
@@ -203,8 +219,8 @@ pub enum Call {
         tag: u64,
         page: [u8; 0],
         place: u64,
-        /// Its entry has the page whole.
-        whole: bool,
+        /// How it is in the log.
+        logged: WriteRecord,
     },
 }
 
@@ -229,6 +245,9 @@ pub enum LoadedWord {
     },
     Flushed {
         flushed: u64,
+    },
+    Redo {
+        redo: u64,
     },
     Hand {
         hand: u64,

@@ -20,7 +20,7 @@ use Rattle.pin_core.specs.State as pin_state
 use Rattle.history_core.specs.State.{State, Store}
 use Rattle.history_core.specs.State as history
 use Rattle.history_core.specs.Log.{head_bytes, zero_page}
-use Rattle.history_core.specs.Words.{Word, end_word, flushed_word, hand_word, hint_word, hint_count, word_of}
+use Rattle.history_core.specs.Words.{Word, end_word, flushed_word, redo_word, hand_word, hint_word, hint_count, word_of}
 use Rattle.history_core.proofs.Laws.{laws_open}
 use Rattle.table_rule.specs.declared.noted_log.NotedLog.{NotedLog}
 use Rattle.table_rule.specs.declared.value.Value.{Value}
@@ -320,9 +320,10 @@ module _ {L G : Type 0} (d : Devices L G) (o : Opening L G) where
   said_first words w end_word has = in_rest words n o.base w (word_place n end_word) (word_place 0 end_word) refl
   said_first words w flushed_word has = in_rest words n o.base w (word_place n flushed_word) (word_place 0 flushed_word) refl
   said_first words w hand_word has = in_rest words n o.base w (word_place n hand_word) (word_place 0 hand_word) refl
+  said_first words w redo_word has = in_rest words n o.base w (word_place n redo_word) (word_place 0 redo_word) refl
   said_first words w (hint_word j) has = in_rest words n o.base w (word_place n (hint_word j)) (word_place 0 (hint_word j)) (omega arith)
       ∙ get_or-append_right (replicate latch_count 0) (opening_numbers n o.base) latch_count (word_place 0 (hint_word j)) 0 (length-replicate {A = ℕ} latch_count 0) (omega arith)
-      ∙ ap (λ (i : ℕ). get_or (opening_numbers n o.base) i 0) {x = word_place 0 (hint_word j) - latch_count} {y = suc (suc (suc j))} (omega arith) ∙ get_or-replicate (hint_count n) j 0 0 has
+      ∙ ap (λ (i : ℕ). get_or (opening_numbers n o.base) i 0) {x = word_place 0 (hint_word j) - latch_count} {y = suc (suc (suc (suc j)))} (omega arith) ∙ get_or-replicate (hint_count n) j 0 0 has
 
   pub opens_there : (words : List ℕ) (ys : List (Value L G)) → AreOpening words o.config.frames o.base → AreSlots o.config.frames o.lanes.value.items o.log.value ys → 0 < o.config.passes → o.config.passes ≤ 64 → 0 < o.config.lanes → length o.lanes.value.items ≡ o.config.lanes
       → o.base ≤ 4611686018427387904 → AreLanes d o.catalog.value o.lanes.value.items → IsNewLog {L = L} {G = G} d o.base o.log.value → RuleHolds d o (opening words ys (starting o))

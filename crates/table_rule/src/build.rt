@@ -54,6 +54,7 @@ pub fn opening_words(alloc: Global, frames: u32, base: u64) -> Result<Vec<u64>, 
     words.push(base)?;
     words.push(base)?;
     words.push(0)?;
+    words.push(base)?;
     add_zeros(&mut words, HINTS_PER_FRAME as usize * frames as usize)?;
     Ok(words)
 }

@@ -61,9 +61,16 @@ pub fn hand_place(frames: u32) -> usize
     8 * frames as usize + LOG_PLACE + 3
 }
 
+/// The place of the redo position.
+pub fn redo_place(frames: u32) -> usize
+    ensures { result ≡ layout.redo_place frames }
+{
+    8 * frames as usize + LOG_PLACE + 4
+}
+
 /// The place of a hint word.
 pub fn hint_place(frames: u32, number: u32) -> usize
     ensures { result ≡ layout.hint_place frames number }
 {
-    8 * frames as usize + LOG_PLACE + 4 + number as usize
+    8 * frames as usize + LOG_PLACE + 5 + number as usize
 }

@@ -4,6 +4,7 @@ use Rattle.block_tag.specs.declared.tag.Tag.{Tag}
 use Rattle.block_tag.specs.declared.catalogue.RelEntry.{RelEntry}
 use Rattle.block_tag.specs.Names.{packed_tag}
 use Rattle.page_layout.specs.Fields.{with_lsn}
+use Rattle.pin_core.specs.declared.view.Call.TheVariants.{Write}
 use Rattle.pin_core.specs.declared.view.DeviceCall.{DeviceCall}
 use Rattle.pin_core.specs.declared.view.DeviceCall.TheVariants.{LogAppend, LogSync}
 use Rattle.pin_core.specs.declared.view.Link.{Link}
@@ -13,8 +14,8 @@ use Rattle.pin_core.specs.declared.view.FailedCalls.{FailedCalls}
 use Rattle.pin_core.specs.declared.view.View.{View}
 use Rattle.pin_core.specs.State.{Page, idle, link, no_log}
 use Rattle.history_core.specs.Device.{take_log, leave_log, log_out, append, sync_log, log_back}
-use Rattle.history_core.specs.Log.{record_size}
-use Rattle.history_core.specs.Steps.{has_loaded}
+use Rattle.history_core.specs.Log.{image, record_size}
+use Rattle.history_core.specs.Steps.{has_loaded, logged_as}
 use Rattle.frame_table.specs.WordSteps.{DidWord, load_flushed, raise_flushed, view_of}
 use Rattle.segment_store.specs.Contents.{Pages}
 use Rattle.frame_table.specs.declared.table.FrameTable.{FrameTable}
@@ -46,11 +47,11 @@ around : (end : ℕ) (Work : View → View → Type 0) (v w : View) (u : UnderLa
 around end Work v w u x e = leaves_view u.worked w u.leaves ∙ ap (quiet leave_log) (e ∙ ap x (opens_view end v u.loaded u.opens))
 
 pub insert_view : (relations : List RelEntry) (f : ℕ) (tag : Tag) (start : ℕ) (p : Page) (v w : View) → UnderLatch start (Enters relations f tag start p) v w → v.log.held ≡ false → w ≡ as_counted (inserted_view f (packed_tag tag) p (start + record_size) v) w
-insert_view relations f tag start p v w u free = let a = u.work.appends in
+insert_view relations f tag start p v w u free = let a = u.work.appends in let none = free_log v u.opens.held u.opens.takes free in
     let entered : View → View = λ x. view_entered f (packed_tag tag) p (start + record_size) (quiet (log_back false) (counting (append f (packed_tag tag) p a.bytes) (x.device_calls ++ LogAppend true ∷ []) x.met x.saw_down (quiet (log_out a.went.taken) x))) in
     let big : View = quiet leave_log (entered (opened start v)) in
     let e : w ≡ big = around start (Enters relations f tag start p) v w u entered (u.work.after ∙ ap (view_entered f (packed_tag tag) p (start + record_size)) (appended_view u.loaded a.out a.went f (packed_tag tag) p a.bytes u.work.home a.did)) in
-    counted_as (inserted_view f (packed_tag tag) p (start + record_size) v) w big e (λ i. record big { log = (sym (free_log v u.opens.held u.opens.takes free)) i })
+    counted_as (inserted_view f (packed_tag tag) p (start + record_size) v) w big e (λ i. record big { log = (sym none) i; calls = v.calls ++ Write v.number (packed_tag tag) p (start + record_size) (logged_as (image (packed_tag tag) p) ((ap (λ (h : LogHold). h.redo) none) i) (link v f).copied) ∷ [] })
 
 -- the link of the frame then, which is one
 pub inserted_link : (relations : List RelEntry) (f : ℕ) (tag : Tag) (start : ℕ) (p : Page) (v w : View) → UnderLatch start (Enters relations f tag start p) v w → v.log.held ≡ false → link w f ≡ entered_link p (link v f)

@@ -13,7 +13,7 @@ use Rattle.pin_core.specs.declared.view.View.{View}
 use Rattle.pin_core.specs.State.{Page, link}
 use Rattle.page_core.specs.Steps.{HasNoneUnapplied}
 use Rattle.history_core.specs.Device.{append, fail_append, log_back}
-use Rattle.history_core.specs.Log.{record_size}
+use Rattle.history_core.specs.Log.{image_record, record_size}
 use Rattle.history_core.specs.State.{last_position}
 use Rattle.table_rule.specs.Blocks.{has_block}
 use Rattle.frame_table.specs.Entering.{DidEnter, IsRecord, entered_link, view_entered}
@@ -99,7 +99,7 @@ InsertSeesEnd LogFault v w = Unit {0}
 abbrev pub inserted_view : ℕ → ℕ → Page → ℕ → View → View
 inserted_view f tag p lsn v = record v {
   links = slice_set v.links f (entered_link p (link v f));
-  calls = v.calls ++ Write v.number tag p lsn true ∷ [];
+  calls = v.calls ++ Write v.number tag p lsn image_record ∷ [];
   front = lsn;
   device_calls = v.device_calls ++ LogAppend true ∷ [];
 }

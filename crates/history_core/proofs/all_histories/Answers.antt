@@ -46,7 +46,7 @@ pub returns-clause-clean_stored : goal.returns-clause-clean_stored
 returns-clause-clean_stored c = λ s r. clean_stored s r.invariant
 
 pub returns-clause-words : goal.returns-clause-words
-returns-clause-words c = λ s r. words s r.invariant
+returns-clause-words c = λ s r. words s r.invariant r.redo
 
 pub returns-clause-held : goal.returns-clause-held
 returns-clause-held c = λ s r. held s r.invariant
@@ -122,6 +122,9 @@ returns-clause-unsound_first c = λ s r. unsound_first s r.invariant (images_alo
 
 pub returns-clause-images_alone : goal.returns-clause-images_alone
 returns-clause-images_alone c = images_alone
+
+pub returns-clause-ranges_follow : goal.returns-clause-ranges_follow
+returns-clause-ranges_follow c = λ s r. r.redo.follows
 
 pub returns-clause-of_blocks : goal.returns-clause-of_blocks
 returns-clause-of_blocks c = entries_of_blocks

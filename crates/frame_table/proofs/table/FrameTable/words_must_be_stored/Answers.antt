@@ -1,4 +1,4 @@
-use Rattle.frame_table.proofs.Stored.{must_store, pin_stores, lower_stores, end_stores, dirty_stores, flushed_rises, hand_moves, hint_stored}
+use Rattle.frame_table.proofs.Stored.{must_store, pin_stores, lower_stores, end_stores, dirty_stores, flushed_rises, redo_rises, hand_moves, hint_stored}
 use Rattle.frame_table.proofs.table.FrameTable.words_must_be_stored.Goals as goal
 
 pub returns-clause-each : goal.returns-clause-each
@@ -21,6 +21,9 @@ returns-clause-hand g c = hand_moves _ _
 
 pub returns-clause-flushed : goal.returns-clause-flushed
 returns-clause-flushed g c = flushed_rises _ _
+
+pub returns-clause-redo : goal.returns-clause-redo
+returns-clause-redo g c = redo_rises _ _
 
 pub returns-clause-hints : goal.returns-clause-hints
 returns-clause-hints g c = hint_stored _ _

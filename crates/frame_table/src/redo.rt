@@ -1,0 +1,41 @@
+//! Calls at the word of the redo position.
+ghost use Rattle.std.specs.Prelude.{◌≡◌, ℕ, ◌≤◌, true, Some};
+ghost use Rattle.history_core.specs.Words.{raise_redo as raised};
+ghost use Rattle.history_core.specs.Steps.{view_after_word};
+ghost use Rattle.frame_table.specs.WordSteps.{DidWord, load_redo, raise_redo, view_of};
+ghost use Rattle.frame_table.specs.Seats.{IsSeat, SameSeat};
+
+use crate::table::FrameTable;
+use crate::word_plays::{LoadRedo, RaiseRedo, StepAt};
+use atomic_table::Seat;
+use log_device::LogDevice;
+use pin_core::View;
+use segment_store::BlockLane;
+use table_rule::{Value, redo_place};
+
+impl<L: BlockLane, G: LogDevice> FrameTable<L, G> {
+    /// The position up to which a change of a page is logged with the whole page (`RedoRecPtr`), as the holder of the log's latch loads it.
+    pub fn load_redo(&self, seat: &mut Seat<Value<L, G>, View>) -> u64
+        requires seat { IsSeat self.now seat.old }
+        requires held { seat.old.me.0.log.held ≡ true }
+        ensures seat { SameSeat seat.old seat.new }
+        ensures view { seat.new.me.0 ≡ view_of load_redo result seat.old.me.0 }
+        ensures within { (end : ℕ) → seat.old.me.0.log.end ≡ Some end → result ≤ end }
+        ensures did { DidWord load_redo seat.old.me.0 seat.new.me.0 result }
+    {
+        let at = redo_place(self.frames());
+        self.table.shared.load::<StepAt<LoadRedo>>(seat, at)
+    }
+
+    /// Raises the redo position to the log's end, which the backend has loaded under the log's latch.
+    pub fn raise_redo(&self, seat: &mut Seat<Value<L, G>, View>, end: u64)
+        requires seat { IsSeat self.now seat.old }
+        requires end { seat.old.me.0.log.end ≡ Some end }
+        ensures seat { SameSeat seat.old seat.new }
+        ensures view { seat.new.me.0 ≡ view_after_word raised end end seat.old.me.0 }
+        ensures did { (found : ℕ) × DidWord raise_redo seat.old.me.0 seat.new.me.0 found }
+    {
+        let at = redo_place(self.frames());
+        self.table.shared.swap::<StepAt<RaiseRedo>>(seat, at, end);
+    }
+}

@@ -1,0 +1,68 @@
+-- The redo position (`RedoRecPtr`): where it stood, and why redo finds the whole page of each block that entries of ranges are of.
+use Rattle.std.specs.Prelude.{◌≡◌, ◌⊎◌, ℕ, ◌+◌, ◌<◌, ◌≤◌, true, List, Some}
+use mathlib.Core.Option.{some}
+use lib.ListN.{get_elem?}
+use Rattle.page_layout.specs.Fields.{lsn_of}
+use Rattle.page_layout.specs.Soundness.{is_sound_page}
+use Rattle.pin_core.specs.declared.view.Call.{Call}
+use Rattle.pin_core.specs.declared.view.Call.TheVariants.{Read, Write}
+use Rattle.pin_core.specs.declared.view.ImageTest.{ImageTest}
+use Rattle.pin_core.specs.declared.view.View.{View}
+use Rattle.pin_core.specs.State.{Page}
+use Rattle.history_core.specs.Log.{Entry, Change, Span, image, ranges, resize, end_of}
+use Rattle.history_core.specs.State.{State}
+
+-- some view raised the redo position to this one
+abbrev pub IsRaised : List View → ℕ → Type 0
+IsRaised views r = (i k : ℕ) × (v : View) × (get_elem? views i ≡ some v) × (get_elem? v.redo_raised k ≡ some r)
+
+-- the redo position stood there: where the log begins, or where a view raised it to
+abbrev pub HasBeenRedo : State → ℕ → Type 0
+HasBeenRedo s r = (r ≡ s.log.base) ⊎ IsRaised s.pool.core.views r
+
+-- no sound page had a position past the log's base at the start, where the contents of its lane are known
+abbrev pub StartsBased : State → Type 0
+StartsBased s = (tag : ℕ) (p : Page) → s.known tag ≡ true → s.origin tag ≡ Some p → is_sound_page p ≡ true → lsn_of p ≤ s.log.base
+
+-- one of the entries has the whole page of the block
+abbrev pub HasWhole : List Entry → ℕ → Type 0
+HasWhole es tag = (k : ℕ) × (e : Entry) × (p : Page) × (get_elem? es k ≡ some e) × (e.change ≡ image tag p)
+
+-- Before the entry k an entry has the whole page of the block, which starts at r or after it
+pub record FollowsImage (es : List Entry) (tag r k : ℕ) : Type 0 where
+  pub index : ℕ
+  pub entry : Entry
+  pub page : Page
+  pub there : get_elem? es index ≡ some entry
+  pub is : entry.change ≡ image tag page
+  pub from : r ≤ entry.start
+  pub before : index < k
+
+-- What redo needs of the next entry: ranges are of a block that has a whole page in the log, if that was so of the start
+abbrev pub CanFollow : State → Change → Type 0
+CanFollow s (image t q) = Unit {0}
+CanFollow s (ranges t spans) = StartsBased s → s.known t ≡ true → HasWhole s.log.entries t
+CanFollow s (resize fork old new) = ⊥
+
+-- The redo position is the base, or the largest to which a view raised it
+pub record IsHighestRaised (base redo : ℕ) (views : List View) : Type 0 where
+  pub from : base ≤ redo
+  pub above : (r : ℕ) → IsRaised views r → r ≤ redo
+  pub reached : (redo ≡ base) ⊎ IsRaised views redo
+
+-- a call's record was chosen by a redo position that stood there, before the record
+abbrev pub ChosenBy : State → Call → Type 0
+ChosenBy s (Read backend tag page place) = Unit {0}
+ChosenBy s (Write backend tag page place logged) = (t : ImageTest) → logged.test ≡ Some t → HasBeenRedo s t.redo × (t.redo + logged.size ≤ place)
+
+pub record RedoLaw (s : State) : Type 0 where
+  -- what the holder of the log's latch has loaded under it is the redo position
+  pub loaded : (i : ℕ) (v : View) (r : ℕ) → get_elem? s.pool.core.views i ≡ some v → v.log.redo ≡ Some r → r ≡ s.redo
+  -- it is between the base and the log's end, and the views fix it
+  pub within : s.redo ≤ s.end
+  pub highest : IsHighestRaised s.log.base s.redo s.pool.core.views
+  -- wherever it stood no entry lies across
+  pub between : (r : ℕ) → HasBeenRedo s r → (k : ℕ) (e : Entry) → get_elem? s.log.entries k ≡ some e → (end_of e ≤ r) ⊎ (r ≤ e.start)
+  -- and each entry of ranges that starts there or after it follows an image of its block that does
+  pub follows : StartsBased s → (tag r k : ℕ) (e : Entry) (spans : List Span) → HasBeenRedo s r → get_elem? s.log.entries k ≡ some e → e.change ≡ ranges tag spans → s.known tag ≡ true → r ≤ e.start → FollowsImage s.log.entries tag r k
+  pub chosen : (i k : ℕ) (v : View) (c : Call) → get_elem? s.pool.core.views i ≡ some v → get_elem? v.calls k ≡ some c → ChosenBy s c
