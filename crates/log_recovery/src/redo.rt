@@ -19,11 +19,12 @@ use std::alloc::Global;
 use std::collections::BTreeSet;
 
 /// Takes the next record, if it is one of a page that is well formed at the position `from`: its
-/// block, and its page.
+/// block, and its page. The bytes have no meaning before and after.
 fn next_image<S: Source>(
     catalog: &Catalog,
     source: &mut S,
     from: Lsn,
+    bytes: &mut [u8; IMAGE_SIZE],
     page: &mut Page,
 ) -> Result<Option<Tag>, Failed>
     requires room { from + 8224 ≤ 2 ^ 62 }
@@ -35,12 +36,11 @@ fn next_image<S: Source>(
     ensures told { OnOk result (is_some (S.left source.new) ≡ is_some (S.left source.old)) }
     ensures faults { HasCause (S.faults source.old) (S.faults source.new) result }
 {
-    let mut bytes = [0; IMAGE_SIZE];
-    let count = fill(source, &mut bytes)?;
+    let count = fill(source, bytes)?;
     if count < IMAGE_SIZE {
         return Ok(None);
     }
-    Ok(image_in(catalog, &bytes, from, page))
+    Ok(image_in(catalog, bytes, from, page))
 }
 
 /// Writes the page to the lane of its block.
@@ -168,9 +168,10 @@ pub(crate) fn redo_from<L: BlockLane, S: Source>(
         × NoneFell (map L.write_faults lanes.old) (map L.write_faults lanes.new) }
     ensures count { length lanes.new ≡ length lanes.old }
 {
+    let mut bytes = [0; IMAGE_SIZE];
     let mut progress = Progress::new(alloc, base);
     while progress.position <= LAST_POSITION - IMAGE_SIZE as Lsn {
-        let Ok(found) = next_image(catalog, source, progress.position, page) else {
+        let Ok(found) = next_image(catalog, source, progress.position, &mut bytes, page) else {
             return Err(RecoverError::ReadFault);
         };
         let Some(tag) = found else {
