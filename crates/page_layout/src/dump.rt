@@ -12,6 +12,9 @@ use crate::page::{Item, Memory, PAGE_SIZE, Page};
 use crate::text::scan_line;
 use std::alloc::Global;
 
+/// How much room the lines of a block have from the beginning: more than most blocks need.
+const ROOM: usize = 32768;
+
 /// The line of an unused line pointer.
 fn write_unused(line: &mut Line, number: u16)
     ensures { line.new ≡ joined (codes "  " ∷ decimal number ∷ codes " unused\n" ∷ []) }
@@ -157,7 +160,7 @@ pub fn dump_lines(alloc: Global, block: u32, page: &Page, text: &mut Vec<u8>) ->
     ensures lines { OnOk result (text.new.items ≡ text.old.items ++ dump_lines_of block page.now) }
     ensures same { OnErr result (text.new.items ≡ text.old.items) }
 {
-    let mut lines = Vec::new(alloc);
+    let mut lines = Vec::with_capacity(alloc, ROOM)?;
     scan_line(alloc, block, page, &mut lines)?;
     append_used(page, &mut lines)?;
     text.extend_from_slice(lines.as_slice())
