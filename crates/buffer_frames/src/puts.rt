@@ -22,31 +22,32 @@ use log_device::LogDevice;
 use page_layout::{Lsn, Page};
 use pin_core::View;
 use segment_store::BlockLane;
+use std::mem::replace;
 use std::sync::Wait;
 use wal_flush::{InsertError, insert};
 
-/// The image of the backend's entry becomes the frame's page.
+/// The image of the backend's entry becomes the frame's page, and the backend has the one that was there.
 fn apply<L: BlockLane, G: LogDevice>(
     table: &FrameTable<L, G>,
     seat: &mut Seat<Value<L, G>, View>,
     frame: u32,
-    page: &Page,
+    page: &mut Page,
 )
     requires stands { Stands table.now seat.old }
     requires inside { frame < frames_of table.now }
     requires right { (link seat.old.me.0 frame).content ≡ content.Exclusive }
     requires home { (link seat.old.me.0 frame).out ≡ None }
     requires entered { (link seat.old.me.0 frame).unapplied ≡ true }
-    requires image { (link seat.old.me.0 frame).image ≡ Some page.now }
+    requires image { (link seat.old.me.0 frame).image ≡ Some page.old }
     ensures seat { SameSeat seat.old seat.new }
     ensures touches { Touches frame seat.old.me.0 seat.new.me.0 }
     ensures marks { SameMarks seat.old.me.0 seat.new.me.0 }
-    ensures applied { link seat.new.me.0 frame ≡ applied_link page.now (record (link seat.old.me.0 frame) { out = None }) }
-    ensures did { AppliesImage frame page.now seat.old.me.0 seat.new.me.0 }
+    ensures applied { link seat.new.me.0 frame ≡ applied_link page.old (record (link seat.old.me.0 frame) { out = None }) }
+    ensures did { AppliesImage frame page.old seat.old.me.0 seat.new.me.0 }
 {
-    let mut out = page_out(table, seat, frame);
-    out.copy_from(page);
-    page_back(table, seat, frame, out);
+    let out = page_out(table, seat, frame);
+    let image = replace(page, out);
+    page_back(table, seat, frame, image);
 }
 
 /// Marks a frame dirty of which callers have a token and the content lock exclusively, inserts the page into the log, and copies it into the frame.

@@ -24,8 +24,8 @@ pub returns-clause-applied : goal.returns-clause-applied
 returns-clause-applied g c =
     let l = link c.args.seat.now.me.0 c.args.frame in
     let n = link c.page_back.new.seat.me.0 c.args.frame in
-    subst (λ (p : Page). n ≡ applied_link p (record l { out = None })) c.copy_from.ensures
-    (returned_applied c.copy_from.new.self c.page_out-out.result l (link c.page_out-out.new.seat.me.0 c.args.frame) n c.page_out-out.ensures.out c.page_back.ensures.back c.requires.entered)
+    subst (λ (p : Page). n ≡ applied_link p (record l { out = None })) c.replace-image.ensures.value
+    (returned_applied c.replace-image.result c.page_out-out.result l (link c.page_out-out.new.seat.me.0 c.args.frame) n c.page_out-out.ensures.out c.page_back.ensures.back c.requires.entered)
 
 pub returns-clause-did : goal.returns-clause-did
 returns-clause-did g c = let o = c.page_out-out.ensures in let b = c.page_back.ensures in
