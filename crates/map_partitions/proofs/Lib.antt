@@ -1,3 +1,4 @@
 pub mod FiniteMaps
 pub mod Seen
 pub mod Growing
+mod Remainders

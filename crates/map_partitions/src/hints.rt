@@ -1,5 +1,5 @@
 //! Hints: which frame may have a block. It may have another one, or none.
-ghost use Rattle.std.specs.Prelude.{◌≡◌, ◌<◌, IfSome};
+ghost use Rattle.std.specs.Prelude.{◌≡◌, ◌<◌, ◌%◌, IfSome};
 ghost use Rattle.history_core.specs.Words.{hint_count};
 ghost use Rattle.frame_table.specs.Seats.{IsSeat, SameSeat, frames_of};
 ghost use Rattle.frame_table.specs.WordSteps.{load_hint, view_of};
@@ -13,12 +13,24 @@ use pin_core::View;
 use segment_store::BlockLane;
 use table_rule::Value;
 
+/// A number modulo a count: by a mask if that is a power of two, since a division would take longer than the rest of the way to a hint.
+fn remainder(number: u64, count: u64) -> u64
+    requires { 0 < count }
+    ensures { result ≡ number % count }
+{
+    let bits = count.trailing_zeros();
+    if bits < 64 && 1 << bits == count {
+        return number & ((1 << bits) - 1);
+    }
+    number % count
+}
+
 /// The number of the tag's hint word.
 fn number_of<L: BlockLane, G: LogDevice>(table: &FrameTable<L, G>, tag: &Tag) -> u32
     ensures number { result ≡ hint_number tag.now (frames_of table.now) }
     ensures below { result < hint_count (frames_of table.now) }
 {
-    (tag.hash() % u64::from(table.hint_word_count())) as u32
+    remainder(tag.hash(), u64::from(table.hint_word_count())) as u32
 }
 
 /// The frame that the tag's hint word names.
