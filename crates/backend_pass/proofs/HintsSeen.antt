@@ -1,5 +1,5 @@
 -- What a read tells of its block's hint.
-use Rattle.std.proofs.Common.{◌≡◌, ◌≢◌, ◌<◌, ◌≤◌, ◌+◌, ℕ, Bool, true, false, List, Option, Some, Result, Ok, Err, refl, sym, ap, subst, arith}
+use Rattle.std.proofs.Common.{◌≡◌, ◌≢◌, ◌<◌, ◌≤◌, ◌+◌, ℕ, Bool, true, false, List, Option, Some, Result, Ok, Err, refl, sym, ap, ◌∙◌, subst, arith}
 use Rattle.std.specs.Prelude.{◌↔◌, is_some}
 use Rattle.access_rings.specs.RingState.{RingState}
 use Rattle.segment_store.specs.Contents.{Pages}
@@ -20,9 +20,9 @@ use Rattle.frame_table.specs.declared.table.FrameTable.{FrameTable}
 use Rattle.frame_table.specs.Kinds.{FrameKind, pins}
 use Rattle.frame_table.specs.FrameSteps.{Did}
 use Rattle.frame_table.specs.Latches.{ComesBack, DidMap, DidTurn, as_it_was, entered, left_out, view_latched}
-use Rattle.frame_table.specs.Seats.{OnlyRises, SameSelf, frames_of}
+use Rattle.frame_table.specs.Seats.{OnlyRises, frames_of}
 use Rattle.frame_table.specs.WordSteps.{store_hint, view_of}
-use Rattle.frame_table.proofs.Rising.{rises_none, rises_on, rises_self, rises_ticked, rises_touched}
+use Rattle.frame_table.proofs.Rising.{rises_by, rises_none, rises_on, rises_ticked, rises_touched}
 use Rattle.frame_table.proofs.Told.{grows, looks_touch, self_after}
 use Rattle.map_partitions.specs.Hints.{StoresHint, hint_number}
 use Rattle.map_partitions.specs.Partition.{WentAndCame}
@@ -48,7 +48,10 @@ use Rattle.backend_pass.specs.Reading.{ReadsBlock, read_refusal}
 
 -- The steps of a look-up only add to what a view lists: a step at a frame, at a latch, at a map, and a search of it
 rises_did : (k : FrameKind) (f found : ℕ) (v w : View) → Did k f v w found → OnlyRises v w
-rises_did k f found v w d = rises_self v w (subst (SameSelf v) (sym d.after) (self_after k d.state f v)) (grows k f found v w d)
+rises_did k f found v w d = let e = self_after k d.state f v in rises_by v w (grows k f found v w d) (ap (λ (x : View). x.lanes) d.after ∙ ap (λ (x : View). x.lanes) e)
+    (let a = ap (λ (x : View). x.end_seen) d.after in let b = ap (λ (x : View). x.end_seen) e in omega arith)
+    (let a = ap (λ (x : View). x.flushed) d.after in let b = ap (λ (x : View). x.flushed) e in omega arith)
+    (λ s. ap (λ (x : View). x.saw_down) d.after ∙ ap (λ (x : View). x.saw_down) e ∙ s)
 
 rises_turn : (takes : Bool) (p : ℕ) (v w : View) → DidTurn takes (Partition p) v w → OnlyRises v w
 rises_turn takes p v w d = subst (OnlyRises v) (sym d.after) (rises_ticked v (view_latched takes (Partition p) d.state v) refl refl (λ e. e))

@@ -54,10 +54,10 @@ callers_from a p q e k = subst (λ (x : PassState). KeepsCallers x q) e k
 
 -- the hand is loaded, and a checkpoint begins
 pub rises_hand : (hand : ℕ) (v w : View) → w ≡ view_of load_hand hand v → OnlyRises v w
-rises_hand hand v w e = subst (OnlyRises v) (sym e) (rises_by v (view_of load_hand hand v) (grows_loads _ v (view_of load_hand hand v) refl refl (omega arith)) refl (omega arith) (omega arith) (λ d. d))
+rises_hand hand v w e = subst (OnlyRises v) (sym e) (rises_by v (view_of load_hand hand v) (grows_loads _ v (view_of load_hand hand v) refl refl refl (omega arith)) refl (omega arith) (omega arith) (λ d. d))
 
 pub rises_begun : (upto : ℕ) (v w : View) → w ≡ view_of begin_checkpoint upto v → OnlyRises v w
-rises_begun upto v w e = subst (OnlyRises v) (sym e) (rises_by v (view_of begin_checkpoint upto v) (grows_loads _ v (view_of begin_checkpoint upto v) refl refl (omega arith)) refl (omega arith) (omega arith) (λ d. d))
+rises_begun upto v w e = subst (OnlyRises v) (sym e) (rises_by v (view_of begin_checkpoint upto v) (grows_loads _ v (view_of begin_checkpoint upto v) refl refl refl (omega arith)) refl (omega arith) (omega arith) (λ d. d))
 
 pub callers_begun : (upto : ℕ) (p q : PassState) → q.table ≡ p.table → q.id ≡ p.id → q.tokens ≡ p.tokens → beside_of q ≡ beside_of p → q.hint ≡ p.hint → q.view ≡ view_of begin_checkpoint upto p.view → SameLocks p.view q.view → KeepsCallers p q
 callers_begun upto p q table id tokens census hint e locks = record {

@@ -22,7 +22,7 @@ module _ (n : ℕ) (tag : Tag) (frame : Option ℕ) (v w : View) (d : LoadsHint 
   load_outside = ap outside_of d.after
 
   pub load_grows : Grows v w
-  load_grows = grows_loads (load_of v (seen.Hint (hint_number tag n) (hint_value frame)) ∷ []) v w (ap (λ (x : View). x.loads) d.after) (ap (λ (x : View). x.changes) d.after) (let a = ap (λ (x : View). x.steps) d.after in omega arith)
+  load_grows = grows_loads (load_of v (seen.Hint (hint_number tag n) (hint_value frame)) ∷ []) v w (ap (λ (x : View). x.loads) d.after) (ap (λ (x : View). x.changes) d.after) (ap (λ (x : View). x.residents) d.after) (let a = ap (λ (x : View). x.steps) d.after in omega arith)
 
   pub load_links : w.links ≡ v.links
   load_links = ap (λ (x : View). x.links) d.after
@@ -49,7 +49,7 @@ module _ (n : ℕ) (tag : Tag) (f : ℕ) (v w : View) (s : StoresHint n tag f v 
   store_searched = ap searched_of s.did.after
 
   pub store_grows : Grows v w
-  store_grows = grows_steps v w (ap (λ (x : View). x.loads) s.did.after) (ap (λ (x : View). x.changes) s.did.after) (let a = ap (λ (x : View). x.steps) s.did.after in omega arith)
+  store_grows = grows_steps v w (ap (λ (x : View). x.loads) s.did.after) (ap (λ (x : View). x.changes) s.did.after) (ap (λ (x : View). x.residents) s.did.after) (let a = ap (λ (x : View). x.steps) s.did.after in omega arith)
 
   pub store_links : w.links ≡ v.links
   store_links = ap (λ (x : View). x.links) s.did.after

@@ -14,14 +14,14 @@ use Rattle.table_rule.specs.declared.turn.Turn.TheVariants.{Partition}
 use Rattle.frame_table.specs.declared.table.FrameTable.{FrameTable}
 use Rattle.frame_table.specs.Seats.{Grows, NamesIn, SameMarks, SameSeat, Stores, Touches, victim_link}
 use Rattle.frame_table.specs.Latches.{IsTurned, MapStep, SameWork, back_hold, view_counted}
-use Rattle.frame_table.proofs.Rising.{rises_none, rises_on}
+use Rattle.frame_table.proofs.Rising.{rises_none, rises_on, rises_stored}
 use Rattle.frame_table.proofs.Told.{grows_on}
 use Rattle.clock_sweep.specs.Keeping.{GetsHeader, KeepsFrames}
 use Rattle.frame_table.proofs.SameSeats.{same_seat_none, same_seat_on}
 use Rattle.map_partitions.specs.Hints.{LoadsHint, StoresHint}
 use Rattle.map_partitions.specs.Partition.{HoldsLatch}
 use Rattle.buffer_frames.specs.Keeps.{HasLatch, IsReady, Keeps, SameBut}
-use Rattle.buffer_frames.specs.Outside.{chosen_of, kept_by_block_reads, outside_of, searched_of}
+use Rattle.buffer_frames.specs.Outside.{chosen_of, emptying_of, freeing_of, kept_by_block_reads, outside_of, searched_of}
 use Rattle.buffer_frames.specs.Rests.{HasNoLatch, HasOneLatch, Stands}
 use Rattle.buffer_frames.specs.Stages.{Pins}
 use Rattle.buffer_frames.specs.Tokens.{Tokens}
@@ -30,7 +30,7 @@ use Rattle.buffer_frames.proofs.Hints.{load_grows, load_links, load_outside, loa
 use Rattle.buffer_frames.proofs.Keeping.{latch_same, latches_same, links_same, same_locks_at, same_locks_linked, same_locks_looked, same_locks_none, same_locks_on}
 use Rattle.buffer_frames.proofs.SameLocks.{same_locks_chosen, same_locks_worked}
 use Rattle.buffer_frames.proofs.Latching.{latch_changed, latch_left_as}
-use Rattle.buffer_frames.proofs.Outside.{chosen_aside, grows_chosen, grows_outside, grows_searched, kept_chosen, kept_searched, links_worked, outside_chosen, outside_searched, outside_step, outside_worked, searched_counted, stands_chosen, stands_outside, stands_searched}
+use Rattle.buffer_frames.proofs.Outside.{chosen_aside, emptying_stored, grows_chosen, grows_outside, grows_searched, kept_chosen, kept_searched, links_worked, outside_chosen, outside_emptying, outside_searched, outside_step, outside_stored, outside_worked, searched_counted, stands_chosen, stands_freed, stands_outside, stands_searched}
 
 pub latch_kept : (latch : Option ℕ) (v w : View) → w.partitions ≡ v.partitions → HasLatch latch v → HasLatch latch w
 latch_kept None v w e l = latches_same v w e l
@@ -66,6 +66,13 @@ module _ {L G : Type 0} {t : FrameTable L G} where
   pub searched_keeps : {l : Option ℕ} {s w : Seat (Value L G) View} → Keeps searched_of l t s w → Keeps kept_by_block_reads l t s w
   searched_keeps {l} {s} {w} a = record { seat = a.seat; stands = a.stands; same = kept_searched s.me.0 w.me.0 a.same; rises = a.rises; locks = a.locks; latches = a.latches }
 
+  pub freeing_keeps : {l : Option ℕ} {s w : Seat (Value L G) View} → Keeps freeing_of l t s w → Keeps kept_by_block_reads l t s w
+  freeing_keeps {l} {s} {w} a = record { seat = a.seat; stands = a.stands; same = ap kept_by_block_reads a.same; rises = a.rises; locks = a.locks; latches = a.latches }
+
+  -- and one that takes no tag away keeps what one keeps that may
+  pub emptying_keeps : {l : Option ℕ} {s w : Seat (Value L G) View} → Keeps outside_of l t s w → Keeps emptying_of l t s w
+  emptying_keeps {l} {s} {w} a = record { seat = a.seat; stands = a.stands; same = outside_emptying s.me.0 w.me.0 a.same; rises = a.rises; locks = a.locks; latches = a.latches }
+
   pub outside_keeps : {l : Option ℕ} {s w : Seat (Value L G) View} → Keeps outside_of l t s w → Keeps kept_by_block_reads l t s w
   outside_keeps a = searched_keeps (keeps_searched a)
 
@@ -91,11 +98,20 @@ module _ {L G : Type 0} {s w : Seat (Value L G) View} (same : SameSeat s w) wher
     locks = same_locks_at f s.me.0 w.me.0 d.others content;
   }
 
-  pub at_tag : (f : ℕ) → Stores f s.me.0 w.me.0 → SameMarks s.me.0 w.me.0 → (link w.me.0 f).content ≡ (link s.me.0 f).content → SameBut outside_of s w
-  at_tag f d marks content = let e = outside_step s.me.0 w.me.0 d.self marks in record {
+  -- at its tag word, where a tag is stored, or may be taken away
+  pub at_tag : (f : ℕ) → Stores f s.me.0 w.me.0 → w.me.0.cleared ≡ s.me.0.cleared → SameMarks s.me.0 w.me.0 → (link w.me.0 f).content ≡ (link s.me.0 f).content → SameBut outside_of s w
+  at_tag f d cleared marks content = record {
     seat = same;
-    same = e;
-    rises = grows_outside s.me.0 w.me.0 d.grows e;
+    same = outside_stored s.me.0 w.me.0 d.self cleared marks;
+    rises = rises_stored f s.me.0 w.me.0 d;
+    locks = same_locks_at f s.me.0 w.me.0 d.others content;
+  }
+
+  pub at_emptied : (f : ℕ) → Stores f s.me.0 w.me.0 → SameMarks s.me.0 w.me.0 → (link w.me.0 f).content ≡ (link s.me.0 f).content → SameBut emptying_of s w
+  at_emptied f d marks content = record {
+    seat = same;
+    same = emptying_stored s.me.0 w.me.0 d.self marks;
+    rises = rises_stored f s.me.0 w.me.0 d;
     locks = same_locks_at f s.me.0 w.me.0 d.others content;
   }
 
@@ -147,6 +163,15 @@ module _ {L G : Type 0} where
   pub same_searched : {s w : Seat (Value L G) View} → SameBut outside_of s w → SameBut searched_of s w
   same_searched {s} {w} a = record { seat = a.seat; same = outside_searched s.me.0 w.me.0 a.same; rises = a.rises; locks = a.locks }
 
+  pub same_emptying : {s w : Seat (Value L G) View} → SameBut outside_of s w → SameBut emptying_of s w
+  same_emptying {s} {w} a = record { seat = a.seat; same = outside_emptying s.me.0 w.me.0 a.same; rises = a.rises; locks = a.locks }
+
+  searched_freeing : {s w : Seat (Value L G) View} → SameBut searched_of s w → SameBut freeing_of s w
+  searched_freeing {s} {w} a = record { seat = a.seat; same = ap freeing_of a.same; rises = a.rises; locks = a.locks }
+
+  emptying_freeing : {s w : Seat (Value L G) View} → SameBut emptying_of s w → SameBut freeing_of s w
+  emptying_freeing {s} {w} a = record { seat = a.seat; same = ap freeing_of a.same; rises = a.rises; locks = a.locks }
+
   pub same_less : {s w : Seat (Value L G) View} → SameBut outside_of s w → SameBut kept_by_block_reads s w
   same_less {s} {w} a = record { seat = a.seat; same = ap kept_by_block_reads a.same; rises = a.rises; locks = a.locks }
 
@@ -159,6 +184,12 @@ module _ {L G : Type 0} where
 
   pub keeps_by : {l : Option ℕ} {t : FrameTable L G} {s w : Seat (Value L G) View} → SameBut outside_of s w → Stands t s → HasLatch l w.me.0 → Keeps outside_of l t s w
   keeps_by {l} {t} {s} {w} a k latches = record { seat = a.seat; stands = stands_outside t s w a.seat a.same k; same = a.same; rises = a.rises; locks = a.locks; latches = latches }
+
+  keeps_emptying : {l : Option ℕ} {t : FrameTable L G} {s w : Seat (Value L G) View} → SameBut emptying_of s w → Stands t s → HasLatch l w.me.0 → Keeps emptying_of l t s w
+  keeps_emptying {l} {t} {s} {w} a k latches = record { seat = a.seat; stands = stands_freed t s w a.seat (emptying_freeing a).same k; same = a.same; rises = a.rises; locks = a.locks; latches = latches }
+
+  keeps_freeing : {l : Option ℕ} {t : FrameTable L G} {s w : Seat (Value L G) View} → SameBut freeing_of s w → Stands t s → HasLatch l w.me.0 → Keeps freeing_of l t s w
+  keeps_freeing {l} {t} {s} {w} a k latches = record { seat = a.seat; stands = stands_freed t s w a.seat a.same k; same = a.same; rises = a.rises; locks = a.locks; latches = latches }
 
   -- a call, and then a step that leaves the latches
   module _ {l : Option ℕ} {t : FrameTable L G} {s u w : Seat (Value L G) View} where
@@ -182,11 +213,24 @@ module _ {L G : Type 0} where
       (same_on (at_latch same p takes grows taken.2 taken.3) (same_searched (same_on (of_keeps call) (at_map same' leaves grows' left.2 left.3)))) k
       (latch_left_as p q x.me.0 w.me.0 at call.latches left)
 
+  -- one that may take a tag away
+  pub keeps_freed : {p q : ℕ} {t : FrameTable L G} {s u x w : Seat (Value L G) View} → p ≡ q → Stands t s → SameSeat s u → SameWork (view_counted true (Partition p) s.me.0) u.me.0 → Grows s.me.0 u.me.0 → IsTurned true (Partition p) s.me.0 u.me.0
+      → Keeps emptying_of (Some q) t u x → SameSeat x w → SameWork x.me.0 w.me.0 → Grows x.me.0 w.me.0 → IsTurned false (Partition p) x.me.0 w.me.0 → Keeps freeing_of None t s w
+  keeps_freed {p} {q} {t} {s} {u} {x} {w} at k same takes grows taken call same' leaves grows' left = keeps_freeing
+      (same_on (searched_freeing (at_latch same p takes grows taken.2 taken.3)) (emptying_freeing (same_on (of_keeps call) (same_emptying (at_map same' leaves grows' left.2 left.3))))) k
+      (latch_left_as p q x.me.0 w.me.0 at call.latches left)
+
   -- A pair is named and entered, or left out, under the latch of its partition: the header is locked, the tag word stored, the header unlocked, and the map changed
   pub keeps_changed : (p f : ℕ) {change : MapChange} {entries : List MapEntry} {t : FrameTable L G} {s u x y w : Seat (Value L G) View} → Stands t s → HasOneLatch p s.me.0
       → SameBut outside_of s u → u.me.0.partitions ≡ s.me.0.partitions → SameBut outside_of u x → NamesIn p change u.me.0 x.me.0 → SameBut outside_of x y → y.me.0.partitions ≡ x.me.0.partitions
       → SameSeat y w → SameWork y.me.0 w.me.0 → Grows y.me.0 w.me.0 → MapStep p (back_hold entries (hold y.me.0 p)) y.me.0 w.me.0 → Keeps outside_of (Some p) t s w
   keeps_changed p f {change} {entries} {t} {s} {u} {x} {y} {w} k latch a locked b names d after same work grows step = keeps_by (same_on a (same_on b (same_on d (at_map same work grows step.lanes step.log)))) k
+      (latch_changed p change entries s.me.0 u.me.0 x.me.0 y.me.0 w.me.0 locked names after step latch)
+
+  pub keeps_erased : (p f : ℕ) {change : MapChange} {entries : List MapEntry} {t : FrameTable L G} {s u x y w : Seat (Value L G) View} → Stands t s → HasOneLatch p s.me.0
+      → SameBut outside_of s u → u.me.0.partitions ≡ s.me.0.partitions → SameBut emptying_of u x → NamesIn p change u.me.0 x.me.0 → SameBut outside_of x y → y.me.0.partitions ≡ x.me.0.partitions
+      → SameSeat y w → SameWork y.me.0 w.me.0 → Grows y.me.0 w.me.0 → MapStep p (back_hold entries (hold y.me.0 p)) y.me.0 w.me.0 → Keeps emptying_of (Some p) t s w
+  keeps_erased p f {change} {entries} {t} {s} {u} {x} {y} {w} k latch a locked b names d after same work grows step = keeps_emptying (same_on (same_emptying a) (same_on b (same_emptying (same_on d (at_map same work grows step.lanes step.log))))) k
       (latch_changed p change entries s.me.0 u.me.0 x.me.0 y.me.0 w.me.0 locked names after step latch)
 
 -- A victim is chosen by a backend that is ready: its header is got, and it is pinned; or none is

@@ -13,7 +13,7 @@ use Rattle.buffer_frames.specs.Rests.{Stands, kept_by_calls}
 use Rattle.buffer_frames.proofs.Keeping.{devices_same, stands_on}
 use Rattle.access_rings.specs.RingState.{RingState, ring_after_keep, ring_after_rejection}
 use Rattle.clock_sweep.specs.Choosing.{ring_gone_on, ring_keeping}
-use Rattle.buffer_frames.specs.Outside.{RingShape, chosen_of, kept_by_block_reads, outside_of, ring_shape, searched_of, shape_of, shown_count}
+use Rattle.buffer_frames.specs.Outside.{RingShape, chosen_of, emptying_of, freeing_of, kept_by_block_reads, outside_of, ring_shape, searched_of, shape_of, shown_count}
 
 -- The equations of the layers below, as this one
 pub outside_step : (v w : View) → SameSelf v w → SameMarks v w → outside_of w ≡ outside_of v
@@ -21,6 +21,16 @@ outside_step v w self marks = λ i. record (self i) { dirtied_or_synced = (marks
 
 pub chosen_aside : (v w : View) → SameAside v w → chosen_of w ≡ chosen_of v
 chosen_aside v w aside = λ i. record (aside i) { partitions = []; unentered = []; residents = [] }
+
+-- a tag was stored, or one was taken away
+pub outside_stored : (v w : View) → SameSelf (record v { cleared = w.cleared }) w → w.cleared ≡ v.cleared → SameMarks v w → outside_of w ≡ outside_of v
+outside_stored v w self cleared marks = λ i. record (self i) { dirtied_or_synced = (marks i).dirtied_or_synced; had_output = (marks i).had_output; last_ended = (marks i).last_ended; cleared = cleared i }
+
+pub emptying_stored : (v w : View) → SameSelf (record v { cleared = w.cleared }) w → SameMarks v w → emptying_of w ≡ emptying_of v
+emptying_stored v w self marks = λ i. record (self i) { dirtied_or_synced = (marks i).dirtied_or_synced; had_output = (marks i).had_output; last_ended = (marks i).last_ended; cleared = 0 }
+
+pub outside_emptying : (v w : View) → outside_of w ≡ outside_of v → emptying_of w ≡ emptying_of v
+outside_emptying v w e = ap emptying_of e
 
 pub outside_worked : (v w : View) → SameWork v w → w.lanes ≡ v.lanes → w.log ≡ v.log → outside_of w ≡ outside_of v
 outside_worked v w work lanes log = λ i. record (work i) { links = []; loads = []; changes = []; unentered = []; residents = []; lanes = lanes i; log = log i }
@@ -98,6 +108,38 @@ searched_under p v u x w takes lanes log call leaves lanes' log' = let turns : w
   hints = ap (λ (y : View). y.hints) leaves ∙ ap (λ (y : View). y.hints) call ∙ ap (λ (y : View). y.hints) takes;
   shown = ap shown_count (sym turns);
 }
+
+-- so it is where a tag may have been taken meanwhile
+pub record Freed (v u w : View) : Type 0 where
+  pub same : freeing_of w ≡ freeing_of v
+  pub turns : w.turns ≡ v.turns + 1
+  pub hints : w.hints ≡ v.hints
+  pub shown : shown_count u.turns ≡ shown_count w.turns
+  pub before : u.cleared ≡ v.cleared
+
+pub freed_under : (p : ℕ) (v u x w : View) → SameWork (view_counted true (Partition p) v) u → u.lanes ≡ v.lanes → u.log ≡ v.log → emptying_of x ≡ emptying_of u → SameWork x w → w.lanes ≡ x.lanes → w.log ≡ x.log → Freed v u w
+freed_under p v u x w takes lanes log call leaves lanes' log' = let turns : w.turns ≡ u.turns = ap (λ (y : View). y.turns) leaves ∙ ap (λ (y : View). y.turns) call in record {
+  same = ap freeing_of (outside_worked x w leaves lanes' log') ∙ ap freeing_of call ∙ ap freeing_of (searched_counted p v u takes lanes log);
+  turns = turns ∙ ap (λ (y : View). y.turns) takes;
+  hints = ap (λ (y : View). y.hints) leaves ∙ ap (λ (y : View). y.hints) call ∙ ap (λ (y : View). y.hints) takes;
+  shown = ap shown_count (sym turns);
+  before = ap (λ (y : View). y.cleared) takes;
+}
+
+-- What follows of it
+pub stands_freed : {L G : Type 0} (t : FrameTable L G) (s s' : Seat (Value L G) View) → SameSeat s s' → freeing_of s'.me.0 ≡ freeing_of s.me.0 → Stands t s → Stands t s'
+stands_freed t s s' same e k = stands_on t s s' same (devices_same s.me.0 s'.me.0 (ap (λ (x : View). x.emptied) e) (ap (λ (x : View). x.lanes) e) (ap (λ (x : View). x.log) e) k.quiet) k
+
+pub grows_freed : (v w : View) → Grows v w → freeing_of w ≡ freeing_of v → OnlyRises v w
+grows_freed v w g e = rises_by v w g (ap (λ (x : View). x.lanes) e)
+    (let a = ap (λ (x : View). x.end_seen) e in omega arith) (let a = ap (λ (x : View). x.flushed) e in omega arith) (λ d. ap (λ (x : View). x.saw_down) e ∙ d)
+
+-- with the count of tags, as it is then
+pub freed_searched : (v w : View) → freeing_of w ≡ freeing_of v → w.cleared ≡ v.cleared → searched_of w ≡ searched_of v
+freed_searched v w e cleared = λ i. record (e i) { cleared = cleared i }
+
+pub freed_counted : (v w : View) (n : ℕ) → freeing_of w ≡ freeing_of v → w.cleared ≡ n → searched_of w ≡ record (searched_of v) { cleared = n }
+freed_counted v w n e cleared = λ i. record (e i) { cleared = cleared i }
 
 -- A ring keeps its kind and its number of places
 shape_next : (r : Option RingState) → ring_shape (ring_gone_on r) ≡ ring_shape r

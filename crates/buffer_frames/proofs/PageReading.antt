@@ -28,6 +28,7 @@ use Rattle.frame_table.specs.WordSteps.{DidWord, IsCopied, read_end, read_of, vi
 use Rattle.content_locks.specs.Locks.{CanCopy, Copies, LocksContent, copied_link}
 use Rattle.buffer_frames.specs.Tokens.{HeldFrame}
 use Rattle.buffer_frames.specs.Rests.{HasAtMostLock, LinkRests}
+use Rattle.frame_table.proofs.Residents.{residents_same}
 use Rattle.frame_table.proofs.Rising.{rises_by, rises_on, rises_touched}
 use Rattle.buffer_frames.specs.PageReads.{OnlyReads, ReadsPage, ReadsUnder, SharesToRead, kept_by_reads}
 
@@ -69,6 +70,7 @@ module _ (f : ℕ) (tag : Tag) (page : Page) (place : ℕ) (v u w : View) (r : C
         loads = (load_of (has_read place (packed_tag tag) page u) (seen.LogEnd place) ∷ [], ap (λ (x : View). x.loads) e);
         changes = ([], ap (λ (x : View). x.changes) e ∙ sym (append-nil u.changes));
         steps = let same = ap (λ (x : View). x.steps) e in omega arith;
+        residents = residents_same u.residents w.residents (ap (λ (x : View). x.residents) e);
       })
       (ap (λ (x : View). x.lanes) e)
       (let same : w.end_seen ≡ max u.end_seen place = ap (λ (x : View). x.end_seen) e in omega arith)

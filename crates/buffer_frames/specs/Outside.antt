@@ -18,9 +18,16 @@ chosen_of v = record (outside_of v) { ticks = 0 }
 abbrev pub searched_of : View → View
 searched_of v = record (outside_of v) { turns = 0; hints = [] }
 
+-- What a call leaves that may take a frame's tag away, and one that may take latches and store hints besides: what they leave without that, but for the count of tags taken
+abbrev pub emptying_of : View → View
+emptying_of v = record (outside_of v) { cleared = 0 }
+
+abbrev pub freeing_of : View → View
+freeing_of v = record (searched_of v) { cleared = 0 }
+
 -- What a call keeps of a view that brings a block into a frame: it may do all of this
 abbrev pub kept_by_block_reads : View → View
-kept_by_block_reads v = record (kept_by_calls v) { turns = 0; hints = []; ticks = 0 }
+kept_by_block_reads v = record (kept_by_calls v) { turns = 0; hints = []; ticks = 0; cleared = 0 }
 
 -- a count as it is shown: it stands still at its type's last value
 abbrev pub shown_count : ℕ → ℕ

@@ -8,7 +8,7 @@ ghost use Rattle.frame_table.specs.Seats.{frames_of};
 ghost use Rattle.map_partitions.specs.Partition.{HoldsLatch};
 ghost use Rattle.buffer_frames.specs.Rests.{HasNoLatch, HasOneLatch, Stands};
 ghost use Rattle.buffer_frames.specs.Keeps.{Keeps};
-ghost use Rattle.buffer_frames.specs.Outside.{outside_of, searched_of, shown_count};
+ghost use Rattle.buffer_frames.specs.Outside.{emptying_of, freeing_of, shown_count};
 ghost use Rattle.buffer_frames.specs.Stages.{HasVictim};
 ghost use Rattle.buffer_frames.specs.VictimChoices.{ClearsTag, FindsInUse, IsDirtied};
 ghost use Rattle.buffer_frames.specs.Working.{Within};
@@ -41,7 +41,9 @@ fn erase_latched<L: BlockLane, G: LogDevice, R: Wait>(
     requires inside { frame < frames_of table.now }
     requires tag { names_block tag.now ≡ true }
     requires remembered { (link seat.old.me.0 frame).tag ≡ Some (packed_tag tag.now) }
-    ensures keeps { Keeps outside_of (Some (partition_number tag.now)) table.now seat.old seat.new }
+    ensures keeps { Keeps emptying_of (Some (partition_number tag.now)) table.now seat.old seat.new }
+    ensures taken { OnTrue result (seat.new.me.0.cleared ≡ seat.old.me.0.cleared + 1) }
+    ensures untaken { OnFalse result (seat.new.me.0.cleared ≡ seat.old.me.0.cleared) }
     ensures victim { HasVictim frame _held.now seat.new.me.0 }
     ensures emptied { OnTrue result (Within (ClearsTag frame) seat.old.me.0 seat.new.me.0) }
     ensures in_use { OnFalse result (Within (FindsInUse IsDirtied frame) seat.old.me.0 seat.new.me.0) }
@@ -74,7 +76,9 @@ pub(crate) fn erase<L: BlockLane, G: LogDevice, R: Wait>(
     requires tag { names_block tag.now ≡ true }
     requires remembered { (link seat.old.me.0 frame).tag ≡ Some (packed_tag tag.now) }
     requires counted { turns.old ≡ shown_count seat.old.me.0.turns }
-    ensures keeps { Keeps searched_of None table.now seat.old seat.new }
+    ensures keeps { Keeps freeing_of None table.now seat.old seat.new }
+    ensures taken { OnTrue result (seat.new.me.0.cleared ≡ seat.old.me.0.cleared + 1) }
+    ensures untaken { OnFalse result (seat.new.me.0.cleared ≡ seat.old.me.0.cleared) }
     ensures victim { HasVictim frame held.now seat.new.me.0 }
     ensures counted { turns.new ≡ shown_count seat.new.me.0.turns }
     ensures turns { seat.new.me.0.turns ≡ seat.old.me.0.turns + 1 }

@@ -24,7 +24,8 @@ use Rattle.frame_table.specs.Kinds.{pins, view_after}
 use Rattle.frame_table.specs.WordSteps.{DidWord, add_hand, load_hand}
 use Rattle.frame_table.specs.Seats.{CanStep, Grows, HoldsHeader, IsSeat, Looked, SameSeat, frames_of, locked_link, unlocked_link}
 use Rattle.frame_table.specs.FrameSteps.{Did, Looks, still, again, looking}
-use Rattle.frame_table.proofs.Told.{grows, grows_none, grows_on, touches, link_is, looked, looked_on, looked_same, locked_after, looks_touch, looks_link, looked_by, quiet, quiet_link}
+use Rattle.frame_table.proofs.Residents.{residents_same}
+use Rattle.frame_table.proofs.Told.{Named, named_of, grows, grows_none, grows_on, touches, link_is, looked, looked_on, looked_same, locked_after, looks_touch, looks_link, looked_by, quiet, quiet_link}
 use Rattle.frame_table.proofs.Rising.{grows_loads}
 use Rattle.clock_sweep.specs.FreeFrames.{ListHad, QueueState}
 use Rattle.clock_sweep.specs.Keeping.{SameAside, aside_of, KeepsFrames, GetsHeader, SamePins}
@@ -39,10 +40,10 @@ aside_none v = refl
 pub aside_on : (v u w : View) → SameAside v u → SameAside u w → SameAside v w
 aside_on v u w a b = b ∙ a
 
--- a step of a kind that names no pair
-module _ (k : pin.Kind) (none : (s : State) (f : ℕ) (v : View) → (view_after (pins k) s f v).partitions ≡ v.partitions) (f found : ℕ) (v w : View) (d : Did (pins k) f v w found) where
+-- a step of a kind that names no pair, and takes no tag away
+module _ (k : pin.Kind) (none : (s : State) (f : ℕ) (v : View) → named_of (view_after (pins k) s f v) ≡ named_of v) (f found : ℕ) (v w : View) (d : Did (pins k) f v w found) where
   pub aside : SameAside v w
-  aside = ap aside_of d.after ∙ (λ i. record (aside_of v) { partitions = none d.state f v i })
+  aside = ap aside_of d.after ∙ ap (λ (n : Named). record (aside_of v) { partitions = n.partitions; cleared = n.cleared }) (none d.state f v)
 
   pub others : (g : ℕ) → g ≢ f → link w g ≡ link v g
   others = (touches (pins k) none f found v w d).others
@@ -79,13 +80,13 @@ keeps_looks f v w (again {u = u} found before d) = keeps_on v u w (keeps_looks f
 
 -- the hand is loaded
 pub hand_grows : (found : ℕ) (v w : View) → DidWord load_hand v w found → Grows v w
-hand_grows found v w d = grows_loads (load_of v (seen.Hand found) ∷ []) v w (ap (λ (x : View). x.loads) d.after) (ap (λ (x : View). x.changes) d.after) (let e = ap (λ (x : View). x.steps) d.after in omega arith)
+hand_grows found v w d = grows_loads (load_of v (seen.Hand found) ∷ []) v w (ap (λ (x : View). x.loads) d.after) (ap (λ (x : View). x.changes) d.after) (ap (λ (x : View). x.residents) d.after) (let e = ap (λ (x : View). x.steps) d.after in omega arith)
 
 -- it moves on
 pub keeps_hand : (found : ℕ) (v w : View) → DidWord add_hand v w found → KeepsFrames v w
 keeps_hand found v w d = subst (KeepsFrames v) (sym d.after) record {
   aside = refl;
-  grows = record { loads = ([], sym (append-nil v.loads)); changes = ([], sym (append-nil v.changes)); steps = omega arith };
+  grows = record { loads = ([], sym (append-nil v.loads)); changes = ([], sym (append-nil v.changes)); steps = omega arith; residents = residents_same v.residents v.residents refl };
   links = λ g. looked_same (link v g) (link v g) refl;
 }
 

@@ -41,7 +41,7 @@ use Rattle.table_rule.specs.Layout.{state_place, tag_place, tag_partition, parti
 use Rattle.history_core.specs.Laws.{Laws}
 use Rattle.frame_table.specs.Kinds.{FrameKind, pins, part_of, link_after}
 use Rattle.table_rule.specs.Shows.{ShowsFrame, Devices, Shows, RuleHolds}
-use Rattle.frame_table.specs.Seats.{Finds, mapped_link, SameSelf, Looked, Touches, Stores, HoldsWord, HasRoom, IsUsed, HasFlag, HasOnlyPin, MayChange, Lacks, NamesIn, NamesStored, MayStoreTag, CanErase, CanStoreAs, partitions_erased, partitions_stored, stored_link, assigned_link, tag_word, read_link}
+use Rattle.frame_table.specs.Seats.{Finds, cleared_stored, mapped_link, SameSelf, Looked, Touches, Stores, HoldsWord, HasRoom, IsUsed, HasFlag, HasOnlyPin, MayChange, Lacks, NamesIn, NamesStored, MayStoreTag, CanErase, CanStoreAs, partitions_erased, partitions_stored, stored_link, assigned_link, tag_word, read_link}
 use Rattle.frame_table.specs.FrameSteps.{Tried, if_found, Did, always, looking, storing, tells}
 use Rattle.frame_table.proofs.Frames.{Asks}
 use Rattle.frame_table.proofs.Acting.{acts}
@@ -250,10 +250,14 @@ assigned_tag f word v w d p tag enters unchanged = ap (λ (l : Link). l.tag) (li
 -- after a store of a tag word
 pub stored_self : (tag : Option Tag) (f now : ℕ) (v w : View) → Did (storing tag) f v w now → Stores f v w
 stored_self tag f now v w d = record {
-  self = subst (SameSelf v) (sym d.after) (self_after (storing tag) d.state f v);
+  self = subst (λ (x : View). SameSelf (record v { cleared = x.cleared }) x) (sym d.after) (self_after (storing tag) d.state f v);
   grows = grows (storing tag) f now v w d;
   others = λ g n. ap (λ (x : View). link x g) d.after ∙ ap (λ (l : List Link). get_or l g idle) (links_after (storing tag) d.state f v) ∙ get_or-set_other v.links f g (link_after (storing tag) d.state f v) idle n;
 }
+
+pub stored_cleared : (tag : Option Tag) (f now : ℕ) (v w : View) → Did (storing tag) f v w now → w.cleared ≡ cleared_stored tag v.cleared
+stored_cleared None f now v w d = ap (λ (x : View). x.cleared) d.after
+stored_cleared (Some tag) f now v w d = ap (λ (x : View). x.cleared) d.after
 
 pub stored_after : (tag : Option Tag) (f now : ℕ) (v w : View) → Did (storing tag) f v w now → link w f ≡ stored_link (link v f)
 stored_after None f now v w d = link_is (storing None) f now v w d

@@ -6,7 +6,9 @@ pub mod Words
 pub mod Contents
 pub mod HeldWords
 pub mod Seeing
+pub mod Residents
 pub mod Told
+pub mod Sightings
 pub mod Marks
 pub mod Splitting
 pub mod Stored

@@ -5,6 +5,7 @@ use native.Mathlib.Decide.{ℕ_discrete}
 use Rattle.pin_core.specs.declared.view.LaneHold.{LaneHold}
 use Rattle.pin_core.specs.declared.view.Load.{Load}
 use Rattle.pin_core.specs.declared.view.WordChange.{WordChange}
+use Rattle.pin_core.specs.declared.view.Resident.{Resident}
 use Rattle.pin_core.specs.declared.view.TakenLane.{TakenLane}
 use Rattle.pin_core.specs.declared.view.MapEntry.{MapEntry}
 use Rattle.pin_core.specs.declared.view.MapChange.{MapChange}
@@ -21,6 +22,7 @@ use Rattle.history_core.specs.State.{State}
 use Rattle.frame_table.specs.Seats.{Grows, OnlyRises, SameSelf, Stores, Touches}
 use Rattle.frame_table.specs.Latches.{ComesBack, DidMap, DidTurn, IsTurned, SameWork, as_it_was, entered, left_out, view_counted, view_latched}
 use Rattle.frame_table.specs.LaneWork.{LaneStep, back_lane, back_view, out_lane, out_view, swept_lane}
+use Rattle.frame_table.proofs.Residents.{residents_same}
 use Rattle.frame_table.proofs.Told.{grows_none, grows_on}
 
 pub rises_none : (v : View) → OnlyRises v v
@@ -53,33 +55,35 @@ pub rises_touched : (f : ℕ) (v w : View) → Touches f v w → OnlyRises v w
 rises_touched f v w k = rises_self v w k.self k.grows
 
 pub rises_stored : (f : ℕ) (v w : View) → Stores f v w → OnlyRises v w
-rises_stored f v w k = rises_self v w k.self k.grows
+rises_stored f v w k = rises_by v w k.grows (ap (λ (x : View). x.lanes) k.self)
+    (let a = ap (λ (x : View). x.end_seen) k.self in omega arith) (let a = ap (λ (x : View). x.flushed) k.self in omega arith) (λ d. ap (λ (x : View). x.saw_down) k.self ∙ d)
 
 -- a view that lists more loads, and one that lists what it listed
-pub grows_loads : (ls : List Load) (v w : View) → w.loads ≡ v.loads ++ ls → w.changes ≡ v.changes → v.steps ≤ w.steps → Grows v w
-grows_loads ls v w loads changes steps = record { loads = (ls, loads); changes = ([], changes ∙ sym (append-nil v.changes)); steps = steps }
+pub grows_loads : (ls : List Load) (v w : View) → w.loads ≡ v.loads ++ ls → w.changes ≡ v.changes → w.residents ≡ v.residents → v.steps ≤ w.steps → Grows v w
+grows_loads ls v w loads changes residents steps = record { loads = (ls, loads); changes = ([], changes ∙ sym (append-nil v.changes)); steps = steps; residents = residents_same v.residents w.residents residents }
 
-pub grows_steps : (v w : View) → w.loads ≡ v.loads → w.changes ≡ v.changes → v.steps ≤ w.steps → Grows v w
+pub grows_steps : (v w : View) → w.loads ≡ v.loads → w.changes ≡ v.changes → w.residents ≡ v.residents → v.steps ≤ w.steps → Grows v w
 grows_steps v w loads = grows_loads [] v w (loads ∙ sym (append-nil v.loads))
 
 -- what a view lists, its lanes, and the positions of the log that it has seen
 pub record Listed : Type 0 where
   pub loads : List Load
   pub changes : List WordChange
+  pub residents : List Resident
   pub lanes : List LaneHold
   pub end_seen : ℕ
   pub flushed : ℕ
 
 abbrev pub listed_of : View → Listed
-listed_of v = record { loads = v.loads; changes = v.changes; lanes = v.lanes; end_seen = v.end_seen; flushed = v.flushed }
+listed_of v = record { loads = v.loads; changes = v.changes; residents = v.residents; lanes = v.lanes; end_seen = v.end_seen; flushed = v.flushed }
 
 -- a step that is counted, and changes none of these
 pub rises_ticked : (v w : View) → listed_of w ≡ listed_of v → w.steps ≡ v.steps + 1 → (v.saw_down ≡ true → w.saw_down ≡ true) → OnlyRises v w
-rises_ticked v w e steps d = rises_by v w (grows_steps v w (ap (λ (x : Listed). x.loads) e) (ap (λ (x : Listed). x.changes) e) (omega arith)) (ap (λ (x : Listed). x.lanes) e)
+rises_ticked v w e steps d = rises_by v w (grows_steps v w (ap (λ (x : Listed). x.loads) e) (ap (λ (x : Listed). x.changes) e) (ap (λ (x : Listed). x.residents) e) (omega arith)) (ap (λ (x : Listed). x.lanes) e)
     (let a = ap (λ (x : Listed). x.end_seen) e in omega arith) (let a = ap (λ (x : Listed). x.flushed) e in omega arith) d
 
 grows_worked : (v w : View) → SameWork v w → v.steps ≤ w.steps → Grows v w
-grows_worked v w e steps = grows_steps v w (ap (λ (x : View). x.loads) e) (ap (λ (x : View). x.changes) e) steps
+grows_worked v w e steps = grows_steps v w (ap (λ (x : View). x.loads) e) (ap (λ (x : View). x.changes) e) (ap (λ (x : View). x.residents) e) steps
 
 -- a latch
 steps_latched : (takes : Bool) (x : Turn) (s : State) (v : View) → v.steps ≤ (view_latched takes x s v).steps
@@ -106,7 +110,7 @@ counted_same g same false x v = refl
 
 pub rises_turned : (takes : Bool) (x : Turn) (v w : View) → SameWork (view_counted takes x v) w → IsTurned takes x v w → DidTurn takes x v w → OnlyRises v w
 rises_turned takes x v w e t d = record {
-  grows = grows_steps v w (ap (λ (u : View). u.loads) e ∙ counted_same (λ (u : View). u.loads) (λ u n. refl) takes x v) (ap (λ (u : View). u.changes) e ∙ counted_same (λ (u : View). u.changes) (λ u n. refl) takes x v) (subst (λ (u : View). v.steps ≤ u.steps) (sym d.after) (steps_latched takes x d.state v));
+  grows = grows_steps v w (ap (λ (u : View). u.loads) e ∙ counted_same (λ (u : View). u.loads) (λ u n. refl) takes x v) (ap (λ (u : View). u.changes) e ∙ counted_same (λ (u : View). u.changes) (λ u n. refl) takes x v) (ap (λ (u : View). u.residents) e ∙ counted_same (λ (u : View). u.residents) (λ u n. refl) takes x v) (subst (λ (u : View). v.steps ≤ u.steps) (sym d.after) (steps_latched takes x d.state v));
   swept = λ q. let same = swept_latched takes x v w t q in omega arith;
   end_seen = let a = ap (λ (u : View). u.end_seen) e ∙ counted_same (λ (u : View). u.end_seen) (λ u n. refl) takes x v in omega arith;
   flushed = let a = ap (λ (u : View). u.flushed) e ∙ counted_same (λ (u : View). u.flushed) (λ u n. refl) takes x v in omega arith;
@@ -140,7 +144,7 @@ swept_stepped q h v w s up r = dite (ℕ_discrete r q)
 
 pub rises_out : (q : ℕ) (taken : TakenLane) (v w : View) → w ≡ out_view q taken v → LaneStep q (out_lane taken v.flushed (lane_hold v q)) v w → OnlyRises v w
 rises_out q taken v w e s = record {
-  grows = grows_steps v w (ap (λ (x : View). x.loads) e) (ap (λ (x : View). x.changes) e) (let a = ap (λ (x : View). x.steps) e in omega arith);
+  grows = grows_steps v w (ap (λ (x : View). x.loads) e) (ap (λ (x : View). x.changes) e) (ap (λ (x : View). x.residents) e) (let a = ap (λ (x : View). x.steps) e in omega arith);
   swept = swept_stepped q (out_lane taken v.flushed (lane_hold v q)) v w s (omega arith);
   end_seen = let a = ap (λ (x : View). x.end_seen) e in omega arith;
   flushed = let a = ap (λ (x : View). x.flushed) e in omega arith;
@@ -158,7 +162,7 @@ swept_up SyncFailed v h = omega arith
 
 pub rises_back : {L : Type 0} (d : LaneDevices L) (q : ℕ) (after : L) (call : LaneCall) (v w : View) → w ≡ back_view d q after call v → LaneStep q (back_lane (swept_lane call v (lane_hold v q))) v w → OnlyRises v w
 rises_back d q after call v w e s = record {
-  grows = grows_steps v w (ap (λ (x : View). x.loads) e) (ap (λ (x : View). x.changes) e) (let a = ap (λ (x : View). x.steps) e in omega arith);
+  grows = grows_steps v w (ap (λ (x : View). x.loads) e) (ap (λ (x : View). x.changes) e) (ap (λ (x : View). x.residents) e) (let a = ap (λ (x : View). x.steps) e in omega arith);
   swept = swept_stepped q (back_lane (swept_lane call v (lane_hold v q))) v w s (swept_up call v (lane_hold v q));
   end_seen = let a = ap (λ (x : View). x.end_seen) e in omega arith;
   flushed = let a = ap (λ (x : View). x.flushed) e in omega arith;

@@ -1,5 +1,5 @@
 -- What a step stores: whatever the proof of an operation on a state word, where it tells a kind the word becomes what the kind makes of it.
-use Rattle.std.proofs.Common.{◌≡◌, ◌≢◌, ℕ, ◌≤◌, ◌*◌, ◌%◌, Bool, lit<, Option, List, [], ◌∷◌, ◌++◌, get_or, set, get_or-set_same, sym, refl, ap, ◌∙◌, subst, arith}
+use Rattle.std.proofs.Common.{◌≡◌, ◌≢◌, ℕ, ◌+◌, ◌≤◌, ◌*◌, ◌%◌, Bool, lit<, Option, List, [], ◌∷◌, ◌++◌, get_or, set, get_or-set_same, sym, refl, ap, ◌∙◌, subst, arith}
 use Rattle.std.specs.Prelude.{max, unwrap_or}
 use mathlib.Core.Option.{some}
 use lib.ListN.{get_elem?}
@@ -10,15 +10,15 @@ use Rattle.pin_core.specs.declared.view.View.{View}
 use Rattle.pin_core.specs.Kinds as pin
 use Rattle.page_core.specs.Kinds as paged
 use Rattle.history_core.specs.State.{State, next_hand}
-use Rattle.history_core.specs.Words.{end_word, flushed_word, redo_word, hand_word, hint_word}
+use Rattle.history_core.specs.Words.{end_word, flushed_word, redo_word, hand_word, counter_word, hint_word}
 use Rattle.history_core.specs.Trail.{Follows}
 use Rattle.history_core.proofs.Trail.{Ticks, listed_made, next_tick, next_word}
 use Rattle.table_rule.specs.declared.opening.Opening.{Opening}
-use Rattle.table_rule.specs.Layout.{end_place, flushed_place, redo_place, hand_place, hint_place}
+use Rattle.table_rule.specs.Layout.{end_place, flushed_place, redo_place, hand_place, counter_place, hint_place}
 use Rattle.table_rule.specs.Shows.{Devices}
-use Rattle.frame_table.specs.WordSteps.{DidWord, add_hand, raise_flushed, raise_redo, store_hint}
+use Rattle.frame_table.specs.WordSteps.{DidWord, add_hand, raise_flushed, raise_redo, add_counter, store_hint}
 use Rattle.frame_table.specs.Kinds.{FrameWord, state_word, FrameKind, pins, pages, part_of, frame_after, view_after}
-use Rattle.frame_table.specs.Stores.{Makes, MustStore, HandMustMove, FlushedMustRise, RedoMustRise, HintMustBeStored}
+use Rattle.frame_table.specs.Stores.{Makes, MustStore, HandMustMove, FlushedMustRise, RedoMustRise, CounterMustRise, HintMustBeStored}
 use Rattle.frame_table.specs.FrameSteps.{part_place, SaysOf, Did}
 use Rattle.grid.proofs.Lists.{put_at}
 
@@ -151,6 +151,25 @@ module _ {L G : Type 0} (d : Devices L G) (o : Opening L G) where
       let shown : g n ≡ h'.state.redo = sym (get_or-set_same t.words at (g n) 0 (let e = h.shows.words in omega arith)) ∙ h'.shows.latches.word redo_word tt in
       let is_redo : n ≡ s.redo = h.shows.latches.word redo_word tt in
       let is_end : get_or t.words (end_place o.config.frames) 0 ≡ s.end = h.shows.latches.word end_word tt in
+      omega arith
+
+  -- and what an operation on a counter stores, if it keeps the rule and tells that so much was added
+  pub counter_rises : CounterMustRise d o
+  counter_rises number more slots id a b g me t below h0 allows =
+      let at : ℕ = counter_place o.config.frames number in
+      let n : ℕ = get_or t.words at 0 in
+      let h = h0.held in
+      let s = h.state in
+      let r = allows t h h0.wide h0.there h0.small in
+      let w : View = r.0 in
+      let h' = r.3 in
+      let did : DidWord (add_counter number more) me.0 w n = r.4.1 in
+      let here : get_elem? s.pool.core.views id ≡ some me.0 = ap (λ (l : List View). get_elem? l id) (sym h.shows.views) ∙ h0.there in
+      let made = (listed_made s h'.state h.laws h'.laws id me.0 w here (sym h'.shows.views ∙ ap (λ (l : List View). set l id w) h.shows.views)).added
+      (record { count = number; more = more }) (ap (λ (v : View). v.published) did.after) number in
+      let shown : g n ≡ h'.state.counter number = sym (get_or-set_same t.words at (g n) 0 (let e = h.shows.words in omega arith)) ∙ h'.shows.latches.word (counter_word number) below in
+      let was : n ≡ s.counter number = h.shows.latches.word (counter_word number) below in
+      let risen = put_at s.counter number (s.counter number + more) number refl in
       omega arith
 
   -- and what an operation on a hint word stores, if it keeps the rule and tells that the word got a value

@@ -12,6 +12,7 @@ use Rattle.pin_core.specs.declared.view.Load.{Load}
 use Rattle.pin_core.specs.declared.view.LoadedWord.TheVariants as seen
 use Rattle.pin_core.specs.declared.view.WordChange.{WordChange}
 use Rattle.pin_core.specs.declared.view.Link.{Link}
+use Rattle.pin_core.specs.declared.view.PartitionHold.{PartitionHold}
 use Rattle.pin_core.specs.declared.view.Role.{Role}
 use Rattle.pin_core.specs.declared.view.Role.TheVariants.{Absent, HandedOut, Victim}
 use Rattle.pin_core.specs.State.{Frame, link, idle}
@@ -23,12 +24,28 @@ use Rattle.page_core.specs.Kinds as paged
 use Rattle.history_core.specs.State.{State}
 use Rattle.history_core.proofs.Trail.{Lists, pins_list, pages_list}
 use Rattle.frame_table.specs.Kinds.{FrameKind, pins, pages, part_of, load_kind, block_of_frame, link_after, view_after}
-use Rattle.frame_table.specs.Seats.{AddsOnly, SameSelf, Grows, IsOfNoOther, ListsOnly, Touches, Looked, MayUnpin, loaded_link, pinned_link, unpinned_link, locked_link}
+use Rattle.frame_table.specs.Seats.{AddsOnly, SameSelf, self_of, KeepsResidents, Grows, IsOfNoOther, ListsOnly, Touches, Looked, MayUnpin, loaded_link, pinned_link, unpinned_link, locked_link}
+use Rattle.frame_table.proofs.Residents.{residents_same, residents_on, residents_pinned, residents_paged}
 use Rattle.frame_table.specs.FrameSteps.{Choice, choice_part, part_place, Did, Looks, still, again, Tried, Unpinned, if_found, if_unlocked, chosen, has_locked, looking}
 
-pub self_after : (k : FrameKind) (s : State) (f : ℕ) (v : View) → SameSelf v (view_after k s f v)
+-- What a kind that stores no tag word leaves of a view: its partitions, and how many tags it took from frames
+pub record Named : Type 0 where
+  pub partitions : List PartitionHold
+  pub cleared : ℕ
+
+abbrev pub named_of : View → Named
+named_of v = record { partitions = v.partitions; cleared = v.cleared }
+
+pub self_after : (k : FrameKind) (s : State) (f : ℕ) (v : View) → SameSelf (record v { cleared = (view_after k s f v).cleared }) (view_after k s f v)
 self_after (pins k) s f v = refl
 self_after (pages k) s f v = refl
+
+self_named : (k : FrameKind) (s : State) (f : ℕ) (v : View) → named_of (view_after k s f v) ≡ named_of v → SameSelf v (view_after k s f v)
+self_named k s f v e = self_after k s f v ∙ ap (λ (n : Named). record (self_of v) { cleared = n.cleared }) e
+
+residents_after : (k : FrameKind) (s : State) (f : ℕ) (v : View) → KeepsResidents v.residents (view_after k s f v).residents
+residents_after (pins k) s f v = residents_pinned k f (s.pool.core.frame f) (link v f) v.residents
+residents_after (pages k) s f v = residents_paged k f (link v f) v.residents
 
 abbrev IsLoadOf : ℕ → Load → Type 0
 IsLoadOf f l = IsOfNoOther f l.loaded_word
@@ -68,11 +85,11 @@ steps_after : (k : FrameKind) (s : State) (f : ℕ) (v : View) → v.steps ≤ (
 steps_after (pins k) s f v = omega arith
 steps_after (pages k) s f v = omega arith
 
-pub grows_listed : (f : ℕ) (v w : View) → ListsOnly f v w → v.steps ≤ w.steps → Grows v w
-grows_listed f v w l steps = record { loads = (l.loads.0, l.loads.1); changes = (l.changes.0, l.changes.1); steps = steps }
+pub grows_listed : (f : ℕ) (v w : View) → ListsOnly f v w → v.steps ≤ w.steps → KeepsResidents v.residents w.residents → Grows v w
+grows_listed f v w l steps residents = record { loads = (l.loads.0, l.loads.1); changes = (l.changes.0, l.changes.1); steps = steps; residents = residents }
 
 grows_after : (k : FrameKind) (s : State) (f : ℕ) (v : View) → Grows v (view_after k s f v)
-grows_after k s f v = grows_listed f v (view_after k s f v) (lists_after k s f v) (steps_after k s f v)
+grows_after k s f v = grows_listed f v (view_after k s f v) (lists_after k s f v) (steps_after k s f v) (residents_after k s f v)
 
 pub grows : (k : FrameKind) (f found : ℕ) (v w : View) → Did k f v w found → Grows v w
 grows k f found v w d = subst (Grows v) (sym d.after) (grows_after k d.state f v)
@@ -81,10 +98,10 @@ more : {A : Type 0} (a b c : List A) → (x : (xs : List A) × (b ≡ a ++ xs)) 
 more a b c (xs, e) (ys, g) = (xs ++ ys, g ∙ ap (λ l. l ++ ys) e ∙ append_assoc a xs ys)
 
 pub grows_on : (v u w : View) → Grows v u → Grows u w → Grows v w
-grows_on v u w a b = record { loads = more v.loads u.loads w.loads a.loads b.loads; changes = more v.changes u.changes w.changes a.changes b.changes; steps = let x = a.steps in let y = b.steps in omega arith }
+grows_on v u w a b = record { loads = more v.loads u.loads w.loads a.loads b.loads; changes = more v.changes u.changes w.changes a.changes b.changes; steps = let x = a.steps in let y = b.steps in omega arith; residents = residents_on v.residents u.residents w.residents a.residents b.residents }
 
 pub grows_none : (v : View) → Grows v v
-grows_none v = record { loads = ([], sym (append-nil v.loads)); changes = ([], sym (append-nil v.changes)); steps = omega arith }
+grows_none v = record { loads = ([], sym (append-nil v.loads)); changes = ([], sym (append-nil v.changes)); steps = omega arith; residents = residents_same v.residents v.residents refl }
 
 -- of steps one after another
 adds_on : {A : Type 0} (P : A → Type 0) (a b c : List A) → AddsOnly P a b → AddsOnly P b c → AddsOnly P a c
@@ -107,13 +124,13 @@ pub links_after : (k : FrameKind) (s : State) (f : ℕ) (v : View) → (view_aft
 links_after (pins k) s f v = refl
 links_after (pages k) s f v = refl
 
--- a step at a frame touches no other one; the kind names no pair
-pub touches : (k : FrameKind) → ((s : State) (f : ℕ) (v : View) → (view_after k s f v).partitions ≡ v.partitions) → (f found : ℕ) (v w : View) → Did k f v w found → Touches f v w
+-- a step at a frame touches no other one; the kind names no pair, and takes no tag away
+pub touches : (k : FrameKind) → ((s : State) (f : ℕ) (v : View) → named_of (view_after k s f v) ≡ named_of v) → (f found : ℕ) (v w : View) → Did k f v w found → Touches f v w
 touches k none f found v w d = record {
-  self = subst (SameSelf v) (sym d.after) (self_after k d.state f v);
+  self = subst (SameSelf v) (sym d.after) (self_named k d.state f v (none d.state f v));
   grows = grows k f found v w d;
   lists = subst (ListsOnly f v) (sym d.after) (lists_after k d.state f v);
-  partitions = ap (λ (x : View). x.partitions) d.after ∙ none d.state f v;
+  partitions = ap (λ (x : View). x.partitions) d.after ∙ ap (λ (n : Named). n.partitions) (none d.state f v);
   others = λ g n. ap (λ (x : View). link x g) d.after ∙ ap (λ (l : List Link). get_or l g idle) (links_after k d.state f v) ∙ get_or-set_other v.links f g (link_after k d.state f v) idle n;
 }
 
@@ -281,7 +298,7 @@ pub at_last : (k : FrameKind) (f : ℕ) (v u w : View) (b : Bool) → b ≡ true
 at_last k f v u w b e first t = tried_after k f v u w true first (subst (Tried k f u w) e t)
 
 -- a kind was done after loads
-pub tried_touches : (k : FrameKind) → ((s : State) (f : ℕ) (v : View) → (view_after k s f v).partitions ≡ v.partitions) → (f : ℕ) (v w : View) → Tried k f v w true → Touches f v w
+pub tried_touches : (k : FrameKind) → ((s : State) (f : ℕ) (v : View) → named_of (view_after k s f v) ≡ named_of v) → (f : ℕ) (v w : View) → Tried k f v w true → Touches f v w
 tried_touches k none f v w t = touches_on f v t.0 w (looks_touch f v t.0 t.2) (touches k none f t.1 t.0 w t.3)
 
 -- a pin was given up after more loads

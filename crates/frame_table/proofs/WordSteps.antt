@@ -1,5 +1,5 @@
 -- An operation on a word after those of the frames is a step of the state.
-use Rattle.std.proofs.Common.{◌≡◌, ◌≢◌, ℕ, ◌+◌, ◌<◌, ◌≤◌, ◌%◌, ◌^◌, cond, eq-eqb, ne_eqb, lit<, Bool, true, false, List, Option, Some, None, set, get_or, length, length-set, get_or-set_other, sym, refl, ap, ◌∙◌, subst, arith}
+use Rattle.std.proofs.Common.{◌≡◌, ◌≢◌, ℕ, ◌+◌, ◌*◌, ◌<◌, ◌≤◌, ◌%◌, ◌^◌, cond, eq-eqb, ne_eqb, lit<, Bool, true, false, List, Option, Some, None, set, get_or, length, length-set, get_or-set_other, sym, refl, ap, ◌∙◌, subst, arith}
 use Rattle.std.specs.Option.{is_some}
 use Rattle.std.specs.Prelude.{max, unwrap_or}
 use Rattle.std.proofs.Math.Nat.{mod-eq_of_lt}
@@ -28,13 +28,16 @@ use Rattle.table_rule.specs.declared.turn.Place.{Place}
 use Rattle.table_rule.specs.declared.turn.Place.TheVariants as place
 use Rattle.table_rule.specs.declared.turn.Turn.{Turn}
 use Rattle.table_rule.specs.declared.turn.Turn.TheVariants as turn
-use Rattle.table_rule.specs.Shows.{is_taken, ShowsLatches, Devices, Shows, RuleHolds, is_out}
-use Rattle.frame_table.specs.WordSteps.{WordKind, at_word, load_end, read_end, begin_checkpoint, load_flushed, raise_flushed, load_redo, raise_redo, load_hand, add_hand, load_hint, store_hint, kind_word, number_left, word_event, IsWordAllowed, end_known, read_of, view_of, next_of, DidWord, tells_word, tells_hint}
+use Rattle.table_rule.specs.Shows.{is_taken, ShowsLatches, Devices, KeepsOpening, Shows, RuleHolds, is_out}
+use Rattle.frame_table.specs.WordSteps.{WordKind, at_word, load_end, read_end, begin_checkpoint, load_flushed, raise_flushed, load_redo, raise_redo, load_hand, add_hand, load_counter, add_counter, load_hint, store_hint, kind_word, number_left, word_event, IsWordAllowed, end_known, read_of, view_of, next_of, DidWord, tells_word, tells_hint, tells_counter}
 use Rattle.frame_table.specs.declared.log_words.EndLoad.{EndLoad}
 use Rattle.frame_table.specs.declared.log_words.EndLoad.TheVariants.{Plain, Read, Checkpoint}
 use Rattle.frame_table.specs.EndLoads.{IsEndAllowed, end_kind}
-use Rattle.table_rule.specs.Layout.{latch_place, word_place, word_count, HasWord, end_place, flushed_place, redo_place, hand_place, hint_place}
-use Rattle.history_core.specs.Words.{hint_count}
+use Rattle.table_rule.specs.Layout.{latch_place, word_place, word_count, HasWord, end_place, flushed_place, redo_place, hand_place, counter_place, hint_place}
+use Rattle.history_core.specs.Words.{counter_count, last_published, hint_count}
+use Rattle.history_core.specs.Balances.{added_to}
+use Rattle.history_core.proofs.Counters.{counters_fit, counters_sums}
+use Rattle.grid.proofs.Sums.{term_le}
 use Rattle.table_rule.proofs.Places.{word_behind, latch_apart, said}
 use Rattle.frame_table.proofs.Allowing.{allows_with}
 use Rattle.frame_table.proofs.Frames.{frame_else, lane_none, device_none, same_out, home_before, gives_same}
@@ -110,11 +113,11 @@ module _ {L G : Type 0} (d : Devices L G) (o : Opening L G) where
 
   -- Where whatever state the table shows lets the seat make the step, and the operation gives the word its new number, the operation keeps the rule, and tells that step
   pub acts_behind : (k : WordKind) → HasWord o.config.frames (kind_word k) → (slots id a b : ℕ) (g : ℕ → ℕ) (me : Me (Value L G) View) → me.0.emptied ≡ false
-      → ((s : State) → Laws s → s.pool.core.frames ≡ o.config.frames → get_elem? s.pool.core.views id ≡ some me.0 → word_of (kind_word k) s < 18446744073709551616 → IsWordAllowed k s me.0 × (g (word_of (kind_word k) s) ≡ number_left k s))
+      → ((s : State) → Laws s → KeepsOpening d o s → get_elem? s.pool.core.views id ≡ some me.0 → word_of (kind_word k) s < 18446744073709551616 → IsWordAllowed k s me.0 × (g (word_of (kind_word k) s) ≡ number_left k s))
       → Allows (RuleHolds d o) slots id me (word_place o.config.frames (kind_word k)) g (tells_word k (step slots (word_place o.config.frames (kind_word k)) a b none) me)
   acts_behind k has slots id a b g me live asked t h deep there small = let s = h.state in let at : ℕ = word_place o.config.frames (kind_word k) in let n : ℕ = get_or t.words at 0 in
       let here : get_elem? s.pool.core.views id ≡ some me.0 = ap (λ (l : List View). get_elem? l id) (sym h.shows.views) ∙ there in
-      let says : word_of (kind_word k) s ≡ n = sym (h.shows.latches.word (kind_word k) has) in let ok = asked s h.laws h.shows.fixed.frames here (subst (λ (x : ℕ). x < 18446744073709551616) (sym says) small) in (
+      let says : word_of (kind_word k) s ≡ n = sym (h.shows.latches.word (kind_word k) has) in let ok = asked s h.laws h.shows.fixed here (subst (λ (x : ℕ). x < 18446744073709551616) (sym says) small) in (
         view_of k (word_of (kind_word k) s) me.0,
         keeps,
         tt,
@@ -135,10 +138,14 @@ hand_moves n small = dite (ℕ_discrete n 18446744073709551615)
     (λ (e : n ≡ 18446744073709551615). ap (λ (m : ℕ). (m + 1) % 2 ^ 64) e ∙ sym (ap (λ (b : Bool). cond b 0 (n + 1)) (eq-eqb n 18446744073709551615 e)))
     (λ (o : n ≢ 18446744073709551615). mod-eq_of_lt (omega arith) ∙ sym (ap (λ (b : Bool). cond b 0 (n + 1)) (ne_eqb n 18446744073709551615 o)))
 
+-- there are at most 64 backends
+few_backends : {L G : Type 0} (d : Devices L G) (o : Opening L G) (s : State) → KeepsOpening d o s → s.pool.core.backends ≤ 64
+few_backends d o s f = let a = f.backends in let b = f.few_backends in omega arith
+
 module _ {L G : Type 0} (d : Devices L G) (o : Opening L G) (slots id : ℕ) (me : Me (Value L G) View) (live : me.0.emptied ≡ false) where
   pub loads_end_there : (what : EndLoad) → IsEndAllowed o.config.frames what me.0 → Allows (RuleHolds d o) slots id me (end_place o.config.frames) (λ n. n) (tells_word (end_kind what) (step slots (end_place o.config.frames) 0 0 none) me)
   loads_end_there Plain a = acts_behind d o load_end tt slots id 0 0 (λ n. n) me live (λ s l f there small. (tt, refl))
-  loads_end_there (Read f) a = acts_behind d o (read_end f) tt slots id 0 0 (λ n. n) me live (λ s l e there small. ((subst (λ (n : ℕ). f < n) (sym e) a.0, a.1), refl))
+  loads_end_there (Read f) a = acts_behind d o (read_end f) tt slots id 0 0 (λ n. n) me live (λ s l e there small. ((subst (λ (n : ℕ). f < n) (sym e.frames) a.0, a.1), refl))
   loads_end_there Checkpoint a = acts_behind d o begin_checkpoint tt slots id 0 0 (λ n. n) me live (λ s l f there small. (tt, refl))
 
   pub loads_flushed_there : Allows (RuleHolds d o) slots id me (flushed_place o.config.frames) (λ n. n) (tells_word load_flushed (step slots (flushed_place o.config.frames) 0 0 none) me)
@@ -159,16 +166,27 @@ module _ {L G : Type 0} (d : Devices L G) (o : Opening L G) (slots id : ℕ) (me
   pub adds_hand_there : Allows (RuleHolds d o) slots id me (hand_place o.config.frames) (λ n. (n + 1) % 2 ^ 64) (tells_word add_hand (step slots (hand_place o.config.frames) 1 0 none) me)
   adds_hand_there = acts_behind d o add_hand tt slots id 1 0 (λ n. (n + 1) % 2 ^ 64) me live (λ s l f there small. (tt, hand_moves s.hand small))
 
+  -- a counter is loaded: it is no more than all backends may add
+  pub loads_counter_there : (number : ℕ) → number < counter_count → Allows (RuleHolds d o) slots id me (counter_place o.config.frames number) (λ n. n) (tells_counter number (step slots (counter_place o.config.frames number) 0 0 none) me)
+  loads_counter_there number below = let at : ℕ = counter_place o.config.frames number in allows_with (RuleHolds d o) slots id me at (λ n. n) (tells_word (load_counter number) (step slots at 0 0 none) me) (λ found. found ≤ 64 * last_published)
+      (acts_behind d o (load_counter number) below slots id 0 0 (λ n. n) me live (λ s l f there small. (below, refl)))
+      (λ t h there. let says : get_or t.words at 0 ≡ h.state.counter number = h.shows.latches.word (kind_word (load_counter number)) below in
+      let fits = counters_fit h.state h.laws (few_backends d o h.state h.shows.fixed) number in omega arith)
+
+  -- and it rises: the sum doesn't wrap
+  pub adds_counter_there : (number more : ℕ) → number < counter_count → added_to number me.0 + more ≤ last_published → Allows (RuleHolds d o) slots id me (counter_place o.config.frames number) (λ n. (n + more) % 2 ^ 64) (tells_word (add_counter number more) (step slots (counter_place o.config.frames number) more 0 none) me)
+  adds_counter_there number more below room = acts_behind d o (add_counter number more) below slots id more 0 (λ n. (n + more) % 2 ^ 64) me live (λ s l f there small. ((below, room), mod-eq_of_lt (let fits = counters_fit s l (few_backends d o s f) number in omega arith)))
+
   -- a hint word is loaded: it names no frame, or one that is there
   pub loads_hint_there : (number : ℕ) → number < hint_count o.config.frames → Allows (RuleHolds d o) slots id me (hint_place o.config.frames number) (λ n. n) (tells_hint o.config.frames number (step slots (hint_place o.config.frames number) 0 0 none) me)
   loads_hint_there number below = let at : ℕ = hint_place o.config.frames number in allows_with (RuleHolds d o) slots id me at (λ n. n) (tells_word (load_hint number) (step slots at 0 0 none) me) (λ found. found ≤ o.config.frames)
-      (acts_behind d o (load_hint number) below slots id 0 0 (λ n. n) me live (λ s l f there small. (subst (λ (n : ℕ). number < hint_count n) (sym f) below, refl)))
+      (acts_behind d o (load_hint number) below slots id 0 0 (λ n. n) me live (λ s l f there small. (subst (λ (n : ℕ). number < hint_count n) (sym f.frames) below, refl)))
       (λ t h there. let says : get_or t.words at 0 ≡ h.state.hint number = h.shows.latches.word (kind_word (load_hint number)) below in
       let named = h.laws.hints.named number in let frames = h.shows.fixed.frames in omega arith)
 
   -- and it gets a value
   pub stores_hint_there : (number value : ℕ) → number < hint_count o.config.frames → value ≤ o.config.frames → Allows (RuleHolds d o) slots id me (hint_place o.config.frames number) (λ _. value) (tells_word (store_hint number value) (step slots (hint_place o.config.frames number) value 0 none) me)
-  stores_hint_there number value below few = acts_behind d o (store_hint number value) below slots id value 0 (λ _. value) me live (λ s l f there small. ((subst (λ (n : ℕ). number < hint_count n) (sym f) below, (omega arith)), refl))
+  stores_hint_there number value below few = acts_behind d o (store_hint number value) below slots id value 0 (λ _. value) me live (λ s l f there small. ((subst (λ (n : ℕ). number < hint_count n) (sym f.frames) below, (let e = f.frames in omega arith)), refl))
 
 -- the flushed position is never below what a view has loaded of it
 pub flushed_below : (v w : View) (found : ℕ) → DidWord load_flushed v w found → v.flushed ≤ found
@@ -177,6 +195,10 @@ flushed_below v w found d = let a = (d.laws.invariant.history.calls d.seat v d.t
 -- the redo position is at most the log's end, as the holder of its latch has loaded it
 pub redo_below : (v w : View) (found : ℕ) → DidWord load_redo v w found → (end : ℕ) → v.log.end ≡ Some end → found ≤ end
 redo_below v w found d end noted = let e = ((d.laws.invariant.device.cells d.seat v 0 d.there (lit< tt)).end end noted).1 in let low = d.laws.redo.within in let s = d.says in omega arith
+
+-- a counter is at least what the view has added to it
+pub counter_least : (number : ℕ) (v w : View) (found : ℕ) → DidWord (load_counter number) v w found → added_to number v ≤ found
+counter_least number v w found d = let sum = counters_sums d.state d.laws number in let term = term_le (λ (u : View). added_to number u) d.state.pool.core.views d.seat v d.there in let s : d.state.counter number ≡ found = d.says in omega arith
 
 -- the place of a read is at least all that the backend had seen
 pub front_below : (k : WordKind) (v w : View) (found : ℕ) → ((s : State) → word_of (kind_word k) s ≡ s.end) → DidWord k v w found → v.front ≤ found

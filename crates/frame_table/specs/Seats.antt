@@ -1,6 +1,8 @@
 -- What callers see of a table and of a seat.
-use Rattle.std.specs.Prelude.{◌≡◌, ◌≢◌, ℕ, ◌<◌, ◌≤◌, Bool, true, false, not, ◌||◌, ◌&&◌, List, [], ◌++◌, Option, Some, None}
+use Rattle.std.specs.Prelude.{◌≡◌, ◌≢◌, ℕ, ◌<◌, ◌≤◌, ◌+◌, Bool, true, false, not, ◌||◌, ◌&&◌, List, [], ◌++◌, Option, Some, None}
 use Rattle.std.specs.List.{All}
+use mathlib.Core.Option.{some}
+use lib.ListN.{get_elem?}
 use Rattle.state_word.specs.declared.word.StateWord.{StateWord}
 use Rattle.state_word.specs.Fields.{fields}
 use Rattle.block_tag.specs.declared.tag.Tag.{Tag}
@@ -13,6 +15,7 @@ use Rattle.pin_core.specs.declared.view.Load.{Load}
 use Rattle.pin_core.specs.declared.view.LoadedWord.{LoadedWord}
 use Rattle.pin_core.specs.declared.view.LoadedWord.TheVariants as seen
 use Rattle.pin_core.specs.declared.view.WordChange.{WordChange}
+use Rattle.pin_core.specs.declared.view.Resident.{Resident}
 use Rattle.pin_core.specs.declared.view.Role.TheVariants.{Absent, HandedOut, Victim}
 use Rattle.pin_core.specs.declared.view.Content.TheVariants.{Unlocked}
 use Rattle.pin_core.specs.declared.view.Io.TheVariants.{Quiet, Input, Output}
@@ -59,11 +62,26 @@ MarksBegun input v w = view_marks w ≡ record (view_marks v) { had_output = v.h
 abbrev pub MarksEnded : StateWord → View → View → Type 0
 MarksEnded stored v w = view_marks w ≡ record (view_marks v) { last_ended = Some stored }
 
--- The loads and the changes of state words that a view lists are only added to, and its count of steps doesn't fall
+-- A block that a view has seen in a frame, as the view lists it later: one that is gone stays so
+pub record IsListedStill (before after : Resident) : Type 0 where
+  pub frame : after.frame ≡ before.frame
+  pub tag : after.tag ≡ before.tag
+  pub gone : before.gone ≡ true → after.gone ≡ true
+
+-- Each stays listed, at its place
+abbrev pub KeepsResidents : List Resident → List Resident → Type 0
+KeepsResidents before after = (k : ℕ) (r : Resident) → get_elem? before k ≡ some r → (x : Resident) × (get_elem? after k ≡ some x) × IsListedStill r x
+
+-- The view lists that it has seen the block of the tag in the frame f
+abbrev pub HasResident : ℕ → ℕ → View → Type 0
+HasResident f tag v = (k : ℕ) × (r : Resident) × (get_elem? v.residents k ≡ some r) × (r.frame ≡ f) × (r.tag ≡ tag)
+
+-- The loads and the changes of state words that a view lists are only added to, its count of steps doesn't fall, and the blocks that it has seen in frames stay listed
 pub record Grows (v w : View) : Type 0 where
   pub loads : (ls : List Load) × (w.loads ≡ v.loads ++ ls)
   pub changes : (cs : List WordChange) × (w.changes ≡ v.changes ++ cs)
   pub steps : v.steps ≤ w.steps
+  pub residents : KeepsResidents v.residents w.residents
 
 -- a word that a load saw is of the frame f, or of no frame
 abbrev pub IsOfNoOther : ℕ → LoadedWord → Type 0
@@ -300,9 +318,14 @@ NamesStored (Some tag) f v w = NamesIn (partition_number tag) (Entering (packed_
 abbrev pub read_link : Option Tag → Link → Link
 read_link tag l = record l { tag = tag_after l.pending l.role (tag_word tag) l.tag }
 
--- A step at the frame f that may name a pair: the view has at other frames what it had
+-- how many tags the view took from frames, after it stored a tag, or took one away
+abbrev pub cleared_stored : Option Tag → ℕ → ℕ
+cleared_stored None n = n + 1
+cleared_stored (Some tag) n = n
+
+-- A step at the frame f that may name a pair, or take a tag away: the view has at other frames what it had
 pub record Stores (f : ℕ) (v w : View) : Type 0 where
-  pub self : SameSelf v w
+  pub self : SameSelf (record v { cleared = w.cleared }) w
   pub grows : Grows v w
   pub others : (g : ℕ) → g ≢ f → link w g ≡ link v g
 

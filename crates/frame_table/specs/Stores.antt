@@ -1,5 +1,5 @@
--- What the table's rule makes a step store: at a state word what the kind of step that it tells of makes of the word found, at the clock's hand the number of the next frame, at the flushed position and the redo position the larger of it and the log's end, and at a hint word the value that it tells.
-use Rattle.std.specs.Prelude.{◌≡◌, ℕ, ◌<◌, max, length, slice_index}
+-- What the table's rule makes a step store: at a state word what the kind of step that it tells of makes of the word found, at the clock's hand the number of the next frame, at the flushed position and the redo position the larger of it and the log's end, at a counter the sum of it and of what was added, and at a hint word the value that it tells.
+use Rattle.std.specs.Prelude.{◌≡◌, ℕ, ◌+◌, ◌<◌, max, length, slice_index}
 use mathlib.Core.Option.{none, some}
 use lib.ListN.{get_elem?}
 use Rattle.atomic_table.specs.Table.{Me, step, Allows}
@@ -8,12 +8,12 @@ use Rattle.state_word.specs.declared.word.StateWord.{StateWord}
 use Rattle.state_word.specs.Fields.{fields}
 use Rattle.pin_core.specs.declared.view.View.{View}
 use Rattle.history_core.specs.State.{State, next_hand}
-use Rattle.history_core.specs.Words.{hint_count}
+use Rattle.history_core.specs.Words.{counter_count, hint_count}
 use Rattle.table_rule.specs.declared.value.Value.{Value}
 use Rattle.table_rule.specs.declared.opening.Opening.{Opening}
-use Rattle.table_rule.specs.Layout.{end_place, flushed_place, redo_place, hand_place, hint_place, state_place}
+use Rattle.table_rule.specs.Layout.{end_place, flushed_place, redo_place, hand_place, counter_place, hint_place, state_place}
 use Rattle.table_rule.specs.Shows.{Devices, RuleHolds}
-use Rattle.frame_table.specs.WordSteps.{add_hand, raise_flushed, raise_redo, store_hint, tells_word}
+use Rattle.frame_table.specs.WordSteps.{add_hand, raise_flushed, raise_redo, add_counter, store_hint, tells_word}
 use Rattle.frame_table.specs.Kinds.{state_word, FrameKind, frame_after}
 use Rattle.frame_table.specs.FrameSteps.{Choice, chosen, choice_part, tells}
 
@@ -54,6 +54,12 @@ module _ {L G : Type 0} (d : Devices L G) (o : Opening L G) where
   RedoMustRise = (slots id a b : ℕ) (g : ℕ → ℕ) (me : Me (Value L G) View) (t : table.State (Value L G) View) → IsSeated slots id (redo_place o.config.frames) me t
       → Allows (RuleHolds d o) slots id me (redo_place o.config.frames) g (tells_word raise_redo (step slots (redo_place o.config.frames) a b none) me)
       → g (slice_index t.words (redo_place o.config.frames)) ≡ max (slice_index t.words (redo_place o.config.frames)) (slice_index t.words (end_place o.config.frames))
+
+  -- And whatever operation g on a counter keeps the rule and tells that so much was added stores the sum of the counter and of that
+  abbrev pub CounterMustRise : Type 0
+  CounterMustRise = (number more slots id a b : ℕ) (g : ℕ → ℕ) (me : Me (Value L G) View) (t : table.State (Value L G) View) → number < counter_count → IsSeated slots id (counter_place o.config.frames number) me t
+      → Allows (RuleHolds d o) slots id me (counter_place o.config.frames number) g (tells_word (add_counter number more) (step slots (counter_place o.config.frames number) a b none) me)
+      → g (slice_index t.words (counter_place o.config.frames number)) ≡ slice_index t.words (counter_place o.config.frames number) + more
 
   -- And whatever operation g on a hint word keeps the rule and tells that the word got a value stores that value
   abbrev pub HintMustBeStored : Type 0

@@ -1,5 +1,5 @@
--- Steps at the words after those of the frames: the log's end, the flushed position, the clock's hand, and the hint words.
-use Rattle.std.specs.Prelude.{◌≡◌, ◌≢◌, ℕ, ◌<◌, ◌≤◌, false, true, Option, Some, None, unwrap_or}
+-- Steps at the words after those of the frames: the log's end, the flushed position, the clock's hand, the counters, and the hint words.
+use Rattle.std.specs.Prelude.{◌≡◌, ◌≢◌, ℕ, ◌+◌, ◌*◌, ◌<◌, ◌≤◌, false, true, [], ◌∷◌, ◌++◌, Option, Some, None, unwrap_or}
 use mathlib.Core.Option.{some}
 use lib.ListN.{get_elem?}
 use Rattle.atomic_table.specs.Table.{Me, Step}
@@ -10,7 +10,7 @@ use Rattle.pin_core.specs.declared.view.LoadedWord.TheVariants as seen
 use Rattle.pin_core.specs.State.{Page, link}
 use Rattle.history_core.specs.State.{State}
 use Rattle.history_core.specs.Words as core
-use Rattle.history_core.specs.Words.{Word, end_word, word_of, word_at, WordAllowed, number_after}
+use Rattle.history_core.specs.Words.{Word, end_word, last_published, word_of, word_at, WordAllowed, number_after}
 use Rattle.history_core.specs.Laws.{Laws}
 use Rattle.history_core.specs.Steps.{Event, word, read, looked, has_read, view_after_word, state_set}
 use Rattle.table_rule.specs.declared.value.Value.{Value}
@@ -48,6 +48,13 @@ load_hand = at_word core.load_hand
 
 abbrev pub add_hand : WordKind
 add_hand = at_word core.add_hand
+
+-- the counter of this number is loaded, and rises by so much
+abbrev pub load_counter : ℕ → WordKind
+load_counter number = at_word (core.load_counter number)
+
+abbrev pub add_counter : ℕ → ℕ → WordKind
+add_counter number more = at_word (core.add_counter number more)
 
 -- the hint word of this number is loaded, and gets a value
 abbrev pub load_hint : ℕ → WordKind
@@ -98,6 +105,10 @@ abbrev pub view_of : WordKind → ℕ → View → View
 view_of (at_word k) found v = view_after_word k found (end_known v) v
 view_of (read_end f) found v = looked (seen.LogEnd found) (read_of (link v f).tag (link v f).copied found v)
 
+-- a view that has added to a counter
+abbrev pub view_published : ℕ → ℕ → View → View
+view_published number more v = record v { steps = v.steps + 1; published = v.published ++ record { count = number; more = more } ∷ [] }
+
 -- the state after it, by backend i, whose view is v
 abbrev pub next_of : WordKind → State → ℕ → View → State
 next_of k s i v = state_set (kind_word k) (number_left k s) s i (view_of k (word_of (kind_word k) s) v)
@@ -123,3 +134,7 @@ module _ {L G : Type 0} where
   -- a load of a hint word in a table of n frames: it names none past them
   abbrev pub tells_hint : ℕ → ℕ → Step (Value L G) → Me (Value L G) View → ℕ → Me (Value L G) View → Type 0
   tells_hint n number st m found m' = tells_word (load_hint number) st m found m' × (found ≤ n)
+
+  -- a load of a counter: it is no more than 64 backends may add
+  abbrev pub tells_counter : ℕ → Step (Value L G) → Me (Value L G) View → ℕ → Me (Value L G) View → Type 0
+  tells_counter number st m found m' = tells_word (load_counter number) st m found m' × (found ≤ 64 * last_published)

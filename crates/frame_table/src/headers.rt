@@ -11,7 +11,7 @@ ghost use Rattle.pin_core.specs.Steps.{HasNoVictim};
 ghost use Rattle.table_rule.specs.Blocks.{has_block, is_block};
 ghost use Rattle.table_rule.specs.Layout.{tag_partition};
 ghost use Rattle.frame_table.specs.Kinds.{pins};
-ghost use Rattle.frame_table.specs.Seats.{CanErase, CanStep, MayStoreTag, CanStoreAs, HasFlag, HasRoom, HoldsNumber, HasOnlyPin, IsUsed, NamesStored, SameMarks, SameSeat, Stores, Touches, assigned_link, cleared_link, partitions_stored, read_link, relations_of, stored_link, tag_word, unlocked_link, victim_link};
+ghost use Rattle.frame_table.specs.Seats.{CanErase, CanStep, MayStoreTag, CanStoreAs, HasFlag, HasRoom, HoldsNumber, HasOnlyPin, IsUsed, NamesStored, SameMarks, SameSeat, Stores, Touches, assigned_link, cleared_link, partitions_stored, read_link, relations_of, stored_link, tag_word, unlocked_link, victim_link, cleared_stored};
 ghost use Rattle.frame_table.specs.FrameSteps.{Did, always, storing};
 
 use crate::pin::Pin;
@@ -140,6 +140,7 @@ impl<L: BlockLane, G: LogDevice> FrameTable<L, G> {
         ensures stored { link seat.new.me.0 frame ≡ stored_link (link seat.old.me.0 frame) }
         ensures named { seat.new.me.0.partitions ≡ partitions_stored tag frame seat.old.me.0 }
         ensures names { NamesStored tag frame seat.old.me.0 seat.new.me.0 }
+        ensures cleared { seat.new.me.0.cleared ≡ cleared_stored tag seat.old.me.0.cleared }
         ensures did { (now : ℕ) × Did (storing tag) frame seat.old.me.0 seat.new.me.0 now }
     {
         match tag {

@@ -12,6 +12,7 @@ mod calls;
 mod content;
 mod content_plays;
 mod content_word;
+mod counters;
 mod headers;
 mod hints;
 mod io_right;

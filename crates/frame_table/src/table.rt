@@ -8,7 +8,7 @@ ghost use Rattle.table_rule.specs.Layout as layout;
 ghost use Rattle.table_rule.specs.Shows.{devices};
 ghost use Rattle.frame_table.specs.Kinds as kinds;
 ghost use Rattle.frame_table.specs.Kinds.{FrameKind, pages, part_of, pins};
-ghost use Rattle.frame_table.specs.Stores.{FlushedMustRise, RedoMustRise, HandMustMove, HintMustBeStored, Makes, MustStore};
+ghost use Rattle.frame_table.specs.Stores.{CounterMustRise, FlushedMustRise, RedoMustRise, HandMustMove, HintMustBeStored, Makes, MustStore};
 
 use atomic_table::Table;
 use block_tag::Catalog;
@@ -47,7 +47,7 @@ impl<L: BlockLane, G: LogDevice> FrameTable<L, G> {
         &self.catalog
     }
 
-    /// What each call at a state word has to store, whatever the table is at that moment: whoever keeps the table's rule and tells of a step stores the word that the step makes of the word found. So with the clock's hand, with the flushed position, and with the hint words.
+    /// What each call at a state word has to store, whatever the table is at that moment: whoever keeps the table's rule and tells of a step stores the word that the step makes of the word found. So with the clock's hand, with the flushed position, with the counters, and with the hint words.
     pub fn words_must_be_stored(&self)
         ensures each { (k : FrameKind) → part_of k ≡ kinds.state_word → k ≢ pins pin_kinds.load_state → MustStore (devices L.BlockLane G.LogDevice) self.now.table.shared.key k (Makes k) }
         ensures pin { (ring : Bool) → MustStore (devices L.BlockLane G.LogDevice) self.now.table.shared.key (pins (pin_kinds.pin ring)) (λ f found left. left ≡ pinned_fields ring found) }
@@ -57,6 +57,7 @@ impl<L: BlockLane, G: LogDevice> FrameTable<L, G> {
         ensures hand { HandMustMove (devices L.BlockLane G.LogDevice) self.now.table.shared.key }
         ensures flushed { FlushedMustRise (devices L.BlockLane G.LogDevice) self.now.table.shared.key }
         ensures redo { RedoMustRise (devices L.BlockLane G.LogDevice) self.now.table.shared.key }
+        ensures counters { CounterMustRise (devices L.BlockLane G.LogDevice) self.now.table.shared.key }
         ensures hints { HintMustBeStored (devices L.BlockLane G.LogDevice) self.now.table.shared.key }
     {}
 }

@@ -5,7 +5,7 @@ ghost use Rattle.segment_store.specs.Contents.{Pages};
 ghost use Rattle.frame_table.specs.declared.log_words.EndLoad.{EndLoad};
 ghost use Rattle.frame_table.specs.declared.log_words.EndLoad.TheVariants.{Plain};
 ghost use Rattle.frame_table.specs.EndLoads.{tells_end_load};
-ghost use Rattle.frame_table.specs.WordSteps.{WordKind, tells_hint, tells_word, load_flushed, raise_flushed, load_redo, raise_redo, load_hand, add_hand};
+ghost use Rattle.frame_table.specs.WordSteps.{WordKind, tells_counter, tells_hint, tells_word, load_flushed, raise_flushed, load_redo, raise_redo, load_hand, add_hand};
 
 use atomic_table::Play;
 use pin_core::View;
@@ -101,6 +101,23 @@ pub(crate) struct AddHand;
 
 impl StepsAt for AddHand {
     ghost kind = { add_hand };
+}
+
+/// The number of a counter. Each call picks it.
+pub(crate) trait AtCounter {
+    ghost number: { ℕ };
+}
+
+impl AtCounter for Brand {
+    ghost number = { 0 };
+}
+
+pub(crate) struct LoadCounter<D> {
+    counter: PhantomData<D>,
+}
+
+impl<L, G, D: AtCounter> Play<Value<L, G>, View> for LoadCounter<D> {
+    ghost then = { tells_counter D.number };
 }
 
 /// How many frames there are, and the number of the hint word. Each call picks it.

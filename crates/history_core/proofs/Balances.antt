@@ -21,14 +21,14 @@ module _ {A : Type 0} {items : View → List A} {key found left : A → ℕ} {k 
       let p = ap (sum_at key left k) same in let q = ap (sum_at key found k) same in
       record { sums = omega (arith, m.sums) }
 
-  -- where it lists one item more, which found what was there
+  -- where it lists one item more, and what it left and found differ as the value there does
   pub balances_listed : (i : ℕ) (v w : View) (c : A) (now' : ℕ) → get_elem? views i ≡ some v
-      → items w ≡ items v ++ c ∷ [] → (k ≡ key c → (found c ≡ now) × (now' ≡ left c))
+      → items w ≡ items v ++ c ∷ [] → (k ≡ key c → left c + now ≡ found c + now')
       → (k ≢ key c → now' ≡ now) → Balances items key found left k first now' (set views i w)
   balances_listed i v w c now' there listed here else = let a = adds left in let b = adds found in
       let p = puts (λ _. 0) (key c) (left c) k in let q = puts (λ _. 0) (key c) (found c) k in
       dite (ℕ_discrete k (key c))
-      (λ e. record { sums = omega (arith, m.sums, p.same e, q.same e, (here e).0, (here e).1) })
+      (λ e. record { sums = omega (arith, m.sums, p.same e, q.same e, here e) })
       (λ n. record { sums = omega (arith, m.sums, p.other n, q.other n, else n) })
     where
       adds : (g : A → ℕ) → total (sum_in items key k g) (set views i w)

@@ -27,7 +27,7 @@ use Rattle.grid.proofs.Lists.{put_at, put_else}
 
 -- where one view lists one store more, of a word that it found as it was, the views fix the word as it was left, and each other word as it was
 pub follows_stored : (hint : ℕ → ℕ) (views : List View) → FollowsHints hint views → (i : ℕ) (v w : View) (c : HintStore) → get_elem? views i ≡ some v → w.hints ≡ v.hints ++ c ∷ [] → c.found ≡ hint c.number → FollowsHints (put hint c.number c.left) (set views i w)
-follows_stored hint views m i v w c there listed was n = balances_listed (m n) i v w c (put hint c.number c.left n) there listed (λ is. (was ∙ ap hint (sym is), put_at hint c.number c.left n is)) (put_else hint c.number c.left n)
+follows_stored hint views m i v w c there listed was n = balances_listed (m n) i v w c (put hint c.number c.left n) there listed (λ is. let a : c.found ≡ hint n = was ∙ ap hint (sym is) in let b = put_at hint c.number c.left n is in omega arith) (put_else hint c.number c.left n)
 
 pools_hints : (s : State) → HintsLaw s → {e : pin_steps.Event} {core' : pins.State} → pin_steps.Step e s.pool.core core' → HintsLaw (record s { pool = record s.pool { core = core' } })
 pools_hints s m (pin_steps.touches i f k v there live inside around a) = record { named = m.named; fixed = λ n. balances_aside (m.fixed n) i v (pin_kinds.view_after k s.pool.core.partition_of f (s.pool.core.frame f) (link v f) v) there refl }

@@ -19,6 +19,7 @@ use Rattle.history_core.proofs.Spending.{spent_open, spent_kept}
 use Rattle.history_core.proofs.Ends.{ends_open, ends_kept}
 use Rattle.history_core.proofs.Sound.{sound_open, sound_kept}
 use Rattle.history_core.proofs.Trail.{trail_open, trail_kept}
+use Rattle.history_core.proofs.Counters.{counters_open, counters_kept}
 use Rattle.history_core.proofs.Hints.{hints_open, hints_kept}
 use Rattle.history_core.proofs.Sweeping.{swept_open, swept_kept}
 
@@ -44,6 +45,7 @@ laws_kept x h = record {
   ends = ends_kept x h.invariant h.ends;
   trail = trail_kept x h.invariant h.trail;
   hints = hints_kept x h.hints;
+  counters = counters_kept x h.counters;
   swept = swept_kept x h.invariant h.debts h.swept;
   redo = redo_kept x h.invariant h.sound h.redo;
 }
@@ -53,7 +55,7 @@ laws_after rests h = h
 laws_after (goes x r) h = laws_after r (laws_kept x h)
 
 pub laws_open : (c : Config) (store : Store) (page : Page) → CanOpen c → CanStore c store → Laws (opening c store page)
-laws_open c store page can stores = record { reached = record { config = c; store = store; opens = can; stores = stores; page = page; events = []; run = rests }; invariant = opens c store page can stores; marks = marks_open c store page; counts = counts_open c store page; debts = debts_open c store page; rest = rest_open c store page; outings = outings_open c store page; spent = spent_open c store page; sound = sound_open c store page; ends = ends_open c store page; trail = trail_open c store page; hints = hints_open c store page; swept = swept_open c store page; redo = redo_open c store page }
+laws_open c store page can stores = record { reached = record { config = c; store = store; opens = can; stores = stores; page = page; events = []; run = rests }; invariant = opens c store page can stores; marks = marks_open c store page; counts = counts_open c store page; debts = debts_open c store page; rest = rest_open c store page; outings = outings_open c store page; spent = spent_open c store page; sound = sound_open c store page; ends = ends_open c store page; trail = trail_open c store page; hints = hints_open c store page; counters = counters_open c store page; swept = swept_open c store page; redo = redo_open c store page }
 
 pub laws : (s : State) → IsReached s → Laws s
 laws s r = laws_after r.run (laws_open r.config r.store r.page r.opens r.stores)

@@ -37,6 +37,7 @@ pub mod Outings
 pub mod PinsStay
 pub mod Promises
 pub mod Balances
+pub mod Counters
 pub mod Hints
 pub mod Trail
 pub mod Lasting
@@ -44,6 +45,8 @@ pub mod Sweeping
 pub mod Laws
 pub mod Sizes
 pub mod Always
+pub mod Residents
+pub mod Listed
 pub mod Images
 pub mod EntryBlocks
 pub mod There

@@ -29,6 +29,8 @@ use Rattle.history_core.specs.Invariant.{HistoryInvariant}
 use Rattle.history_core.specs.Laws.{Laws}
 use Rattle.history_core.specs.Hints.{FollowsHints}
 use Rattle.history_core.proofs.Balances.{balances_aside, balances_listed, balances_split, balances_joined, balances_fixed}
+use Rattle.history_core.specs.Counters.{FollowsCounters}
+use Rattle.history_core.proofs.Counters.{follows_added}
 use Rattle.history_core.proofs.Hints.{hints_same, hints_unstored, hints_stored}
 use Rattle.history_core.specs.Redo.{IsHighestRaised}
 use Rattle.history_core.proofs.Redo.{highest_more, highest_is as redo_is}
@@ -95,7 +97,7 @@ moves frame views m i f v w fr' there l g h = let was = λ (is : h ≡ f). ap (�
     let left = λ (is : h ≡ f). ap (λ (x : Frame). g x.word) (put_at frame f fr' h is) in let else = λ (n : h ≢ f). ap (λ (x : Frame). g x.word) (put_else frame f fr' h n) in ⊎_elim
     (λ (x : (fr'.word ≡ (frame f).word) × (w.changes ≡ v.changes)). let y = balances_aside (m g h) i v w there x.1 in dite (ℕ_discrete h f)
     (λ is. record { sums = omega (arith, y.sums, was is, left is, ap g x.0) }) (λ n. record { sums = omega (arith, y.sums, else n) }))
-    (λ (x : w.changes ≡ v.changes ++ record { frame = f; found = (frame f).word; left = fr'.word } ∷ []). balances_listed (m g h) i v w (record { frame = f; found = (frame f).word; left = fr'.word }) (g (put frame f fr' h).word) there x (λ is. (was is, left is)) else)
+    (λ (x : w.changes ≡ v.changes ++ record { frame = f; found = (frame f).word; left = fr'.word } ∷ []). balances_listed (m g h) i v w (record { frame = f; found = (frame f).word; left = fr'.word }) (g (put frame f fr' h).word) there x (λ is. omega (arith, was is, left is)) else)
     l.is
 
 pools_trail : (s : State) → Follows s.pool.core.frame s.pool.core.views → {e : pin_steps.Event} {core' : pins.State} → pin_steps.Step e s.pool.core core' → Follows core'.frame core'.views
@@ -236,7 +238,7 @@ words_fixed frame frame' views a b f = same_measures (frame f).word (frame' f).w
 
 -- where one view lists one change more, of a frame's word as it was, the frame has the word that was left
 pub next_word : (frame frame' : ℕ → Frame) (views : List View) (i f : ℕ) (v w : View) (found left : StateWord) → Follows frame views → Follows frame' (set views i w) → get_elem? views i ≡ some v → w.changes ≡ v.changes ++ record { frame = f; found = found; left = left } ∷ [] → found ≡ (frame f).word → (frame' f).word ≡ left
-next_word frame frame' views i f v w found left m m' there listed was = same_measures (frame' f).word left (λ g. balances_fixed (m' g f) (balances_listed (m g f) i v w (record { frame = f; found = found; left = left }) (g left) there listed (λ _. (ap g was, refl)) (λ n. absurd (n refl))))
+next_word frame frame' views i f v w found left m m' there listed was = same_measures (frame' f).word left (λ g. balances_fixed (m' g f) (balances_listed (m g f) i v w (record { frame = f; found = found; left = left }) (g left) there listed (λ _. omega (arith, ap g was)) (λ n. absurd (n refl))))
 
 -- and the other frames have theirs
 pub other_word : (frame frame' : ℕ → Frame) (views : List View) (i f : ℕ) (v w : View) (c : WordChange) → Follows frame views → Follows frame' (set views i w) → get_elem? views i ≡ some v → w.changes ≡ v.changes ++ c ∷ [] → f ≢ c.frame → (frame' f).word ≡ (frame f).word
@@ -261,6 +263,7 @@ words_same s t a b same = record {
   hand = b.trail.hand ∙ ap (λ (l : List View). Ticks l % 18446744073709551616) (sym same) ∙ sym a.trail.hand;
   flushed = highest_is t.flushed s.flushed t.pool.core.views b.trail.flushed (subst (IsHighest s.flushed) same a.trail.flushed);
   redo = λ base. redo_is t.log.base t.redo s.redo t.pool.core.views b.redo.highest (subst (λ (n : ℕ). IsHighestRaised n s.redo t.pool.core.views) (sym base) (subst (IsHighestRaised s.log.base s.redo) same a.redo.highest));
+  counters = λ n. balances_fixed (b.counters.fixed n) (subst (FollowsCounters s.counter) same a.counters.fixed n);
   hints = hints_same t.hint s.hint t.pool.core.views b.hints.fixed (subst (FollowsHints s.hint) same a.hints.fixed);
 }
 
@@ -276,6 +279,8 @@ listed_made s t a b i v w there views = let words : Follows t.pool.core.frame (s
       (highest_more s.log.base s.redo s.redo s.pool.core.views a.redo.highest i v w [] there (same ∙ sym (append-nil v.redo_raised)) (omega arith) (λ k r at. absurd (some-ne-none r (sym at))) (inl refl)));
   raised_redo = λ base r more. redo_is t.log.base t.redo (max s.redo r) (set s.pool.core.views i w) (subst (IsHighestRaised t.log.base t.redo) views b.redo.highest) (subst (λ (n : ℕ). IsHighestRaised n (max s.redo r) (set s.pool.core.views i w)) (sym base)
       (highest_more s.log.base s.redo (max s.redo r) s.pool.core.views a.redo.highest i v w (r ∷ []) there more (omega arith) (λ k q at. one_low s.redo r q k at) (which s.redo r)));
+  unadded = λ same n. balances_fixed (subst (FollowsCounters t.counter) views b.counters.fixed n) (balances_aside (a.counters.fixed n) i v w there same);
+  added = λ p listed n. balances_fixed (subst (FollowsCounters t.counter) views b.counters.fixed n) (follows_added s.counter s.pool.core.views a.counters.fixed i v w p there listed n);
   unstored = λ same. hints_unstored s.hint t.hint s.pool.core.views a.hints.fixed i v w there (subst (FollowsHints t.hint) views b.hints.fixed) same;
   stored = λ h listed was. hints_stored s.hint t.hint s.pool.core.views a.hints.fixed i v w h there (subst (FollowsHints t.hint) views b.hints.fixed) listed was;
 }

@@ -10,6 +10,7 @@ use Rattle.history_core.specs.Spent.{SpentLaw}
 use Rattle.history_core.specs.Ends.{EndsLaw}
 use Rattle.history_core.specs.Sound.{SoundLaw}
 use Rattle.history_core.specs.Trail.{TrailLaw}
+use Rattle.history_core.specs.Counters.{CountersLaw}
 use Rattle.history_core.specs.Hints.{HintsLaw}
 use Rattle.history_core.specs.Histories.{IsReached}
 use Rattle.history_core.specs.Swept.{SweptLaw}
@@ -40,6 +41,8 @@ pub record Laws (s : State) : Type 0 where
   pub trail : TrailLaw s
   -- of the hint words, which name frames that are there, and which the views fix
   pub hints : HintsLaw s
+  -- of the counters, which the views fix
+  pub counters : CountersLaw s.counter s.pool.core.views
   -- of what the lanes' syncs have covered
   pub swept : SweptLaw s
   -- of the redo position, which the views fix, and of what entries of ranges follow

@@ -26,7 +26,9 @@ pub mod History
 pub mod Outings
 pub mod Promises
 pub mod Balances
+pub mod Counters
 pub mod Hints
+pub mod Residents
 pub mod Trail
 pub mod Laws
 pub mod Lasting

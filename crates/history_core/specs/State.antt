@@ -86,6 +86,8 @@ pub record State : Type 0 where
   pub redo : ℕ
   -- the word of the clock's hand (`nextVictimBuffer`)
   pub hand : ℕ
+  -- the counters of reads, writes and evictions (`pg_stat_io`)
+  pub counter : ℕ → ℕ
   -- the hint words: each names no frame, by 0, or the frame f, by f + 1
   pub hint : ℕ → ℕ
 
@@ -179,5 +181,6 @@ opening c store p = record {
   flushed = c.base;
   redo = c.base;
   hand = 0;
+  counter = λ _. 0;
   hint = λ _. 0;
 }

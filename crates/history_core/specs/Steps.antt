@@ -10,6 +10,7 @@ use Rattle.pin_core.specs.declared.view.LaneChange.TheVariants as lane_change
 use Rattle.pin_core.specs.declared.view.LaneHold.{LaneHold}
 use Rattle.pin_core.specs.declared.view.LogHold.{LogHold}
 use Rattle.pin_core.specs.declared.view.HintStore.{HintStore}
+use Rattle.pin_core.specs.declared.view.Published.{Published}
 use Rattle.pin_core.specs.declared.view.Load.{Load}
 use Rattle.pin_core.specs.declared.view.LoadedWord.{LoadedWord}
 use Rattle.pin_core.specs.declared.view.LoadedWord.TheVariants as seen
@@ -28,7 +29,7 @@ use Rattle.page_core.specs.Steps as page_steps
 use Rattle.page_core.specs.Steps.{logged_after}
 use Rattle.history_core.specs.Log.{Entry, Span, Change, image, ranges, resize, AreRanges, MayMake, change_size, record_bytes, with_spans}
 use Rattle.history_core.specs.State.{State, last_position}
-use Rattle.history_core.specs.Words.{Word, flushed_word, redo_word, hand_word, hint_word, word_of, WordKind, load_end, begin_checkpoint, load_flushed, raise_flushed, load_redo, raise_redo, load_hand, add_hand, load_hint, store_hint, word_at, WordAllowed, number_after, word_set}
+use Rattle.history_core.specs.Words.{Word, flushed_word, redo_word, hand_word, counter_word, hint_word, word_of, WordKind, load_end, begin_checkpoint, load_flushed, raise_flushed, load_redo, raise_redo, load_hand, add_hand, load_counter, add_counter, load_hint, store_hint, word_at, WordAllowed, number_after, word_set}
 use Rattle.history_core.specs.Lanes.{LaneKind, read_block, fail_read, write_block, fail_write, lane_back, LaneAllowed, lane_after, lane_changed, swept_by}
 use Rattle.history_core.specs.Device.{LogKind, append, fail_append, LogAllowed, device_after, view_logged}
 use Rattle.grid.specs.Shape.{put}
@@ -256,6 +257,7 @@ seen_by begin_checkpoint found = Some (seen.LogEnd found)
 seen_by load_flushed found = Some (seen.Flushed found)
 seen_by load_redo found = Some (seen.Redo found)
 seen_by load_hand found = Some (seen.Hand found)
+seen_by (load_counter number) found = Some (seen.Count number found)
 seen_by (load_hint number) found = Some (seen.Hint number found)
 seen_by _ found = None
 
@@ -314,6 +316,11 @@ abbrev pub hints_by : WordKind → ℕ → List HintStore → List HintStore
 hints_by (store_hint number value) found hs = hs ++ record { number = number; found = found; left = value } ∷ []
 hints_by _ found hs = hs
 
+-- it lists what was added to a counter
+abbrev pub published_by : WordKind → List Published → List Published
+published_by (add_counter number more) ps = ps ++ record { count = number; more = more } ∷ []
+published_by _ ps = ps
+
 -- What a kind makes of the view, where the log ends at `end`
 abbrev pub view_after_word : WordKind → ℕ → ℕ → View → View
 view_after_word k found end v = record v {
@@ -327,6 +334,7 @@ view_after_word k found end v = record v {
   ticks = ticks_by k v.ticks;
   loads = loads_with (seen_by k found) v;
   hints = hints_by k found v.hints;
+  published = published_by k v.published;
   upto = upto_by k found v.upto;
 }
 
@@ -342,7 +350,7 @@ has_raised end v = view_after_word raise_flushed end end v
 
 -- The state where backend i has the view w, and the word has the number, unless it is the log's end, which no kind changes
 abbrev pub state_set : Word → ℕ → State → ℕ → View → State
-state_set at number s i w = record s { pool = aside s.pool i w; flushed = word_set at number s flushed_word; redo = word_set at number s redo_word; hand = word_set at number s hand_word; hint = λ j. word_set at number s (hint_word j) }
+state_set at number s i w = record s { pool = aside s.pool i w; flushed = word_set at number s flushed_word; redo = word_set at number s redo_word; hand = word_set at number s hand_word; counter = λ j. word_set at number s (counter_word j); hint = λ j. word_set at number s (hint_word j) }
 
 abbrev pub state_after_word : WordKind → State → ℕ → View → State
 state_after_word k s i v = state_set (word_at k) (number_after k s) s i (after_word k s v)

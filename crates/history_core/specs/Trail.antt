@@ -5,6 +5,7 @@ use lib.ListN.{get_elem?}
 use Rattle.state_word.specs.declared.word.StateWord.{StateWord}
 use Rattle.pin_core.specs.declared.view.View.{View}
 use Rattle.pin_core.specs.declared.view.HintStore.{HintStore}
+use Rattle.pin_core.specs.declared.view.Published.{Published}
 use Rattle.pin_core.specs.declared.view.WordChange.{WordChange}
 use Rattle.pin_core.specs.State.{Frame, zero_word}
 use Rattle.history_core.specs.Balances.{Balances}
@@ -31,12 +32,13 @@ pub record TrailLaw (s : State) : Type 0 where
   -- the flushed position
   pub flushed : IsHighest s.flushed s.pool.core.views
 
--- The frames of two states have the same state words, the hand stands at the same place, and the flushed position and the hint words are the same; so is the redo position, where the logs begin at one place
+-- The frames of two states have the same state words, the hand stands at the same place, and the flushed position, the counters and the hint words are the same; so is the redo position, where the logs begin at one place
 pub record HasSameWords (s t : State) : Type 0 where
   pub words : (f : ℕ) → (t.pool.core.frame f).word ≡ (s.pool.core.frame f).word
   pub hand : t.hand ≡ s.hand
   pub flushed : t.flushed ≡ s.flushed
   pub redo : t.log.base ≡ s.log.base → t.redo ≡ s.redo
+  pub counters : (number : ℕ) → t.counter number ≡ s.counter number
   pub hints : (number : ℕ) → t.hint number ≡ s.hint number
 
 -- What one view, which was v in the state s and is w in the state t, lists and counts since has been made, and nothing else
@@ -55,6 +57,10 @@ pub record MakesListed (s t : State) (v w : View) : Type 0 where
   -- where the logs begin at one place, the redo position is as it was where the view raised it nowhere more, and where it raised it once more the larger of what it was and of that
   pub unraised : t.log.base ≡ s.log.base → w.redo_raised ≡ v.redo_raised → t.redo ≡ s.redo
   pub raised_redo : t.log.base ≡ s.log.base → (r : ℕ) → w.redo_raised ≡ v.redo_raised ++ r ∷ [] → t.redo ≡ max s.redo r
+  -- where it lists no addition to a counter more each counter is as it was
+  pub unadded : w.published ≡ v.published → (number : ℕ) → t.counter number ≡ s.counter number
+  -- where it lists one more, the counter has risen by what was added, and no other has changed
+  pub added : (p : Published) → w.published ≡ v.published ++ p ∷ [] → (number : ℕ) → t.counter number ≡ put s.counter p.count (s.counter p.count + p.more) number
   -- where it lists no store of a hint word more each hint word is as it was
   pub unstored : w.hints ≡ v.hints → (number : ℕ) → t.hint number ≡ s.hint number
   -- where it lists one more, which found the word's value, the word has the value left, and no other hint word changed

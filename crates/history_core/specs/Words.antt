@@ -1,15 +1,25 @@
 -- The words of the table that no frame and no latch has, and the kinds of step at one.
-use Rattle.std.specs.Prelude.{◌≡◌, ℕ, ◌*◌, ◌<◌, ◌≤◌, Bool, true, false, max, nat_eq, Some, if◌then◌else◌}
+use Rattle.std.specs.Prelude.{◌≡◌, ℕ, ◌+◌, ◌*◌, ◌<◌, ◌≤◌, Bool, true, false, max, nat_eq, Some, if◌then◌else◌}
 use Rattle.pin_core.specs.declared.view.View.{View}
+use Rattle.history_core.specs.Balances.{added_to}
 use Rattle.history_core.specs.State.{State, next_hand}
 
--- the log's end, the position up to which the log is flushed, the redo position (`RedoRecPtr`), the clock's hand (`nextVictimBuffer`), and the hint words by their numbers
+-- the log's end, the position up to which the log is flushed, the redo position (`RedoRecPtr`), the clock's hand (`nextVictimBuffer`), the counters (`pg_stat_io`) and the hint words by their numbers
 pub data Word : Type 0 where
   end_word : Word
   flushed_word : Word
   redo_word : Word
   hand_word : Word
+  counter_word : ℕ → Word
   hint_word : ℕ → Word
+
+-- how many counters there are: the five of each context
+abbrev pub counter_count : ℕ
+counter_count = 20
+
+-- the most that one backend may add to a counter
+abbrev pub last_published : ℕ
+last_published = 281474976710655
 
 -- how many hint words a table of n frames has
 abbrev pub hint_count : ℕ → ℕ
@@ -21,6 +31,7 @@ is_word end_word end_word = true
 is_word flushed_word flushed_word = true
 is_word redo_word redo_word = true
 is_word hand_word hand_word = true
+is_word (counter_word a) (counter_word b) = nat_eq a b
 is_word (hint_word a) (hint_word b) = nat_eq a b
 is_word _ _ = false
 
@@ -30,16 +41,18 @@ pub record Words : Type 0 where
   pub flushed : ℕ
   pub redo : ℕ
   pub hand : ℕ
+  pub counter : ℕ → ℕ
   pub hint : ℕ → ℕ
 
 abbrev pub words_of : State → Words
-words_of s = record { end = s.end; flushed = s.flushed; redo = s.redo; hand = s.hand; hint = s.hint }
+words_of s = record { end = s.end; flushed = s.flushed; redo = s.redo; hand = s.hand; counter = s.counter; hint = s.hint }
 
 abbrev pub word_in : Word → Words → ℕ
 word_in end_word w = w.end
 word_in flushed_word w = w.flushed
 word_in redo_word w = w.redo
 word_in hand_word w = w.hand
+word_in (counter_word number) w = w.counter number
 word_in (hint_word number) w = w.hint number
 
 -- the number that a word has
@@ -59,6 +72,9 @@ pub data WordKind : Type 0 where
   -- the clock's hand is loaded, and moves on (`ClockSweepTick`)
   load_hand : WordKind
   add_hand : WordKind
+  -- the counter of this number is loaded, and rises by so much
+  load_counter : ℕ → WordKind
+  add_counter : ℕ → ℕ → WordKind
   -- the hint word of this number is loaded, and gets a value
   load_hint : ℕ → WordKind
   store_hint : ℕ → ℕ → WordKind
@@ -73,14 +89,18 @@ word_at load_redo = redo_word
 word_at raise_redo = redo_word
 word_at load_hand = hand_word
 word_at add_hand = hand_word
+word_at (load_counter number) = counter_word number
+word_at (add_counter number more) = counter_word number
 word_at (load_hint number) = hint_word number
 word_at (store_hint number value) = hint_word number
 
--- the flushed position is raised under the log's latch, after a sync; the redo position is loaded under that latch, and raised once the log's end was loaded under it; the hint word is there, and the value names no frame or one that is there
+-- the flushed position is raised under the log's latch, after a sync; the redo position is loaded under that latch, and raised once the log's end was loaded under it; the counter is there, and what the backend adds to it stays within bounds; the hint word is there, and the value names no frame or one that is there
 abbrev pub WordAllowed : WordKind → State → View → Type 0
 WordAllowed raise_flushed s v = v.log.synced ≡ true
 WordAllowed load_redo s v = v.log.held ≡ true
 WordAllowed raise_redo s v = v.log.end ≡ Some s.end
+WordAllowed (load_counter number) s v = number < counter_count
+WordAllowed (add_counter number more) s v = (number < counter_count) × (added_to number v + more ≤ last_published)
 WordAllowed (load_hint number) s v = number < hint_count s.pool.core.frames
 WordAllowed (store_hint number value) s v = (number < hint_count s.pool.core.frames) × (value ≤ s.pool.core.frames)
 WordAllowed _ s v = Unit {0}
@@ -90,6 +110,7 @@ abbrev pub number_after : WordKind → State → ℕ
 number_after raise_flushed s = max s.flushed s.end
 number_after raise_redo s = max s.redo s.end
 number_after add_hand s = next_hand s.hand
+number_after (add_counter number more) s = s.counter number + more
 number_after (store_hint number value) s = value
 number_after k s = word_of (word_at k) s
 

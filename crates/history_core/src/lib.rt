@@ -21,6 +21,8 @@ ghost use Rattle.history_core.specs.Sizes.{BlocksThere};
 ghost use Rattle.history_core.specs.Unentered.{DirtyHaveEntries, WrittenHaveEntries};
 ghost use Rattle.history_core.specs.Crashes.{CrashesRedo};
 ghost use Rattle.history_core.specs.Torn.{CrashRuns};
+ghost use Rattle.history_core.specs.Counters.{CountersAreSums};
+ghost use Rattle.history_core.specs.Residents.{LostWereCleared, PinsAreListed, ResidentsStay};
 ghost use Rattle.history_core.specs.Trail.{HasSameWords, ListedIsMade};
 ghost use Rattle.history_core.specs.Steps.{Event, Run};
 ghost use Rattle.history_core.specs.Sample.{SampleRuns};
@@ -87,8 +89,14 @@ pub fn all_histories()
     ensures unsound_first { (s : State) → Laws s → UnsoundAreFirst s }
     ensures hold_cells { (s : State) → Laws s → FramesHoldCells s }
     ensures hints { (s : State) → Laws s → HintsNameFrames s }
+    ensures residents { (s : State) → Laws s → LostWereCleared s }
+    ensures residents_stay { (s : State) → Laws s → ResidentsStay s }
+    ensures sighted { (s : State) → Laws s → PinsAreListed s }
     ensures unique { (s : State) → Laws s → TagsAreUnique s.pool.core }
     ensures remembers { (s : State) → Laws s → PinsRemember s.pool.core }
+
+    // and of the counters:
+    ensures counters { (s : State) → Laws s → CountersAreSums s }
 {}
 
 /// No block has two frames.
@@ -126,12 +134,12 @@ pub fn ends_in_history()
     ensures { (s : State) → Laws s → EndsInHistory s }
 {}
 
-/// What the views list of the changes of state words and of the stores of hint words, count of the moves of the clock's hand, and keep of where they raised the flushed position fixes each frame's state word, each hint word, where the hand stands, and the flushed position.
+/// What the views list of the changes of state words, of the stores of hint words and of what they added to the counters, count of the moves of the clock's hand, and keep of where they raised the flushed position fixes each frame's state word, each hint word, each counter, where the hand stands, and the flushed position.
 pub fn lists_fix_words()
     ensures { (s : State) (t : State) → Laws s → Laws t → s.pool.core.views ≡ t.pool.core.views → HasSameWords s t }
 {}
 
-/// A change of a state word that a view lists is made, and none that no view lists; and so with the stores of hint words, with the moves of the clock's hand, and with where the flushed position was raised to.
+/// A change of a state word that a view lists is made, and none that no view lists; and so with the stores of hint words, with what is added to the counters, with the moves of the clock's hand, and with where the flushed position was raised to.
 pub fn listed_changes_are_made()
     ensures { (s : State) (t : State) → Laws s → Laws t → ListedIsMade s t }
 {}

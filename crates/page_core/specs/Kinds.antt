@@ -16,8 +16,9 @@ use Rattle.pin_core.specs.declared.view.LoadedWord.TheVariants as seen
 use Rattle.pin_core.specs.declared.view.Link.{Link}
 use Rattle.pin_core.specs.declared.view.View.{View}
 use Rattle.pin_core.specs.State.{Frame, Page}
-use Rattle.pin_core.specs.Kinds.{released, load_of, changed}
+use Rattle.pin_core.specs.Kinds.{released, load_of, changed, sighted}
 use Rattle.pin_core.specs.declared.view.WordChange.{WordChange}
+use Rattle.pin_core.specs.declared.view.Resident.{Resident}
 use Rattle.page_layout.specs.Soundness.{is_new_page, is_sound_page}
 use Rattle.page_core.specs.State.{Block}
 
@@ -328,6 +329,16 @@ abbrev pub ended_after : Kind → Frame → Option StateWord → Option StateWor
 ended_after (end_io end) fr ended = Some (unlocked_fields (io_ended_fields end fr.word))
 ended_after _ fr ended = ended
 
+-- the blocks that the view has seen in frames, with the one that the end of a good read shows: it sets BM_VALID
+abbrev pub sighted_by : IoEnd → Option ℕ → ℕ → List Resident
+sighted_by ReadOk known f = sighted true known f
+sighted_by WriteOk known f = []
+sighted_by Bad known f = []
+
+abbrev pub residents_after : Kind → ℕ → Link → List Resident → List Resident
+residents_after (end_io end) f l rs = rs ++ sighted_by end l.tag f
+residents_after _ f l rs = rs
+
 -- what a load saw
 abbrev pub seen_by : Kind → ℕ → Frame → List LoadedWord
 seen_by load_content f fr = seen.Content f fr.sharers fr.exclusive fr.copying ∷ []
@@ -361,4 +372,5 @@ view_after k f b fr l v = record v {
   dirtied_or_synced = v.dirtied_or_synced || dirties k;
   had_output = v.had_output || starts_output k;
   last_ended = ended_after k fr v.last_ended;
+  residents = residents_after k f l v.residents;
 }

@@ -13,6 +13,7 @@ use Rattle.pin_core.specs.declared.view.LoadedWord.{LoadedWord}
 use Rattle.pin_core.specs.declared.view.LoadedWord.TheVariants as seen
 use Rattle.pin_core.specs.declared.view.Load.{Load}
 use Rattle.pin_core.specs.declared.view.WordChange.{WordChange}
+use Rattle.pin_core.specs.declared.view.Resident.{Resident}
 use Rattle.pin_core.specs.declared.view.Link.{Link}
 use Rattle.pin_core.specs.declared.view.View.{View}
 use Rattle.pin_core.specs.State.{Frame, Partition, no_tag, is_tag, hold, is_pin}
@@ -215,6 +216,27 @@ changes_after erase_tag f fr changes = changes
 changes_after load_tag f fr changes = changes
 changes_after k f fr changes = changed f fr (frame_after k fr).word changes
 
+-- how many tags the view took from frames, with the one that a kind takes
+abbrev pub cleared_after : Kind → ℕ → ℕ
+cleared_after erase_tag n = n + 1
+cleared_after _ n = n
+
+-- the blocks that were seen in frames, where those at the frame f that p refuses are gone
+abbrev pub seen_gone : (Resident → Bool) → ℕ → List Resident → List Resident
+seen_gone p f rs = map (λ (r : Resident). record r { gone = r.gone || (nat_eq r.frame f && p r) }) rs
+
+-- the block that a pin shows at the frame f, where it knows the tag and has seen BM_VALID
+abbrev pub sighted : Bool → Option ℕ → ℕ → List Resident
+sighted false known f = []
+sighted true None f = []
+sighted true (Some tag) f = record { frame = f; tag = tag; gone = false } ∷ []
+
+-- the blocks that the view has seen in frames: a load marks as gone what it shows to be another, and adds what the pin knows then
+abbrev pub residents_after : Kind → ℕ → Frame → Link → List Resident → List Resident
+residents_after load_state f fr l rs = seen_gone (λ r. not fr.word.valid) f rs ++ sighted (link_after load_state fr l).seen_valid (link_after load_state fr l).tag f
+residents_after load_tag f fr l rs = seen_gone (λ r. not (nat_eq r.tag fr.tag)) f rs ++ sighted (link_after load_tag fr l).seen_valid (link_after load_tag fr l).tag f
+residents_after _ f fr l rs = rs
+
 -- how many steps other than loads a kind is
 abbrev pub steps_of : Kind → ℕ
 steps_of load_state = 0
@@ -251,4 +273,6 @@ view_after k partition_of f fr l v = record v {
   loads = v.loads ++ map (load_of v) (seen_by k f fr);
   changes = changes_after k f fr v.changes;
   steps = v.steps + steps_of k;
+  cleared = cleared_after k v.cleared;
+  residents = residents_after k f fr l v.residents;
 }

@@ -252,6 +252,10 @@ pub enum LoadedWord {
     Hand {
         hand: u64,
     },
+    Count {
+        count: u64,
+        value: u64,
+    },
     Hint {
         number: u64,
         value: u64,

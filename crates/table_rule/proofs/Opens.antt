@@ -20,7 +20,7 @@ use Rattle.pin_core.specs.State as pin_state
 use Rattle.history_core.specs.State.{State, Store}
 use Rattle.history_core.specs.State as history
 use Rattle.history_core.specs.Log.{head_bytes, zero_page}
-use Rattle.history_core.specs.Words.{Word, end_word, flushed_word, redo_word, hand_word, hint_word, hint_count, word_of}
+use Rattle.history_core.specs.Words.{Word, end_word, flushed_word, redo_word, hand_word, counter_word, counter_count, hint_word, hint_count, word_of}
 use Rattle.history_core.proofs.Laws.{laws_open}
 use Rattle.table_rule.specs.declared.noted_log.NotedLog.{NotedLog}
 use Rattle.table_rule.specs.declared.value.Value.{Value}
@@ -96,7 +96,7 @@ module _ (words : List ℕ) (n base : ℕ) (h : AreOpening words n base) where
   in_latches i j e low = in_rest i j e ∙ get_or_append_left (replicate latch_count 0) (opening_numbers n base) 0 j low ∙ get_or-replicate latch_count j 0 0 low
 
   wide : length words ≡ word_count n
-  wide = ap (λ (l : List ℕ). length l) joined ∙ (let a = length-append h.blank behind in let b = h.frames.wide in let zero : ℕ = 0 in let c = length-replicate (hint_count n) zero in omega arith)
+  wide = ap (λ (l : List ℕ). length l) joined ∙ (let a = length-append h.blank behind in let b = h.frames.wide in let zero : ℕ = 0 in let c = length-replicate (counter_count + hint_count n) zero in omega arith)
 
   shows_blank : (f : ℕ) (p : Page) → f < n → ShowsFrame words f (empty_frame p)
   shows_blank f p below = let s = in_frames (8 * f) (omega arith) ∙ h.frames.states f below in let t = in_frames (8 * f + 1) (omega arith) ∙ h.frames.tags f below in let c = in_frames (8 * f + 2) (omega arith) ∙ h.frames.contents f below in record {
@@ -321,9 +321,12 @@ module _ {L G : Type 0} (d : Devices L G) (o : Opening L G) where
   said_first words w flushed_word has = in_rest words n o.base w (word_place n flushed_word) (word_place 0 flushed_word) refl
   said_first words w hand_word has = in_rest words n o.base w (word_place n hand_word) (word_place 0 hand_word) refl
   said_first words w redo_word has = in_rest words n o.base w (word_place n redo_word) (word_place 0 redo_word) refl
+  said_first words w (counter_word j) has = in_rest words n o.base w (word_place n (counter_word j)) (word_place 0 (counter_word j)) (omega arith)
+      ∙ get_or-append_right (replicate latch_count 0) (opening_numbers n o.base) latch_count (word_place 0 (counter_word j)) 0 (length-replicate {A = ℕ} latch_count 0) (omega arith)
+      ∙ ap (λ (i : ℕ). get_or (opening_numbers n o.base) i 0) {x = word_place 0 (counter_word j) - latch_count} {y = suc (suc (suc (suc j)))} (omega arith) ∙ get_or-replicate (counter_count + hint_count n) j 0 0 (omega arith)
   said_first words w (hint_word j) has = in_rest words n o.base w (word_place n (hint_word j)) (word_place 0 (hint_word j)) (omega arith)
       ∙ get_or-append_right (replicate latch_count 0) (opening_numbers n o.base) latch_count (word_place 0 (hint_word j)) 0 (length-replicate {A = ℕ} latch_count 0) (omega arith)
-      ∙ ap (λ (i : ℕ). get_or (opening_numbers n o.base) i 0) {x = word_place 0 (hint_word j) - latch_count} {y = suc (suc (suc (suc j)))} (omega arith) ∙ get_or-replicate (hint_count n) j 0 0 has
+      ∙ ap (λ (i : ℕ). get_or (opening_numbers n o.base) i 0) {x = word_place 0 (hint_word j) - latch_count} {y = suc (suc (suc (suc (counter_count + j))))} (omega arith) ∙ get_or-replicate (counter_count + hint_count n) (counter_count + j) 0 0 (omega arith)
 
   pub opens_there : (words : List ℕ) (ys : List (Value L G)) → AreOpening words o.config.frames o.base → AreSlots o.config.frames o.lanes.value.items o.log.value ys → 0 < o.config.passes → o.config.passes ≤ 64 → 0 < o.config.lanes → length o.lanes.value.items ≡ o.config.lanes
       → o.base ≤ 4611686018427387904 → AreLanes d o.catalog.value o.lanes.value.items → IsNewLog {L = L} {G = G} d o.base o.log.value → RuleHolds d o (opening words ys (starting o))

@@ -3,7 +3,7 @@ use Rattle.std.proofs.Common.{◌≡◌, ◌≢◌, ◌⊎◌, ℕ, ◌+◌, ◌
 use mathlib.Core.Logic.{dite}
 use native.Mathlib.Decide.{ℕ_discrete}
 use Rattle.history_core.specs.State.{State}
-use Rattle.history_core.specs.Words.{Word, end_word, flushed_word, redo_word, hand_word, hint_word, is_word, word_of, word_set}
+use Rattle.history_core.specs.Words.{Word, end_word, flushed_word, redo_word, hand_word, counter_word, hint_word, is_word, word_of, word_set}
 use Rattle.table_rule.specs.declared.turn.Turn.{Turn}
 use Rattle.table_rule.specs.declared.turn.Turn.TheVariants as turn
 use Rattle.table_rule.specs.Layout.{latch_place, first_word, word_place, word_count, HasWord}
@@ -28,8 +28,11 @@ one_or_apart n end_word end_word has also = inl (refl, refl)
 one_or_apart n flushed_word flushed_word has also = inl (refl, refl)
 one_or_apart n hand_word hand_word has also = inl (refl, refl)
 one_or_apart n redo_word redo_word has also = inl (refl, refl)
-one_or_apart n (hint_word a) (hint_word b) has also = dite (ℕ_discrete a b)
+one_or_apart n (counter_word a) (counter_word b) has also = dite (ℕ_discrete a b)
     (λ e. inl (eq-eqb a b e, ap (λ (k : ℕ). 8 * n + 149 + k) e))
+    (λ o. inr (ne_eqb a b o, λ e. o (omega arith)))
+one_or_apart n (hint_word a) (hint_word b) has also = dite (ℕ_discrete a b)
+    (λ e. inl (eq-eqb a b e, ap (λ (k : ℕ). 8 * n + 169 + k) e))
     (λ o. inr (ne_eqb a b o, λ e. o (omega arith)))
 one_or_apart n _ _ has also = inr (refl, λ e. omega arith)
 

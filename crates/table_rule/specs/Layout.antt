@@ -2,7 +2,7 @@
 use Rattle.std.specs.Prelude.{ℕ, ◌+◌, ◌*◌, ◌<◌, List, ◌∷◌, replicate, Option, Some, None}
 use Rattle.block_tag.specs.declared.tag.Tag.{Tag}
 use Rattle.block_tag.specs.Names.{unpacked_tag, partition_number, lane_number}
-use Rattle.history_core.specs.Words.{Word, end_word, flushed_word, redo_word, hand_word, hint_word, hint_count}
+use Rattle.history_core.specs.Words.{Word, end_word, flushed_word, redo_word, hand_word, counter_word, counter_count, hint_word, hint_count}
 use Rattle.table_rule.specs.declared.turn.Place.{Place}
 use Rattle.table_rule.specs.declared.turn.Place.TheVariants.{Page, Of}
 use Rattle.table_rule.specs.declared.turn.Turn.{Turn}
@@ -36,19 +36,21 @@ word_place n end_word = 8 * n + 145
 word_place n flushed_word = 8 * n + 146
 word_place n hand_word = 8 * n + 147
 word_place n redo_word = 8 * n + 148
-word_place n (hint_word number) = 8 * n + 149 + number
+word_place n (counter_word number) = 8 * n + 149 + number
+word_place n (hint_word number) = 8 * n + 169 + number
 
 abbrev pub word_count : ℕ → ℕ
-word_count n = 8 * n + 149 + hint_count n
+word_count n = 8 * n + 169 + hint_count n
 
 -- which of them a table of n frames has
 abbrev pub HasWord : ℕ → Word → Type 0
+HasWord n (counter_word number) = number < counter_count
 HasWord n (hint_word number) = number < hint_count n
 HasWord n _ = Unit {0}
 
 -- and their numbers at the start of a log at `base`, in the order of their places
 abbrev pub opening_numbers : ℕ → ℕ → List ℕ
-opening_numbers n base = base ∷ base ∷ 0 ∷ base ∷ replicate (hint_count n) 0
+opening_numbers n base = base ∷ base ∷ 0 ∷ base ∷ replicate (counter_count + hint_count n) 0
 
 -- the words of the log: its end, and how far it is flushed
 abbrev pub end_place : ℕ → ℕ
@@ -64,6 +66,10 @@ hand_place n = word_place n hand_word
 -- the redo position
 abbrev pub redo_place : ℕ → ℕ
 redo_place n = word_place n redo_word
+
+-- the counter of this number
+abbrev pub counter_place : ℕ → ℕ → ℕ
+counter_place n number = word_place n (counter_word number)
 
 -- the hint word of this number
 abbrev pub hint_place : ℕ → ℕ → ℕ

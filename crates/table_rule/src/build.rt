@@ -8,7 +8,7 @@ ghost use Rattle.table_rule.specs.declared.value.Value.TheVariants as value;
 ghost use Rattle.table_rule.specs.Layout.{slot_count};
 ghost use Rattle.table_rule.specs.Laid.{AddsMaps, AreBlank, AreFresh, AreOpening, AreSlots, EndsWith, HasNoDevices, IsRoom, home_lanes, lanes_among};
 
-use crate::layout::{HINTS_PER_FRAME, LOG_PLACE};
+use crate::layout::{COUNTERS, HINTS_PER_FRAME, LOG_PLACE};
 use crate::noted_lane::NotedLane;
 use crate::noted_log::{NotedLog, RECORD_SIZE};
 use crate::value::{Mapped, Value};
@@ -55,7 +55,10 @@ pub fn opening_words(alloc: Global, frames: u32, base: u64) -> Result<Vec<u64>, 
     words.push(base)?;
     words.push(0)?;
     words.push(base)?;
-    add_zeros(&mut words, HINTS_PER_FRAME as usize * frames as usize)?;
+    add_zeros(
+        &mut words,
+        COUNTERS as usize + HINTS_PER_FRAME as usize * frames as usize,
+    )?;
     Ok(words)
 }
 

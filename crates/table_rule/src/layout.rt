@@ -13,6 +13,9 @@ pub const FIRST_LANE: usize = PARTITIONS as usize;
 /// Where the log's latch and slot lie after those of the frames: after the lanes'.
 pub const LOG_PLACE: usize = FIRST_LANE + MOST_LANES;
 
+/// How many counters there are: hits, reads, writes, evictions and reuses, without a ring and for each of the three kinds of ring.
+pub const COUNTERS: u32 = 20;
+
 /// How many hint words there are for each frame.
 pub const HINTS_PER_FRAME: u32 = 4;
 
@@ -68,9 +71,16 @@ pub fn redo_place(frames: u32) -> usize
     8 * frames as usize + LOG_PLACE + 4
 }
 
+/// The place of a counter.
+pub fn counter_place(frames: u32, number: u32) -> usize
+    ensures { result ≡ layout.counter_place frames number }
+{
+    8 * frames as usize + LOG_PLACE + 5 + number as usize
+}
+
 /// The place of a hint word.
 pub fn hint_place(frames: u32, number: u32) -> usize
     ensures { result ≡ layout.hint_place frames number }
 {
-    8 * frames as usize + LOG_PLACE + 5 + number as usize
+    8 * frames as usize + LOG_PLACE + 5 + COUNTERS as usize + number as usize
 }

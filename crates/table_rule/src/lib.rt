@@ -20,8 +20,8 @@ pub use build::{Room, opening_words, take_back};
 pub use closing::take_closed;
 pub use config::Config;
 pub use layout::{
-    FIRST_LANE, HINTS_PER_FRAME, LOG_PLACE, OTHER_SLOTS, content_place, end_place, flushed_place,
-    hand_place, hint_place, redo_place, state_place, tag_place,
+    COUNTERS, FIRST_LANE, HINTS_PER_FRAME, LOG_PLACE, OTHER_SLOTS, content_place, counter_place,
+    end_place, flushed_place, hand_place, hint_place, redo_place, state_place, tag_place,
 };
 pub use noted_lane::{LaneCall, NotedLane};
 pub use noted_log::{LogCall, NotedLog, RECORD_SIZE};

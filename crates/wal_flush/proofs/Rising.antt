@@ -33,7 +33,7 @@ turn_rises takes v w d = rises_ticked v w (ap listed_of d.after) (ap (λ (x : Vi
 -- loads of the log's words
 pub end_rises : (found : ℕ) (v w : View) → DidWord load_end v w found → OnlyRises v w
 end_rises found v w d = rises_by v w
-    (grows_loads (load_of v (seen.LogEnd found) ∷ []) v w (ap (λ (x : View). x.loads) d.after) (ap (λ (x : View). x.changes) d.after) (let e = ap (λ (x : View). x.steps) d.after in omega arith))
+    (grows_loads (load_of v (seen.LogEnd found) ∷ []) v w (ap (λ (x : View). x.loads) d.after) (ap (λ (x : View). x.changes) d.after) (ap (λ (x : View). x.residents) d.after) (let e = ap (λ (x : View). x.steps) d.after in omega arith))
     (ap (λ (x : View). x.lanes) d.after)
     (let e = ap (λ (x : View). x.end_seen) d.after in omega arith)
     (let e = ap (λ (x : View). x.flushed) d.after in omega arith)
@@ -41,7 +41,7 @@ end_rises found v w d = rises_by v w
 
 pub flushed_rises : (found : ℕ) (v w : View) → DidWord load_flushed v w found → OnlyRises v w
 flushed_rises found v w d = rises_by v w
-    (grows_loads (load_of v (seen.Flushed found) ∷ []) v w (ap (λ (x : View). x.loads) d.after) (ap (λ (x : View). x.changes) d.after) (let e = ap (λ (x : View). x.steps) d.after in omega arith))
+    (grows_loads (load_of v (seen.Flushed found) ∷ []) v w (ap (λ (x : View). x.loads) d.after) (ap (λ (x : View). x.changes) d.after) (ap (λ (x : View). x.residents) d.after) (let e = ap (λ (x : View). x.steps) d.after in omega arith))
     (ap (λ (x : View). x.lanes) d.after)
     (let e = ap (λ (x : View). x.end_seen) d.after in omega arith)
     (let e = ap (λ (x : View). x.flushed) d.after in let below = flushed_below v w found d in omega arith)
@@ -62,7 +62,7 @@ module _ (relations : List RelEntry) (f : ℕ) (tag : Tag) where
   enters_rise start p v w e = let a = e.appends in rises_on v e.home w
       (rises_on v a.out e.home (of_out OnlyRises rising v a.out a.went) (of_two OnlyRises rising _ _ a.out e.home a.did))
       (rises_by e.home w
-      (grows_steps e.home w (ap (λ (x : View). x.loads) e.after) (ap (λ (x : View). x.changes) e.after) (let d = ap (λ (x : View). x.steps) e.after in omega arith))
+      (grows_steps e.home w (ap (λ (x : View). x.loads) e.after) (ap (λ (x : View). x.changes) e.after) (ap (λ (x : View). x.residents) e.after) (let d = ap (λ (x : View). x.steps) e.after in omega arith))
       (ap (λ (x : View). x.lanes) e.after)
       (let d = ap (λ (x : View). x.end_seen) e.after in omega arith)
       (let d = ap (λ (x : View). x.flushed) e.after in omega arith)

@@ -10,6 +10,9 @@ use Rattle.history_core.proofs.EntryBlocks.{entries_of_blocks}
 use Rattle.history_core.proofs.There.{blocks_are_there}
 use Rattle.history_core.proofs.Covered.{syncs_cover}
 use Rattle.history_core.proofs.Crashes.{dirty_have, written_have, crashes_redo}
+use Rattle.history_core.proofs.Counters.{counters_sums}
+use Rattle.history_core.proofs.Residents.{residents_stay, lost_cleared}
+use Rattle.history_core.proofs.Listed.{pins_listed}
 use Rattle.history_core.proofs.all_histories.Goals as goal
 
 pub returns-clause-holds_keep : goal.returns-clause-holds_keep
@@ -146,3 +149,15 @@ returns-clause-crashes c = crashes_redo
 
 pub returns-clause-hints : goal.returns-clause-hints
 returns-clause-hints c = λ s r. r.hints.named
+
+pub returns-clause-counters : goal.returns-clause-counters
+returns-clause-counters c = counters_sums
+
+pub returns-clause-residents : goal.returns-clause-residents
+returns-clause-residents c = lost_cleared
+
+pub returns-clause-residents_stay : goal.returns-clause-residents_stay
+returns-clause-residents_stay c = residents_stay
+
+pub returns-clause-sighted : goal.returns-clause-sighted
+returns-clause-sighted c = pins_listed

@@ -55,5 +55,5 @@ returns-clause-keeps g c =
     let st = c.store_tag.ensures in
     let d = c.assign.ensures in
     let e = c.enter.ensures in
-    keeps_changed (partition_number c.args.tag) c.args.frame c.requires.stands c.requires.latch (at_frame k.seat c.args.frame k.touches k.marks k.locked.content) k.touches.partitions (at_tag st.seat c.args.frame st.stores st.marks (ap (λ (x : Link). x.content) st.stored)) c.store_tag.ensures.names
+    keeps_changed (partition_number c.args.tag) c.args.frame c.requires.stands c.requires.latch (at_frame k.seat c.args.frame k.touches k.marks k.locked.content) k.touches.partitions (at_tag st.seat c.args.frame st.stores st.cleared st.marks (ap (λ (x : Link). x.content) st.stored)) c.store_tag.ensures.names
     (at_frame d.seat c.args.frame d.touches d.marks (ap (λ (x : Link). x.content) d.assigned)) d.touches.partitions e.seat e.work e.grows e.step

@@ -1,4 +1,4 @@
-use Rattle.std.proofs.Common.{ℕ, sym, subst}
+use Rattle.std.proofs.Common.{ℕ, rules, sym, subst}
 use Rattle.pin_core.specs.State.{link}
 use Rattle.page_core.specs.Kinds as kinds
 use Rattle.frame_table.specs.FrameSteps.{Did}
@@ -84,3 +84,16 @@ returns-clause-stands g c =
     let b = c.tag_shown-tag.ensures in
     let e = c.need_checkpoint.ensures in
     stands_self _ c.tag_shown-tag.new.seat c.need_checkpoint.new.seat e.seat e.touches.self (stands_self _ c.lock_header-word.new.seat c.tag_shown-tag.new.seat b.seat b.touches.self (stands_self _ c.args.seat.now c.lock_header-word.new.seat a.seat a.touches.self c.requires.stands))
+
+pub returns-then-not-has-clause-clean : goal.returns-then-not-has-clause-clean
+returns-then-not-has-clause-clean g c = record {
+  word = c.look.result;
+  looks = record {
+    before = c.lock_header-word.new.seat.me.0;
+    after = c.look.new.seat.me.0;
+    since = rises_touched c.args.frame _ _ c.lock_header-word.ensures.touches;
+    work = c.look.ensures.did;
+    until = rises_touched c.args.frame _ _ c.unlock_header.ensures.touches;
+  };
+  clean = search rules;
+}

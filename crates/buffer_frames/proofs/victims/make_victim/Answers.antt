@@ -13,10 +13,10 @@ use Rattle.buffer_frames.specs.VictimChoices.{ClearsTag, FindsInUse, IsDirtied, 
 use Rattle.buffer_frames.specs.Working.{IsFlushCall, Within}
 use Rattle.buffer_frames.proofs.Answering.{error_between}
 use Rattle.buffer_frames.proofs.Noting.{calls_through, shape_answered}
-use Rattle.buffer_frames.proofs.Outside.{calls_chosen, outside_chosen, outside_searched}
+use Rattle.buffer_frames.proofs.Outside.{calls_chosen, freed_counted, freed_searched, outside_chosen, outside_searched}
 use Rattle.buffer_frames.proofs.Trying.{gives_up_now, tried}
 use Rattle.buffer_frames.proofs.WorkSteps.{made_none}
-use Rattle.buffer_frames.proofs.Keeps.{and_same, chosen_keeps, keeps_on, keeps_tagged, keeps_works, searched_keeps, same_less}
+use Rattle.buffer_frames.proofs.Keeps.{and_same, chosen_keeps, freeing_keeps, keeps_on, keeps_tagged, keeps_works, same_less}
 use Rattle.buffer_frames.proofs.victims.make_victim.Goals as goal
 
 pub returns-in_default-clause-answer : goal.returns-in_default-clause-answer
@@ -35,7 +35,7 @@ returns-then-erase-clause-answer g c = (
   subst (λ (f : ℕ). HasVictim f c.args.held.now c.erase.new.seat.me.0) c.frame-frame.ensures c.erase.ensures.victim,
   emptied (tried {L = g.row.L.Denot} {G = g.row.G.Denot} g.L.BlockLane.contents c.args.table.now c.in-Ok.chosen.pin.frame c.frame-frame.result c.in-Ok.chosen.from_ring c.in-Some.tag c.tag_of_victim.result c.args.seat.now.me.0 c.choose.new.seat.me.0 c.tag_of_victim.new.seat.me.0 c.flush_victim.new.seat.me.0 _ c.choose.new.queue c.choose.new.ring c.flush_victim.new.ring c.choose.new.census (Ok Clean) c.frame-frame.ensures c.in-Some.is c.in-Ok.ensures.did c.in-Some.ensures.tag c.in-Some.ensures.block (keeps_tagged c.choose.ensures.keeps c.tag_of_victim.ensures.keeps).rises c.tag_of_victim.ensures.did (rw c.in-Ok-Clean.field-0-is at c.in-Ok-Clean.ensures.answer) c.flush_victim.ensures.works)
       (subst (λ (f : ℕ). Within (ClearsTag f) c.flush_victim.new.seat.me.0 c.erase.new.seat.me.0) c.frame-frame.ensures c.if-erase.ensures.emptied)
-      c.erase.ensures.keeps.same,
+      (freed_counted c.flush_victim.new.seat.me.0 c.erase.new.seat.me.0 _ c.erase.ensures.keeps.same c.if-erase.ensures.taken),
 )
 
 pub returns-clause-answer : goal.returns-clause-answer
@@ -47,7 +47,7 @@ returns-clause-answer g c = let u = c.give_up-2 in (
         (gives_up_now (FindsInUse IsDirtied c.in-Ok.chosen.pin.frame) c.in-Ok.chosen.pin.frame c.flush_victim.new.seat.me.0 c.erase.new.seat.me.0 u.new.seat.me.0
         (subst (λ (f : ℕ). Within (FindsInUse IsDirtied f) c.flush_victim.new.seat.me.0 c.erase.new.seat.me.0) c.frame-frame.ensures c.if-erase.ensures.in_use)
         u.ensures.did
-        (outside_searched c.erase.new.seat.me.0 u.new.seat.me.0 u.ensures.keeps.same ∙ c.erase.ensures.keeps.same)),
+        (outside_searched c.erase.new.seat.me.0 u.new.seat.me.0 u.ensures.keeps.same ∙ freed_searched c.flush_victim.new.seat.me.0 c.erase.new.seat.me.0 c.erase.ensures.keeps.same c.if-erase.ensures.untaken)),
   ),
 )
 
@@ -110,7 +110,7 @@ pub returns-in-Err-flush_victim-clause-keeps : goal.returns-in-Err-flush_victim-
 returns-in-Err-flush_victim-clause-keeps g c = let w = c.flush_victim.ensures in and_same (keeps_on (keeps_tagged c.choose.ensures.keeps c.tag_of_victim.ensures.keeps) (keeps_works c.frame-frame.result w.seat w.stands w.latches w.works c.tag_of_victim.ensures.victim.unlocked w.victim.unlocked)) (same_less c.give_up-in-Err-flush_victim.ensures.keeps) c.give_up-in-Err-flush_victim.ensures.stands c.give_up-in-Err-flush_victim.ensures.partitions
 
 pub returns-then-erase-clause-keeps : goal.returns-then-erase-clause-keeps
-returns-then-erase-clause-keeps g c = let w = c.flush_victim.ensures in keeps_on (keeps_on (keeps_tagged c.choose.ensures.keeps c.tag_of_victim.ensures.keeps) (keeps_works c.frame-frame.result w.seat w.stands w.latches w.works c.tag_of_victim.ensures.victim.unlocked w.victim.unlocked)) (searched_keeps c.erase.ensures.keeps)
+returns-then-erase-clause-keeps g c = let w = c.flush_victim.ensures in keeps_on (keeps_on (keeps_tagged c.choose.ensures.keeps c.tag_of_victim.ensures.keeps) (keeps_works c.frame-frame.result w.seat w.stands w.latches w.works c.tag_of_victim.ensures.victim.unlocked w.victim.unlocked)) (freeing_keeps c.erase.ensures.keeps)
 
 pub returns-clause-keeps : goal.returns-clause-keeps
-returns-clause-keeps g c = let w = c.flush_victim.ensures in and_same (keeps_on (keeps_on (keeps_tagged c.choose.ensures.keeps c.tag_of_victim.ensures.keeps) (keeps_works c.frame-frame.result w.seat w.stands w.latches w.works c.tag_of_victim.ensures.victim.unlocked w.victim.unlocked)) (searched_keeps c.erase.ensures.keeps)) (same_less c.give_up-2.ensures.keeps) c.give_up-2.ensures.stands c.give_up-2.ensures.partitions
+returns-clause-keeps g c = let w = c.flush_victim.ensures in and_same (keeps_on (keeps_on (keeps_tagged c.choose.ensures.keeps c.tag_of_victim.ensures.keeps) (keeps_works c.frame-frame.result w.seat w.stands w.latches w.works c.tag_of_victim.ensures.victim.unlocked w.victim.unlocked)) (freeing_keeps c.erase.ensures.keeps)) (same_less c.give_up-2.ensures.keeps) c.give_up-2.ensures.stands c.give_up-2.ensures.partitions

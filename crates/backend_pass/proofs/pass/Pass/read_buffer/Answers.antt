@@ -6,7 +6,7 @@ use Rattle.buffer_frames.specs.Hinting.{TakesTurns}
 use Rattle.backend_pass.specs.Managers.{Belongs}
 use Rattle.backend_pass.specs.Passes.{KeepsCalls, PassState, view_in}
 use Rattle.backend_pass.specs.Reading.{ReadsBlock, met_reading}
-use Rattle.backend_pass.proofs.BlockReads.{calls_hinted, frame_again, not_both, pinned_more, pinned_read, reads_hinted, rests_again, same_hinted, unlocked_read}
+use Rattle.backend_pass.proofs.BlockReads.{calls_hinted, frame_again, not_both, pinned_more, pinned_read, reads_hinted, rests_again, same_hinted, same_kept, unlocked_read}
 use Rattle.buffer_frames.proofs.HeldLists.{above_one}
 use Rattle.frame_table.specs.Seats.{frames_of, relations_of}
 use Rattle.frame_table.proofs.Rising.{rises_none}
@@ -122,3 +122,12 @@ pub read_new-requires-clause-belongs : goal.read_new-requires-clause-belongs
 read_new-requires-clause-belongs g c =
     belongs_held {L = g.row.L.Denot} {G = g.row.G.Denot} g.L.BlockLane.contents c.args.manager.now _ _ refl refl refl refl (rises_none (view_in c.self.inside.seat.views)).end_seen (λ f h at. (h, at, refl))
     (subst (Belongs {L = g.row.L.Denot} {G = g.row.G.Denot} g.L.BlockLane.contents c.args.manager.now) (sym c.self.view_is) c.requires.belongs)
+
+pub returns-then-tag-blocks-clause-same : goal.returns-then-tag-blocks-clause-same
+returns-then-tag-blocks-clause-same g c = same_from _ _ _ c.self.view_is (same_kept _ _ refl refl refl refl (rises_none (view_in c.self.inside.seat.views)))
+
+pub returns-then-is_full-clause-same : goal.returns-then-is_full-clause-same
+returns-then-is_full-clause-same g c = same_from _ _ _ c.self.view_is (same_kept _ _ refl refl refl refl (rises_none (view_in c.self.inside.seat.views)))
+
+pub returns-clause-same : goal.returns-clause-same
+returns-clause-same g c = same_from _ _ _ c.self.view_is (same_kept _ _ refl refl refl refl (rises_none (view_in c.self.inside.seat.views)))

@@ -13,6 +13,7 @@ use Rattle.buffer_frames.specs.Outside.{shown_count}
 use Rattle.backend_pass.specs.Managers.{Belongs}
 use Rattle.backend_pass.specs.Passes.{IsNumbered, PassState, view_in}
 use Rattle.backend_pass.proofs.Releasing.{AreHeld, Unpins, belongs_held, belongs_touched, held_last, held_several, may_unpin, numbered_self, rests_fewer, rests_unpinned, same_touched, shown_self, unpins_at}
+use Rattle.backend_pass.proofs.BlockReads.{same_kept}
 use Rattle.backend_pass.proofs.Seated.{same_from}
 use Rattle.backend_pass.proofs.pass.Pass.release.Goals as goal
 
@@ -101,3 +102,6 @@ pub unpin_and_wake-requires-clause-settled : goal.unpin_and_wake-requires-clause
 unpin_and_wake-requires-clause-settled g c =
     let before = c.take_seat-seat.ensures.view in
     subst (λ (v : View). (link v c.in-Some.pin.frame).pending ≡ false) before (c.self.invariant.1.links c.in-Some.pin.frame).calm.assigned
+
+pub returns-in_default-clause-same : goal.returns-in_default-clause-same
+returns-in_default-clause-same g c = same_from _ _ _ c.self.view_is (same_kept _ _ refl refl refl refl (rises_none (view_in c.self.inside.seat.views)))

@@ -2,9 +2,9 @@ use Rattle.std.proofs.Common.{ℕ, None, Some, Option, subst, sym, ◌≡◌}
 use Rattle.block_tag.specs.declared.tag.Tag.{Tag}
 use Rattle.block_tag.specs.Names.{packed_tag}
 use Rattle.pin_core.specs.declared.view.MapChange.TheVariants.{Entering}
-use Rattle.frame_table.specs.Seats.{CanStoreAs, MayStoreTag, NamesIn, NamesStored, partitions_stored}
+use Rattle.frame_table.specs.Seats.{cleared_stored, CanStoreAs, MayStoreTag, NamesIn, NamesStored, partitions_stored}
 use Rattle.frame_table.specs.FrameSteps.{Did, storing}
-use Rattle.frame_table.proofs.Holding.{stored_partitions, names_entered, names_erased}
+use Rattle.frame_table.proofs.Holding.{stored_self, stored_cleared, stored_partitions, names_entered, names_erased}
 use Rattle.frame_table.proofs.TagLoads.{packed_partition}
 use Rattle.frame_table.proofs.Marks.{did_marks}
 use Rattle.frame_table.proofs.table.FrameTable.store_tag.Goals as goal
@@ -34,3 +34,15 @@ returns-in-Some-clause-names g c = let tag = c.in-Some.tag in let v = c.args.sea
 
 pub returns-in-None-clause-did : goal.returns-in-None-clause-did
 returns-in-None-clause-did g c = let d = c.store_none.ensures.did in (d.0, subst (λ (t : Option Tag). Did (storing t) c.args.frame c.args.seat.now.me.0 c.store_none.new.seat.me.0 d.0) (sym c.in-None.is) d.1)
+
+pub returns-in-Some-clause-cleared : goal.returns-in-Some-clause-cleared
+returns-in-Some-clause-cleared g c = subst (λ (t : Option Tag). c.store_packed.new.seat.me.0.cleared ≡ cleared_stored t c.args.seat.now.me.0.cleared) (sym c.in-Some.is) (stored_cleared (Some c.in-Some.tag) _ _ _ _ c.store_packed.ensures.did.1)
+
+pub returns-in-None-clause-cleared : goal.returns-in-None-clause-cleared
+returns-in-None-clause-cleared g c = subst (λ (t : Option Tag). c.store_none.new.seat.me.0.cleared ≡ cleared_stored t c.args.seat.now.me.0.cleared) (sym c.in-None.is) (stored_cleared None _ _ _ _ c.store_none.ensures.did.1)
+
+pub returns-in-Some-clause-stores : goal.returns-in-Some-clause-stores
+returns-in-Some-clause-stores g c = stored_self (Some c.in-Some.tag) _ _ _ _ c.store_packed.ensures.did.1
+
+pub returns-in-None-clause-stores : goal.returns-in-None-clause-stores
+returns-in-None-clause-stores g c = stored_self None _ _ _ _ c.store_none.ensures.did.1

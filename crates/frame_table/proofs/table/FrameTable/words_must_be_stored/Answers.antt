@@ -1,4 +1,4 @@
-use Rattle.frame_table.proofs.Stored.{must_store, pin_stores, lower_stores, end_stores, dirty_stores, flushed_rises, redo_rises, hand_moves, hint_stored}
+use Rattle.frame_table.proofs.Stored.{must_store, pin_stores, lower_stores, end_stores, dirty_stores, flushed_rises, redo_rises, hand_moves, counter_rises, hint_stored}
 use Rattle.frame_table.proofs.table.FrameTable.words_must_be_stored.Goals as goal
 
 pub returns-clause-each : goal.returns-clause-each
@@ -24,6 +24,9 @@ returns-clause-flushed g c = flushed_rises _ _
 
 pub returns-clause-redo : goal.returns-clause-redo
 returns-clause-redo g c = redo_rises _ _
+
+pub returns-clause-counters : goal.returns-clause-counters
+returns-clause-counters g c = counter_rises _ _
 
 pub returns-clause-hints : goal.returns-clause-hints
 returns-clause-hints g c = hint_stored _ _

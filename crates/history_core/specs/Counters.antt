@@ -1,0 +1,30 @@
+-- The counters of reads, writes and evictions: what the views fix of them.
+use Rattle.std.specs.Prelude.{◌≡◌, ◌≢◌, ℕ, ◌+◌, ◌*◌, ◌≤◌, List}
+use mathlib.Core.Option.{some}
+use lib.ListN.{get_elem?}
+use Rattle.pin_core.specs.declared.view.Published.{Published}
+use Rattle.pin_core.specs.declared.view.View.{View}
+use Rattle.history_core.specs.Balances.{Balances, added_to}
+use Rattle.history_core.specs.State.{State}
+use Rattle.history_core.specs.Words.{last_published}
+use Rattle.grid.specs.Shape.{total}
+
+-- The views fix each counter: an addition leaves what was added more than it found
+abbrev pub FollowsCounters : (ℕ → ℕ) → List View → Type 0
+FollowsCounters counter views = (number : ℕ) → Balances (λ (v : View). v.published)
+    (λ (p : Published). p.count) (λ (p : Published). 0) (λ (p : Published). p.more) number 0 (counter number) views
+
+-- How much view i may have added
+pub record IsBounded (i : ℕ) (v : View) : Type 0 where
+  -- to each counter, for itself and for each that it took in
+  pub within : (number : ℕ) → added_to number v ≤ (v.joined + 1) * last_published
+  -- only the first takes in others
+  pub alone : i ≢ 0 → v.joined ≡ 0
+
+pub record CountersLaw (counter : ℕ → ℕ) (views : List View) : Type 0 where
+  pub fixed : FollowsCounters counter views
+  pub bounded : (i : ℕ) (v : View) → get_elem? views i ≡ some v → IsBounded i v
+
+-- Each counter is the sum of what the backends have added to it, those too that were joined into the first
+abbrev pub CountersAreSums : State → Type 0
+CountersAreSums s = (number : ℕ) → s.counter number ≡ total (λ (v : View). added_to number v) s.pool.core.views
