@@ -19,6 +19,8 @@ use Rattle.page_core.specs.Tallies as page_tallies
 use Rattle.page_core.specs.Tallies.{Tally, weigh, page_shape}
 use Rattle.page_core.specs.Invariant.{PageLink}
 use Rattle.page_core.specs.Invariant as page_law
+use Rattle.pin_core.proofs.SizeSteps.{frames_keep}
+use Rattle.page_core.proofs.Stepping.{noted_less}
 use Rattle.page_core.proofs.Waits.{waits_fewer}
 use Rattle.history_core.specs.Homes.{Home, HomeLink, home_shape, home_part}
 use Rattle.history_core.specs.Steps.{aside, unmarked}
@@ -70,6 +72,7 @@ pub record BegunHere (v w : View) : Type 0 where
   pub joined : w.joined ≡ v.joined
   pub links : w.links ≡ map unmarked v.links
   pub partitions : w.partitions ≡ v.partitions
+  pub sizes : w.sizes ≡ v.sizes
 
 pub link_begun : (v w : View) → BegunHere v w → (f : ℕ) → link w f ≡ unmarked (link v f)
 link_begun v w b f = ap (λ (x : List Link). link (record w { links = x }) f) b.links ∙ at_unmarked v.links f
@@ -80,7 +83,6 @@ module _ (i : ℕ) (v w : View) (begun : BegunHere v w) where
     grid = steady_alike frame_shape pin_law.pin_part s.frames s.frame (λ _. tt) s.views h.grid i v w there refl (λ g k. ap (pin_tallies.weigh k) (link_begun v w begun g) ∙ pin_same k (link v g)) (λ g b c o x. subst (LinkLaw c) (sym (link_begun v w begun g)) (pin_link c (link v g) x));
     turns = steady turn_shape turn_part s.partitions s.partition (λ _. tt) s.views h.turns i v w there refl (λ p. ap (λ (x : List PartitionHold). hold (record w { partitions = x }) p) begun.partitions);
     apart = h.apart;
-    blocks = h.blocks;
     maps = h.maps;
     placed = h.placed;
     views = views_set s.frames s.partitions s.backends s.views h.views i v w there (record { emptied = begun.emptied; number = begun.number; next = begun.next; links = ap (λ (x : List Link). length x) begun.links ∙ map_length v.links; partitions = ap (λ (x : List PartitionHold). length x) begun.partitions });
@@ -91,6 +93,9 @@ module _ (i : ℕ) (v w : View) (begun : BegunHere v w) where
   pool_begun s h there = record {
     core = core_begun s.core h.core there;
     pages = steady_alike page_shape page_law.page_part s.core.frames s.core.frame (block_of s.logged) s.core.views h.pages i v w there refl (λ g k. ap (weigh k) (link_begun v w begun g) ∙ page_same k (link v g)) (λ g b c o x. subst (PageLink b c) (sym (link_begun v w begun g)) (page_link b c (link v g) x));
+    sizes = frames_keep s.core h.sizes i v w s.core.frame s.core.partition there begun.sizes (λ f. refl) (λ f below. ap (λ (x : Link). x.noted) (link_begun v w begun f)) (λ f below e. ap (λ (x : Link). x.inside) (sym (link_begun v w begun f)) ∙ e);
+    noted = noted_less s h.noted i v w s.core.partition s.core.size s.logged there (λ f e. (ap (λ (x : Link). x.noted) (sym (link_begun v w begun f)) ∙ e, ap (λ (x : Link). x.read) (link_begun v w begun f))) (λ f e. ap (λ (x : Link). x.io) (sym (link_begun v w begun f)) ∙ e);
+    gone = h.gone;
     waits = waits_fewer s.core.views h.waits i v w there (record { number = begun.number; fewer = λ f number e. ap (λ (x : Link). x.waits) (sym (link_begun v w begun f)) ∙ e });
   }
 

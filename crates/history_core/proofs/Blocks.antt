@@ -1,5 +1,5 @@
 -- The blocks, their frames and their lanes, as a step changes them.
-use Rattle.std.proofs.Common.{◌≡◌, ◌≢◌, ℕ, ◌<◌, ◌≤◌, true, false, List, Option, Some, None, sym, refl, ap, ◌∙◌, subst, arith}
+use Rattle.std.proofs.Common.{◌≡◌, ◌≢◌, ℕ, ◌<◌, ◌≤◌, Bool, true, false, List, Option, Some, None, sym, refl, ap, ◌∙◌, subst, arith, ◌⊎◌, inl, inr}
 use mathlib.Core.Logic.{dite}
 use native.Mathlib.Decide.{ℕ_discrete}
 use Rattle.state_word.specs.declared.word.IoEnd.TheVariants.{ReadOk, WriteOk, Bad}
@@ -64,6 +64,7 @@ plain_block _ b x = refl
 -- where a kind of `pin_core` stores a tag, the tag's block is clean
 abbrev pub StoresClean : pin_kinds.Kind → Home → Type 0
 StoresClean (pin_kinds.store_tag tag) h = IsClean h
+StoresClean (pin_kinds.store_new_tag tag) h = IsClean h
 StoresClean _ h = Unit {0}
 
 -- A kind of `pin_core` keeps the law of the homes
@@ -75,6 +76,7 @@ pins_keep pin_kinds.unpin h h' fr l a e x = subst (λ (y : Home). Keeps_by_pins 
 pins_keep pin_kinds.lock_header h h' fr l a e x = subst (λ (y : Home). Keeps_by_pins pin_kinds.lock_header h y fr l) (sym (e refl)) (homes.lock_header_keeps h fr l a)
 pins_keep pin_kinds.unlock_header h h' fr l a e x = subst (λ (y : Home). Keeps_by_pins pin_kinds.unlock_header h y fr l) (sym (e refl)) (homes.unlock_header_keeps h fr l a)
 pins_keep (pin_kinds.store_tag tag) h h' fr l a e x = homes.store_tag_keeps h fr l tag h' x a
+pins_keep (pin_kinds.store_new_tag tag) h h' fr l a e x = homes.store_new_tag_keeps h fr l tag h' x a
 pins_keep pin_kinds.erase_tag h h' fr l a e x = homes.erase_tag_keeps h fr l h' a
 pins_keep pin_kinds.load_tag h h' fr l a e x = subst (λ (y : Home). Keeps_by_pins pin_kinds.load_tag h y fr l) (sym (e refl)) (homes.load_tag_keeps h fr l a)
 pins_keep pin_kinds.pin_victim h h' fr l a e x = subst (λ (y : Home). Keeps_by_pins pin_kinds.pin_victim h y fr l) (sym (e refl)) (homes.pin_victim_keeps h fr l a)
@@ -82,10 +84,15 @@ pins_keep pin_kinds.lower_usage h h' fr l a e x = subst (λ (y : Home). Keeps_by
 pins_keep pin_kinds.assign h h' fr l a e x = subst (λ (y : Home). Keeps_by_pins pin_kinds.assign h y fr l) (sym (e refl)) (homes.assign_keeps h fr l a)
 pins_keep pin_kinds.clear h h' fr l a e x = subst (λ (y : Home). Keeps_by_pins pin_kinds.clear h y fr l) (sym (e refl)) (homes.clear_keeps h fr l a)
 
--- a frame whose tag goes isn't dirty
-pub tag_goes : (k : pin_kinds.Kind) (fr : Frame) (l : Link) (t : pin_tallies.Tally → ℕ) → FrameLaw fr t → pin_kinds.Allowed k fr l → (pin_kinds.frame_after k fr).tag ≢ fr.tag → fr.word.dirty ≡ false
-tag_goes pin_kinds.erase_tag fr l t c a e = a.clean
-tag_goes (pin_kinds.store_tag tag) fr l t c a e = grind (arith, c, a.untagged)
+-- a frame whose tag goes isn't dirty, unless its block is one by which the fork was to grow
+pub tag_goes : (k : pin_kinds.Kind) (fr : Frame) (l : Link) (t : pin_tallies.Tally → ℕ) → FrameLaw fr t → pin_kinds.Allowed k fr l → (pin_kinds.frame_after k fr).tag ≢ fr.tag → (fr.word.dirty ≡ false) ⊎ (l.noted ≡ true)
+tag_goes pin_kinds.erase_tag fr l t c a e = by_note l.noted refl
+  where
+    by_note : (b : Bool) → l.noted ≡ b → (fr.word.dirty ≡ false) ⊎ (l.noted ≡ true)
+    by_note true x = inr x
+    by_note false x = inl (a.clean x)
+tag_goes (pin_kinds.store_tag tag) fr l t c a e = inl (grind (arith, c, a.untagged))
+tag_goes (pin_kinds.store_new_tag tag) fr l t c a e = inl (grind (arith, c, a.untagged))
 tag_goes pin_kinds.load_state fr l t c a e = absurd (e refl)
 tag_goes (pin_kinds.pin ring) fr l t c a e = absurd (e refl)
 tag_goes (pin_kinds.pin_mapped tag ring) fr l t c a e = absurd (e refl)
@@ -120,9 +127,9 @@ pub home_forgets : (h : Home) (fr : Frame) (l : Link) → Keeps home_shape known
 home_forgets h fr l = record { column = λ t t' q c sums le _. q.1; cell = λ t q le c. no_link h fr; others = λ t n m q c le d. d.1 }
 
 -- where the frame f may have lost its tag, and what P says of a tag held of its tag then
-pub unframed_put : (P : ℕ → Type 0) (n : ℕ) (frame : ℕ → Frame) (f : ℕ) (fr : Frame) → f < n → ((tag : ℕ) → tag ≢ no_tag → IsUnframed n frame tag → P tag) → ((frame f).tag ≢ no_tag → (frame f).word.dirty ≡ false → P (frame f).tag) → (fr.tag ≢ (frame f).tag → (frame f).word.dirty ≡ false) → (tag : ℕ) → tag ≢ no_tag → IsUnframed n (put frame f fr) tag → P tag
-unframed_put P n frame f fr inside was clean goes tag named none = dite (ℕ_discrete (frame f).tag tag)
-    (λ (same : (frame f).tag ≡ tag). subst P same (clean (λ e. named (sym same ∙ e)) (goes (λ e. none f inside (ap (λ (x : Frame). x.tag) (put_here frame f fr) ∙ e ∙ same)))))
+pub unframed_put : (P : ℕ → Type 0) (n : ℕ) (frame : ℕ → Frame) (f : ℕ) (fr : Frame) → f < n → ((tag : ℕ) → tag ≢ no_tag → IsUnframed n frame tag → P tag) → ((frame f).tag ≢ no_tag → fr.tag ≢ (frame f).tag → P (frame f).tag) → (tag : ℕ) → tag ≢ no_tag → IsUnframed n (put frame f fr) tag → P tag
+unframed_put P n frame f fr inside was goes tag named none = dite (ℕ_discrete (frame f).tag tag)
+    (λ (same : (frame f).tag ≡ tag). subst P same (goes (λ e. named (sym same ∙ e)) (λ e. none f inside (ap (λ (x : Frame). x.tag) (put_here frame f fr) ∙ e ∙ same))))
     (λ (other : (frame f).tag ≢ tag). was tag named (λ g below. dite (ℕ_discrete g f) (λ e. subst (λ (x : ℕ). (frame x).tag ≢ tag) (sym e) other) (λ o. subst (λ (x : Frame). x.tag ≢ tag) (put_else frame f fr g o) (none g below))))
 
 -- a frame that keeps its tag

@@ -16,6 +16,7 @@ use Rattle.pin_core.specs.Tallies.{flag_weight}
 use Rattle.pin_core.specs.Kinds as pin_kinds
 use Rattle.pin_core.specs.Turns.{view_turned}
 use Rattle.pin_core.specs.declared.view.LoadedWord.TheVariants as seen
+use Rattle.pin_core.specs.Sizes.{view_sized}
 use Rattle.pin_core.specs.Steps as pin_steps
 use Rattle.page_core.specs.State.{Block, block_of}
 use Rattle.page_core.specs.Kinds as kinds
@@ -45,6 +46,7 @@ pins_clean pin_kinds.unpin fr h = h
 pins_clean pin_kinds.lock_header fr h = h
 pins_clean pin_kinds.unlock_header fr h = h
 pins_clean (pin_kinds.store_tag tag) fr h = h
+pins_clean (pin_kinds.store_new_tag tag) fr h = h
 pins_clean pin_kinds.erase_tag fr h = h
 pins_clean pin_kinds.load_tag fr h = h
 pins_clean pin_kinds.pin_victim fr h = h
@@ -187,7 +189,7 @@ module _ (s : State) (h : HistoryInvariant s) (m : MarksLaw s) where
   one_view : (i : ℕ) (v w : View) → get_elem? views i ≡ some v → mark_weight v ≤ mark_weight w → (AllQuiet s → mark_weight w ≡ 0 → KnowsNoOutput w) → NoneMarked (set views i w) → AllQuiet s × ((j : ℕ) (u : View) → get_elem? (set views i w) j ≡ some u → KnowsNoOutput u)
   one_view i v w there more quiet none = let q = m (none_before views i v w there more none) in (q, quiet_set views q.views i w (quiet q (none_here views i v w there more none)))
 
-  pins_marks : {e : pin_steps.Event} {core' : _} → pin_steps.Step e s.pool.core core' → MarksLaw (record s { pool = record s.pool { core = core' } })
+  pins_marks : {e : pin_steps.Event} {core' : _} → pin_steps.Step e s.pool.core core' → MarksLaw (record s { pool = record { core = core'; logged = page_steps.logged_by e s.pool } })
   pins_marks (pin_steps.touches i f k v there live inside a around) none = let w : View = pin_kinds.view_after k s.pool.core.partition_of f (s.pool.core.frame f) (link v f) v in
       let x = one_view i v w there (omega arith) (λ q z. same_quiet v w refl refl refl (q.views i v there)) none in record {
         frames = quiet_put s.pool.core.frame s.pool.core.frames f (pin_kinds.frame_after k (s.pool.core.frame f)) x.0.frames (pins_clean k (s.pool.core.frame f) (x.0.frames f inside));
@@ -195,6 +197,7 @@ module _ (s : State) (h : HistoryInvariant s) (m : MarksLaw s) where
         views = x.1;
       }
   pins_marks (pin_steps.turns i p k v there live below a) none = let w : View = view_turned k p (hold v p) v in let x = one_view i v w there (omega arith) (λ q z. same_quiet v w refl refl refl (q.views i v there)) none in record { frames = x.0.frames; blocks = x.0.blocks; views = x.1 }
+  pins_marks (pin_steps.sized i fork k v there live a) none = let w : View = view_sized k fork s.pool.core v in let x = one_view i v w there (omega arith) (λ q z. same_quiet v w refl refl refl (q.views i v there)) none in record { frames = x.0.frames; blocks = x.0.blocks; views = x.1 }
   pins_marks (pin_steps.splits v there room) none = let w : View = record v { next = v.next + 1 } in let b : View = new_view v.next s.pool.core.base (length v.links) (length v.partitions) (length v.lanes) in
       let x = one_view 0 v w there (omega arith) (λ q z. same_quiet v w refl refl refl (q.views 0 v there)) (let y = total-snoc mark_weight (set views 0 w) b in omega arith) in record {
         frames = x.0.frames;

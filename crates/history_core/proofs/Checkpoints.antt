@@ -148,7 +148,7 @@ writes_there p is = goes (pools (page_steps.cores (pin_steps.touches 1 0 (pins.p
     rests)))))))))))))))
 
 drops : (p : Page) → Run drop (c20 p) (c22 p)
-drops p = goes (pools (page_steps.cores (pin_steps.touches 1 0 pins.unpin (second_of (c20 p)) refl refl (lit< tt) (record { unlocked = refl; pinned = λ e. cc; no_content = refl; no_io = refl; no_wait = refl }) tt)) tt)
+drops p = goes (pools (page_steps.cores (pin_steps.touches 1 0 pins.unpin (second_of (c20 p)) refl refl (lit< tt) (record { unlocked = refl; pinned = λ e. cc; no_content = refl; no_io = refl; no_wait = refl; unnoted = refl }) tt)) tt)
     (goes (pools (page_steps.cores (pin_steps.touches 1 0 pins.load_state (second_of (c21 p)) refl refl (lit< tt) tt tt)) tt)
     rests)
 
@@ -161,7 +161,7 @@ syncs p = goes (lanes 1 0 take_lane (second_of (c22 p)) refl refl (lit< tt) (rec
     rests))))
 
 holds_nothing : (p : Page) → HoldsNothing (second_of (c27 p))
-holds_nothing p = record { frames = at_frame (λ (l : Link). HoldsNothingAt l) (second_of (c27 p)) _ refl (record { no_pin = refl; no_header = refl; no_content = refl; no_io = refl; page_home = refl; no_wait = refl }) (record { no_pin = refl; no_header = refl; no_content = refl; no_io = refl; page_home = refl; no_wait = refl }); partitions = at_partition (λ (h : PartitionHold). h.held ≡ false) (second_of (c27 p)) _ refl refl refl; lanes = at_one_lane (λ (h : LaneHold). h.held ≡ false) (second_of (c27 p)) _ refl refl refl; log = refl }
+holds_nothing p = record { frames = at_frame (λ (l : Link). HoldsNothingAt l) (second_of (c27 p)) _ refl (record { no_pin = refl; no_header = refl; no_content = refl; no_io = refl; page_home = refl; no_wait = refl }) (record { no_pin = refl; no_header = refl; no_content = refl; no_io = refl; page_home = refl; no_wait = refl }); partitions = at_partition (λ (h : PartitionHold). h.held ≡ false) (second_of (c27 p)) _ refl refl refl; lanes = at_one_lane (λ (h : LaneHold). h.held ≡ false) (second_of (c27 p)) _ refl refl refl; sizes = refl; log = refl }
 
 joins_there : (p : Page) → Run join (c27 p) (c28 p)
 joins_there p = goes (pools (page_steps.cores (pin_steps.joins 1 (view_of (c27 p)) (second_of (c27 p)) refl (λ e. cc) refl refl (holds_nothing p))) tt) rests

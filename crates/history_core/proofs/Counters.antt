@@ -12,6 +12,7 @@ use Rattle.pin_core.specs.State.{Config, Page, link, hold, first_view, new_view,
 use Rattle.pin_core.specs.State as pins
 use Rattle.pin_core.specs.Invariant.{live_weight, AllAccounted}
 use Rattle.pin_core.specs.Kinds as pin_kinds
+use Rattle.pin_core.specs.Sizes.{view_sized}
 use Rattle.pin_core.specs.Turns.{view_turned}
 use Rattle.pin_core.specs.Steps as pin_steps
 use Rattle.page_core.specs.Steps as page_steps
@@ -78,6 +79,7 @@ few_of j u other x n = let a = x.within n in let b = x.alone other in omega arit
 pools_counters : (s : State) → CountersLaw s.counter s.pool.core.views → {e : pin_steps.Event} {core' : pins.State} → pin_steps.Step e s.pool.core core' → CountersLaw s.counter core'.views
 pools_counters s m (pin_steps.touches i f k v there live inside around a) = beside s.counter s.pool.core.views m i v (pin_kinds.view_after k s.pool.core.partition_of f (s.pool.core.frame f) (link v f) v) there refl refl
 pools_counters s m (pin_steps.turns i p k v there live below a) = beside s.counter s.pool.core.views m i v (view_turned k p (hold v p) v) there refl refl
+pools_counters s m (pin_steps.sized i fork k v there live a) = beside s.counter s.pool.core.views m i v (view_sized k fork s.pool.core v) there refl refl
 pools_counters s m (pin_steps.splits v there room) = let w : View = record v { next = v.next + 1 } in let b : View = new_view v.next s.pool.core.base (length v.links) (length v.partitions) (length v.lanes) in let x = beside s.counter s.pool.core.views m 0 v w there refl refl in record {
   fixed = λ n. balances_split (x.fixed n) b refl;
   bounded = λ j u at. ⊎_elim (x.bounded j u)

@@ -11,6 +11,7 @@ use Rattle.pin_core.specs.State.{Config, Page, link, hold, no_lane, lane_hold, n
 use Rattle.pin_core.specs.Tallies.{flag_weight}
 use Rattle.pin_core.specs.Kinds as pin_kinds
 use Rattle.pin_core.specs.Turns.{view_turned}
+use Rattle.pin_core.specs.Sizes.{view_sized}
 use Rattle.pin_core.specs.Steps as pin_steps
 use Rattle.page_core.specs.Steps as page_steps
 use Rattle.history_core.specs.State.{Lane, State, Store, fresh_lane, opening}
@@ -197,6 +198,7 @@ forgets k ln h free = record {
 pools_counts : (s : State) (h : HistoryInvariant s) (m : LanesCounted s) → {e : pin_steps.Event} {core' : _} → pin_steps.Step e s.pool.core core' → Counted s.lanes s.lane s.flushed core'.views
 pools_counts s h m (pin_steps.touches i f k v there live inside a around) = unlaned_counts s h m i v (pin_kinds.view_after k s.pool.core.partition_of f (s.pool.core.frame f) (link v f) v) there refl refl refl refl
 pools_counts s h m (pin_steps.turns i p k v there live below a) = unlaned_counts s h m i v (view_turned k p (hold v p) v) there refl refl refl refl
+pools_counts s h m (pin_steps.sized i fork k v there live a) = unlaned_counts s h m i v (view_sized k fork s.pool.core v) there refl refl refl refl
 pools_counts s h m (pin_steps.splits v there room) = let w : View = record v { next = v.next + 1 } in let b : View = new_view v.next s.pool.core.base (length v.links) (length v.partitions) (length v.lanes) in let x = unlaned_counts s h m 0 v w there refl refl refl refl in let vs : List View = set s.pool.core.views 0 w in
     let r = total-snoc (λ (y : View). y.met.reads) vs b in let u = total-snoc (λ (y : View). y.met.writes) vs b in let l = total-snoc (λ (y : View). y.met.logs) vs b in
     let er : (all_met (vs ++ b ∷ [])).reads ≡ (all_met vs).reads = omega arith in let eu : (all_met (vs ++ b ∷ [])).writes ≡ (all_met vs).writes = omega arith in let el : (all_met (vs ++ b ∷ [])).logs ≡ (all_met vs).logs = omega arith in

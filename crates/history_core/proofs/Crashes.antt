@@ -12,7 +12,7 @@ use Rattle.pin_core.specs.declared.view.Io.TheVariants.{Output}
 use Rattle.pin_core.specs.declared.view.LaneHold.{LaneHold}
 use Rattle.pin_core.specs.declared.view.Link.{Link}
 use Rattle.pin_core.specs.declared.view.View.{View}
-use Rattle.pin_core.specs.State.{Config, Frame, Page, link, lane_hold}
+use Rattle.pin_core.specs.State.{Config, Frame, Page, link, lane_hold, is_block}
 use Rattle.page_core.specs.State.{Block, block_of}
 use Rattle.page_core.specs.Tallies.{Tally, sharers, applied_locks, unapplied_locks, weigh, page_shape}
 use Rattle.page_core.specs.Invariant.{PageFrame}
@@ -235,9 +235,9 @@ module _ (s : State) (h : HistoryInvariant s) where
   by_entry pages es tag whole k e (resize fork old new) is at of = absurd (cc)
 
   -- none does, and the block was not written since the last sync, nor did its last write fail: it is as at the start
-  by_none : (pages : ℕ → Option Page) (es : List Entry) → Crashed s pages es → (tag : ℕ) → s.known tag ≡ true → ((k : ℕ) (e : Entry) → IsEntryOf es tag k e → ⊥) → unsynced s tag ≡ false → failed s tag ≡ false → cell pages es tag ≡ cell s.origin es tag
-  by_none pages es c tag known none synced done = let valid = valid_left es c.log in let cells = h.flushed_cells tag in
-      cell_absent pages es tag valid none ∙ c.stays tag synced ∙ cells.is_cell known done
+  by_none : (pages : ℕ → Option Page) (es : List Entry) → Crashed s pages es → (tag : ℕ) → is_block s.pool.core tag ≡ true → s.known tag ≡ true → ((k : ℕ) (e : Entry) → IsEntryOf es tag k e → ⊥) → unsynced s tag ≡ false → failed s tag ≡ false → cell pages es tag ≡ cell s.origin es tag
+  by_none pages es c tag block known none synced done = let valid = valid_left es c.log in let cells = h.flushed_cells tag in
+      cell_absent pages es tag valid none ∙ c.stays tag synced ∙ cells.is_cell block known done
       ∙ after_none tag (stored_upto s tag) s.log.entries (s.origin tag) h.log.valid (λ k e of. ⊎_elim (λ (high : stored_upto s tag < end_of e). high) (λ (low : end_of e ≤ stored_upto s tag). absurd (let x = early_left es c.log tag k e of (let w = cells.within in omega arith) in none x.0 x.1 x.2)) (cases_lt (stored_upto s tag) (end_of e)))
       ∙ sym (cell_absent s.origin es tag valid none)
 
@@ -256,12 +256,12 @@ module _ (s : State) (h : HistoryInvariant s) where
         by_failure (inr x) = x
 
     redone : CrashesRedo s
-    redone pages es c tag (inl (k, e, p, at, is)) = inl (same_after tag k es e p (pages tag) (s.origin tag) at is)
-    redone pages es c tag (inr (known, synced, based)) = ⊎_elim
+    redone pages es c tag block (inl (k, e, p, at, is)) = inl (same_after tag k es e p (pages tag) (s.origin tag) at is)
+    redone pages es c tag block (inr (known, synced, based)) = ⊎_elim
         (λ (t : IsEntered es tag). inl (by_entry pages es tag (λ k e spans at is. whole_left redo es c.log tag k e spans known at is (based k e spans at is)) t.0 t.1 t.1.change refl t.2.there t.2.of))
         (λ (none : (k : ℕ) (e : Entry) → IsEntryOf es tag k e → ⊥). either_way (unsynced s tag)
         (λ written. inr (excepted pages es c tag synced none (inl written)))
-        (λ kept. either_way (failed s tag) (λ bad. inr (excepted pages es c tag synced none (inr bad))) (λ done. inl (by_none pages es c tag known none kept done))))
+        (λ kept. either_way (failed s tag) (λ bad. inr (excepted pages es c tag synced none (inr bad))) (λ done. inl (by_none pages es c tag block known none kept done))))
         (entry_or_none es tag)
 
 pub crashes_redo : (s : State) → Laws s → CrashesRedo s

@@ -61,10 +61,12 @@ module _ (t : Taken) where
   module _ (fr : Frame) (l : Link) (upto : ℕ) where
     abbrev pub Fresh : pin_kinds.Kind → Type 0
     Fresh (pin_kinds.store_tag tag) = IsCurrent t tag
+    Fresh (pin_kinds.store_new_tag tag) = IsCurrent t tag
     Fresh _ = Unit {0}
 
     pub pins_move : (k : pin_kinds.Kind) → Fresh k → pin_kinds.Allowed k fr l → FrameMoves t fr (pin_kinds.frame_after k fr)
     pins_move (pin_kinds.store_tag tag) x a = settles (λ named. x)
+    pins_move (pin_kinds.store_new_tag tag) x a = settles (λ named. x)
     pins_move pin_kinds.erase_tag x a = settles (λ named. absurd (named refl))
     pins_move pin_kinds.clear x a = settles (λ named. absurd (named a.unnamed))
     pins_move pin_kinds.load_state x a = stays refl (λ e. e) (λ e. e)
@@ -104,6 +106,7 @@ module _ (t : Taken) where
     pins_link pin_kinds.lock_header x a clean h = link_moves fr (pin_kinds.frame_after pin_kinds.lock_header fr) upto l (pin_kinds.link_after pin_kinds.lock_header fr l) (pins_move pin_kinds.lock_header x a) (record { visited = refl; left_to_write = refl; done = λ e. e }) h
     pins_link pin_kinds.unlock_header x a clean h = link_moves fr (pin_kinds.frame_after pin_kinds.unlock_header fr) upto l (pin_kinds.link_after pin_kinds.unlock_header fr l) (pins_move pin_kinds.unlock_header x a) (record { visited = refl; left_to_write = refl; done = λ e. e }) h
     pins_link (pin_kinds.store_tag tag) x a clean h = link_moves fr (pin_kinds.frame_after (pin_kinds.store_tag tag) fr) upto l (pin_kinds.link_after (pin_kinds.store_tag tag) fr l) (pins_move (pin_kinds.store_tag tag) x a) (record { visited = refl; left_to_write = refl; done = λ e. e }) h
+    pins_link (pin_kinds.store_new_tag tag) x a clean h = link_moves fr (pin_kinds.frame_after (pin_kinds.store_new_tag tag) fr) upto l (pin_kinds.link_after (pin_kinds.store_new_tag tag) fr l) (pins_move (pin_kinds.store_new_tag tag) x a) (record { visited = refl; left_to_write = refl; done = λ e. e }) h
     pins_link pin_kinds.erase_tag x a clean h = link_moves fr (pin_kinds.frame_after pin_kinds.erase_tag fr) upto l (pin_kinds.link_after pin_kinds.erase_tag fr l) (pins_move pin_kinds.erase_tag x a) (record { visited = refl; left_to_write = refl; done = λ e. e }) h
     pins_link pin_kinds.load_tag x a clean h = link_moves fr (pin_kinds.frame_after pin_kinds.load_tag fr) upto l (pin_kinds.link_after pin_kinds.load_tag fr l) (pins_move pin_kinds.load_tag x a) (record { visited = refl; left_to_write = refl; done = λ e. e }) h
     pins_link pin_kinds.pin_victim x a clean h = link_moves fr (pin_kinds.frame_after pin_kinds.pin_victim fr) upto l (pin_kinds.link_after pin_kinds.pin_victim fr l) (pins_move pin_kinds.pin_victim x a) (record { visited = refl; left_to_write = refl; done = λ e. e }) h
@@ -197,11 +200,11 @@ module _ (t : Taken) (n : ℕ) (frame : ℕ → Frame) (end : ℕ) (f : ℕ) (fr
     kept = λ k g c at below. m.kept k g c (subst (λ (y : List JoinedCheckpoint). get_elem? y k ≡ some c) x.kept at) below;
   }
 
-  pub debts_touched : (logged : ℕ → Option Page) (views : List View) → Debts t n frame end logged views → f < n → (fr.tag ≢ (frame f).tag → (frame f).word.dirty ≡ false) → (i : ℕ) (v w : View) (l : Link) → get_elem? views i ≡ some v → Touched v w f l → LinkDebt t fr v.upto l → Debts t n (put frame f fr) end logged (set views i w)
+  pub debts_touched : (logged : ℕ → Option Page) (views : List View) → Debts t n frame end logged views → f < n → ((frame f).tag ≢ no_tag → fr.tag ≢ (frame f).tag → IsCurrent t (frame f).tag) → (i : ℕ) (v w : View) (l : Link) → get_elem? views i ≡ some v → Touched v w f l → LinkDebt t fr v.upto l → Debts t n (put frame f fr) end logged (set views i w)
   debts_touched logged views h inside goes i v w l there x debt = record {
     named = h.named;
     clean = λ g below. at_frame (λ k y. y.tag ≢ no_tag → y.word.dirty ≡ false → IsCurrent t y.tag) g (λ e. clean_moves t (frame f) fr moves (h.clean f inside)) (λ o. h.clean g below);
-    unframed = unframed_put (IsCurrent t) n frame f fr inside h.unframed (h.clean f inside) goes;
+    unframed = unframed_put (IsCurrent t) n frame f fr inside h.unframed goes;
     positioned = h.positioned;
     unknown = h.unknown;
     each = λ j u at. ⊎_elim (λ (y : (j ≡ i) × (w ≡ u)). subst (ViewDebts t n (put frame f fr) end) y.1 (view_touched v w l x debt (h.each i v there))) (λ (y : (j ≢ i) × (get_elem? views j ≡ some u)). view_moves u (h.each j u y.1)) (at_set views i j w u at);

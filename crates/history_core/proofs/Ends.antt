@@ -9,6 +9,7 @@ use Rattle.pin_core.specs.State.{Config, Page, link, hold, first_view, new_view,
 use Rattle.pin_core.specs.State as pins
 use Rattle.pin_core.specs.Kinds as pin_kinds
 use Rattle.pin_core.specs.Turns.{view_turned}
+use Rattle.pin_core.specs.Sizes.{view_sized}
 use Rattle.pin_core.specs.Steps as pin_steps
 use Rattle.page_core.specs.Steps as page_steps
 use Rattle.page_core.specs.Kinds.{begin_write, make_entry}
@@ -40,6 +41,7 @@ ends_seen end views m i v w there is = ends_set end views m end i w (omega arith
 pools_ends : (s : State) → s.pool.core.base ≤ s.end → EndsLaw s → {e : pin_steps.Event} {core' : pins.State} → pin_steps.Step e s.pool.core core' → AllWithin s.end core'.views
 pools_ends s from m (pin_steps.touches i f k v there live inside a around) = ends_same s.end s.pool.core.views m i v (pin_kinds.view_after k s.pool.core.partition_of f (s.pool.core.frame f) (link v f) v) there refl
 pools_ends s from m (pin_steps.turns i p k v there live below a) = ends_same s.end s.pool.core.views m i v (view_turned k p (hold v p) v) there refl
+pools_ends s from m (pin_steps.sized i fork k v there live a) = ends_same s.end s.pool.core.views m i v (view_sized k fork s.pool.core v) there refl
 pools_ends s from m (pin_steps.splits v there room) = let w : View = record v { next = v.next + 1 } in let b : View = new_view v.next s.pool.core.base (length v.links) (length v.partitions) (length v.lanes) in let x = ends_same s.end s.pool.core.views m 0 v w there refl in
     λ j u at. ⊎_elim (λ (y : get_elem? (set s.pool.core.views 0 w) j ≡ some u). x j u y) (λ (y : (b ≡ u) × (j ≡ length (set s.pool.core.views 0 w))). let e : s.pool.core.base ≡ u.end_seen = ap (λ (z : View). z.end_seen) y.0 in omega arith) (at_end (set s.pool.core.views 0 w) b u j at)
 pools_ends s from m (pin_steps.joins j v u there other here live free) = let w : View = joined_view v u in let p = m 0 v there in let q = m j u here in

@@ -1,29 +1,25 @@
 -- Each entry of a block is of one of the relations' blocks.
-use Rattle.std.proofs.Common.{◌≡◌, ℕ, Bool, true, Some, sym, ap, ◌∙◌, subst, ⊎_elim}
+use Rattle.std.proofs.Common.{◌≡◌, ℕ, Bool, true, nat_lt, Some, sym, ap, ◌∙◌, subst, ⊎_elim}
 use Rattle.std.proofs.lemmas.Option.{same_Some}
 use mathlib.Core.Option.{some-ne-none}
+use Rattle.pin_core.specs.State.{is_block, tag_block, tag_fork}
 use Rattle.history_core.specs.Log.{IsEntryOf, tag_in}
 use Rattle.history_core.specs.State.{State}
 use Rattle.history_core.specs.Laws.{Laws}
 use Rattle.history_core.specs.Histories.{EntriesAreOfBlocks}
 use Rattle.history_core.specs.Steps.{Event, Step, pools, lanes, writes, notes, logs, enters, reads, words, new_entry}
 use Rattle.history_core.proofs.Always.{KeptByLaws, always}
-use Rattle.history_core.proofs.Lasting.{opening_stays}
 use Rattle.history_core.proofs.Logs.{entry_longer}
-use Rattle.history_core.proofs.Stepping.{named, of_block}
-
--- what is a block of the relations stays one
-still : (e : Event) (s t : State) → Step e s t → (tag : ℕ) → s.pool.core.is_block tag ≡ true → t.pool.core.is_block tag ≡ true
-still e s t step tag block = ap (λ (f : ℕ → Bool). f tag) (opening_stays s e t step).is_block ∙ block
+use Rattle.history_core.proofs.Stepping.{named, of_block, frame_block, pool_sizes}
 
 of_blocks_kept : KeptByLaws EntriesAreOfBlocks
 of_blocks_kept e s t (enters i f p c v there live inside x) laws h = λ tag k d of. ⊎_elim
     (λ (was : IsEntryOf s.log.entries tag k d). h tag k d was)
-    (λ (is : (new_entry s v.number c ≡ d) × (tag_in c ≡ Some tag)). subst (λ (z : ℕ). s.pool.core.is_block z ≡ true)
+    (λ (is : (new_entry s v.number c ≡ d) × (tag_in c ≡ Some tag)). subst (λ (z : ℕ). is_block s.pool.core z ≡ true)
     (same_Some (s.pool.core.frame f).tag tag (sym (of_block s laws.invariant i f p c v there live inside x) ∙ is.1))
-    (laws.invariant.pool.core.blocks f inside (named s laws.invariant i f p c v there live inside x)))
+    (frame_block s laws.invariant f inside (named s laws.invariant i f p c v there live inside x)))
     (entry_longer s.log.entries (new_entry s v.number c) tag k d of)
-of_blocks_kept e s t (pools x a) laws h = λ tag k d of. still e s t (pools x a) tag (h tag k d of)
+of_blocks_kept e s t (pools x a) laws h = λ tag k d of. ap (λ (n : ℕ). nat_lt (tag_block tag) n) (pool_sizes s laws.invariant x (tag_fork tag)) ∙ h tag k d of
 of_blocks_kept e s t (lanes i q k v there live low a alone) laws h = h
 of_blocks_kept e s t (writes i q f k v there live low inside a x) laws h = h
 of_blocks_kept e s t (notes i q f noted k v there live low inside a x) laws h = h

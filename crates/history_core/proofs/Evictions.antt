@@ -68,18 +68,18 @@ abbrev e12 : State
 e12 = pooled pins.unpin e11
 
 evicts : Run evict m22 e12
-evicts = goes (pools (page_steps.cores (pin_steps.touches 0 0 pins.unpin (view_of m22) refl refl (lit< tt) (record { unlocked = refl; pinned = λ e. cc; no_content = refl; no_io = refl; no_wait = refl }) tt)) tt)
+evicts = goes (pools (page_steps.cores (pin_steps.touches 0 0 pins.unpin (view_of m22) refl refl (lit< tt) (record { unlocked = refl; pinned = λ e. cc; no_content = refl; no_io = refl; no_wait = refl; unnoted = refl }) tt)) tt)
     (goes (pools (page_steps.cores (pin_steps.touches 0 0 pins.lock_header (view_of e1) refl refl (lit< tt) (record { unlocked = refl }) (at_frame (λ (l : Link). l.header ≡ None) (view_of e1) _ refl refl refl))) tt)
     (goes (pools (page_steps.cores (pin_steps.touches 0 0 pins.pin_victim (view_of e2) refl refl (lit< tt) (record { held = refl; absent = refl; room = λ e. refl }) (at_frame (λ (l : Link). l.role ≢ Victim) (view_of e2) _ refl (λ e. cc) (λ e. cc)))) tt)
     (goes (pools (page_steps.cores (pin_steps.turns 0 0 take_turn (view_of e3) refl refl (lit< tt) (record { free = refl }))) tt)
     (goes (pools (page_steps.cores (pin_steps.touches 0 0 pins.lock_header (view_of e4) refl refl (lit< tt) (record { unlocked = refl }) (at_frame (λ (l : Link). l.header ≡ None) (view_of e4) _ refl refl refl))) tt)
-    (goes (pools (page_steps.cores (pin_steps.touches 0 0 pins.erase_tag (view_of e5) refl refl (lit< tt) (record { alone = record { held = refl; settled = refl; single = refl; victim = refl; no_content = refl; no_io = refl }; named = named; clean = refl }) (record { held = refl; unchanged = refl; no_change = at_partition (λ (h : PartitionHold). h.change ≡ Stable) (view_of e5) _ refl refl refl }))) tt)
+    (goes (pools (page_steps.cores (pin_steps.touches 0 0 pins.erase_tag (view_of e5) refl refl (lit< tt) (record { alone = record { held = refl; settled = refl; single = refl; victim = refl; no_content = refl; no_io = refl }; named = named; clean = λ _. refl }) (record { held = refl; unchanged = refl; no_change = at_partition (λ (h : PartitionHold). h.change ≡ Stable) (view_of e5) _ refl refl refl }))) tt)
     (goes (pools (page_steps.cores (pin_steps.touches 0 0 pins.clear (view_of e6) refl refl (lit< tt) (record { held = refl; erased = refl; unnamed = refl }) tt)) tt)
     (goes (pools (page_steps.cores (pin_steps.turns 0 0 (map_out (sample_entry ∷ [])) (view_of e7) refl refl (lit< tt) (record { held = refl; home = refl; entries_are = one_entry }))) tt)
     (goes (pools (page_steps.cores (pin_steps.turns 0 0 change_map (view_of e8) refl refl (lit< tt) (record { out = λ e. cc; unchanged = refl; named = λ e. cc }))) tt)
     (goes (pools (page_steps.cores (pin_steps.turns 0 0 (map_back []) (view_of e9) refl refl (lit< tt) (record { out = λ e. cc; entries_are = left_out }))) tt)
     (goes (pools (page_steps.cores (pin_steps.turns 0 0 leave_turn (view_of e10) refl refl (lit< tt) (record { held = refl; home = refl; no_change = refl }))) tt)
-    (goes (pools (page_steps.cores (pin_steps.touches 0 0 pins.unpin (view_of e11) refl refl (lit< tt) (record { unlocked = refl; pinned = λ e. cc; no_content = refl; no_io = refl; no_wait = refl }) tt)) tt)
+    (goes (pools (page_steps.cores (pin_steps.touches 0 0 pins.unpin (view_of e11) refl refl (lit< tt) (record { unlocked = refl; pinned = λ e. cc; no_content = refl; no_io = refl; no_wait = refl; unnoted = refl }) tt)) tt)
     rests)))))))))))
 
 pub evictions : EvictionRuns
@@ -143,7 +143,7 @@ waits = goes (pools (page_steps.cores (pin_steps.splits (view_of m22) refl (lit<
     rests))))))))
 
 wakes : Run wake w9 w15
-wakes = goes (pools (page_steps.cores (pin_steps.touches 0 0 pins.unpin (view_of w9) refl refl (lit< tt) (record { unlocked = refl; pinned = λ e. cc; no_content = refl; no_io = refl; no_wait = refl }) tt)) tt)
+wakes = goes (pools (page_steps.cores (pin_steps.touches 0 0 pins.unpin (view_of w9) refl refl (lit< tt) (record { unlocked = refl; pinned = λ e. cc; no_content = refl; no_io = refl; no_wait = refl; unnoted = refl }) tt)) tt)
     (goes (pools (page_steps.cores (pin_steps.touches 0 0 pins.lock_header (view_of w10) refl refl (lit< tt) (record { unlocked = refl }) (at_frame (λ (l : Link). l.header ≡ None) (view_of w10) _ refl refl refl))) tt)
     (goes (pools (page_steps.touches 0 0 clear_waiter (view_of w11) refl refl (lit< tt) (record { held = refl; settled = refl; awaited = refl; single = refl }) tt) tt)
     (goes (pools (page_steps.cores (pin_steps.touches 1 0 pins.load_state (second_of w12) refl refl (lit< tt) tt tt)) tt)

@@ -1,5 +1,5 @@
 -- What is known of a block's page may be forgotten, where the block's frame isn't valid.
-use Rattle.std.proofs.Common.{◌≡◌, ◌≢◌, ℕ, ◌<◌, false, Option, None, sym, subst, arith}
+use Rattle.std.proofs.Common.{◌≡◌, ◌≢◌, ℕ, ◌<◌, false, Option, None, sym, subst, arith, ◌∙◌}
 use mathlib.Core.Logic.{dite}
 use native.Mathlib.Decide.{ℕ_discrete}
 use Rattle.pin_core.specs.declared.view.Link.{Link}
@@ -33,7 +33,10 @@ module _ (s : page.State) (f : ℕ) (h : page_law.PageInvariant s) (inside : f <
   pub forgets : page_law.PageInvariant (record s { logged = put s.logged tag None })
   forgets = record {
     core = h.core;
+    sizes = h.sizes;
     waits = h.waits;
+    noted = λ i f v there below e. let law = h.noted i f v there below e in record { page = law.page; alone = law.alone };
+    gone = λ t e. dite (ℕ_discrete t tag) (λ (same : t ≡ tag). put_at s.logged tag None t same) (λ (o : t ≢ tag). put_else s.logged tag None t o ∙ h.gone t e);
     pages = reblock page_shape page_part s.core.frames s.core.frame (block_of s.logged) s.core.views h.pages (block_of (put s.logged tag None))
         (λ g below t c. dite (ℕ_discrete (s.core.frame g).tag tag)
         (λ (e : (s.core.frame g).tag ≡ tag). subst (λ (o : Option Page). PageFrame (record { logged = o }) (s.core.frame g) t) (sym (put_at s.logged tag None (s.core.frame g).tag e)) (unknown_frame (block_of s.logged (s.core.frame g).tag) (s.core.frame g) t c))

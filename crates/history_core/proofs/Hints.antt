@@ -11,6 +11,7 @@ use Rattle.pin_core.specs.State.{Config, Page, link, hold, new_view}
 use Rattle.pin_core.specs.State as pins
 use Rattle.pin_core.specs.Kinds as pin_kinds
 use Rattle.pin_core.specs.Turns.{view_turned}
+use Rattle.pin_core.specs.Sizes.{view_sized}
 use Rattle.pin_core.specs.Steps as pin_steps
 use Rattle.page_core.specs.Steps as page_steps
 use Rattle.page_core.specs.Kinds.{begin_write, make_entry}
@@ -29,9 +30,10 @@ use Rattle.grid.proofs.Lists.{put_at, put_else}
 pub follows_stored : (hint : ℕ → ℕ) (views : List View) → FollowsHints hint views → (i : ℕ) (v w : View) (c : HintStore) → get_elem? views i ≡ some v → w.hints ≡ v.hints ++ c ∷ [] → c.found ≡ hint c.number → FollowsHints (put hint c.number c.left) (set views i w)
 follows_stored hint views m i v w c there listed was n = balances_listed (m n) i v w c (put hint c.number c.left n) there listed (λ is. let a : c.found ≡ hint n = was ∙ ap hint (sym is) in let b = put_at hint c.number c.left n is in omega arith) (put_else hint c.number c.left n)
 
-pools_hints : (s : State) → HintsLaw s → {e : pin_steps.Event} {core' : pins.State} → pin_steps.Step e s.pool.core core' → HintsLaw (record s { pool = record s.pool { core = core' } })
+pools_hints : (s : State) → HintsLaw s → {e : pin_steps.Event} {core' : pins.State} → pin_steps.Step e s.pool.core core' → HintsLaw (record s { pool = record { core = core'; logged = page_steps.logged_by e s.pool } })
 pools_hints s m (pin_steps.touches i f k v there live inside around a) = record { named = m.named; fixed = λ n. balances_aside (m.fixed n) i v (pin_kinds.view_after k s.pool.core.partition_of f (s.pool.core.frame f) (link v f) v) there refl }
 pools_hints s m (pin_steps.turns i p k v there live below a) = record { named = m.named; fixed = λ n. balances_aside (m.fixed n) i v (view_turned k p (hold v p) v) there refl }
+pools_hints s m (pin_steps.sized i fork k v there live a) = record { named = m.named; fixed = λ n. balances_aside (m.fixed n) i v (view_sized k fork s.pool.core v) there refl }
 pools_hints s m (pin_steps.splits v there room) = let w : View = record v { next = v.next + 1 } in let b = new_view v.next s.pool.core.base (length v.links) (length v.partitions) (length v.lanes) in record { named = m.named; fixed = λ n. balances_split (balances_aside (m.fixed n) 0 v w there refl) b refl }
 pools_hints s m (pin_steps.joins j v u there other here live free) = record { named = m.named; fixed = λ n. balances_joined (m.fixed n) j v u there here other refl refl }
 

@@ -9,7 +9,7 @@ use Rattle.pin_core.specs.declared.view.LaneHold.{LaneHold}
 use Rattle.pin_core.specs.declared.view.Link.{Link}
 use Rattle.pin_core.specs.declared.view.View.{View}
 use Rattle.pin_core.specs.declared.view.Call.TheVariants.{Read}
-use Rattle.pin_core.specs.State.{Frame, Page, link, lane_hold, no_lane}
+use Rattle.pin_core.specs.State.{Frame, Page, link, lane_hold, no_lane, is_block}
 use Rattle.pin_core.specs.Tallies.{flag_weight, some_weight}
 use Rattle.pin_core.specs.declared.view.LoadedWord.TheVariants as seen
 use Rattle.page_core.specs.Kinds.{make_entry}
@@ -29,7 +29,7 @@ use Rattle.history_core.specs.Redo.{RedoLaw}
 use Rattle.history_core.specs.Rest.{RestLaw}
 use Rattle.history_core.proofs.Logs.{some_size, cell_longer, cell_none, changed_image, cut_none_below, starts_above, end_longer}
 use Rattle.history_core.proofs.Opening.{opens}
-use Rattle.history_core.proofs.Stepping.{step_keeps, run_keeps, makes_of, makes_whole, page_of, logged_there, cell_now}
+use Rattle.history_core.proofs.Stepping.{step_keeps, run_keeps, makes_of, makes_whole, page_of, logged_there, cell_now, frame_block}
 use Rattle.grid.proofs.Lists.{set_here, put_at}
 use Rattle.grid.proofs.Sums.{total-count, total-none, total-same, total-add}
 
@@ -202,16 +202,16 @@ module _ (s : State) (h : HistoryInvariant s) where
   stored_is tag e known = sym (e known) ∙ h.logged tag known
 
   pub clean_stored : CleanBlocksAreStored s
-  clean_stored tag named none = ⊎_elim
-      (λ (x : (f : ℕ) × (f < s.pool.core.frames) × ((s.pool.core.frame f).tag ≡ tag)). let c = (h.homes.columns x.0 x.1).clean (λ e. named (sym x.2 ∙ e)) (none x.0 x.1 x.2) in subst (IsStored s) x.2 (record { done = c.done; stored_is = stored_is (s.pool.core.frame x.0).tag c.stored }))
-      (λ (free : IsUnframed s.pool.core.frames s.pool.core.frame tag). let c = h.unframed tag named free in record { done = c.done; stored_is = stored_is tag c.stored })
+  clean_stored tag named block none = ⊎_elim
+      (λ (x : (f : ℕ) × (f < s.pool.core.frames) × ((s.pool.core.frame f).tag ≡ tag)). let c = (h.homes.columns x.0 x.1).clean (λ e. named (sym x.2 ∙ e)) (none x.0 x.1 x.2) in let there = ap (is_block s.pool.core) x.2 ∙ block in subst (IsStored s) x.2 (record { done = c.done there; stored_is = stored_is (s.pool.core.frame x.0).tag (c.stored there) }))
+      (λ (free : IsUnframed s.pool.core.frames s.pool.core.frame tag). let c = h.unframed tag named free in record { done = c.done block; stored_is = stored_is tag (c.stored block) })
       (framed s.pool.core.frames s.pool.core.frame tag)
 
   pub sound : FramesAreSound s
   sound = pages.sound s.pool h.pool
 
   pub hold_cells : FramesHoldCells s
-  hold_cells f known below tag valid none = let t = (s.pool.core.frame f).tag in let e = logged_there s h t (h.pool.core.blocks f below tag.named) known in sym (h.logged t known) ∙ e ∙ ap (λ (q : Page). Some q) (sym (pages.frames_hold s.pool h.pool f (page_of s t) below tag valid none e))
+  hold_cells f known below tag valid none = let t = (s.pool.core.frame f).tag in let e = logged_there s h t (frame_block s h f below tag.named) known in sym (h.logged t known) ∙ e ∙ ap (λ (q : Page). Some q) (sym (pages.frames_hold s.pool h.pool f (page_of s t) below tag valid none e))
 
   pub words : RedoLaw s → LogWords s
   words m = record { ends = h.ends; limit = h.limit; flushed_from = h.flushed_from; flushed_to = h.flushed_to; redo_from = m.highest.from; redo_to = m.within }

@@ -77,6 +77,13 @@ module _ (h : Home) (fr : Frame) (l : Link) where
     others = λ t n m q c le d. grind (arith, q, c, d, a);
   }
 
+  pub store_new_tag_keeps : (tag : ℕ) → (h' : Home) → IsClean h' → pin_kinds.Allowed (pin_kinds.store_new_tag tag) fr l → Keeps_by_pins (pin_kinds.store_new_tag tag) h h' fr l
+  store_new_tag_keeps tag h' clean a = record {
+    column = λ t t' q c sums le _. grind (arith, q, c, a, clean);
+    cell = λ t q le c. grind (arith, q, c, a, clean);
+    others = λ t n m q c le d. grind (arith, q, c, d, a);
+  }
+
   pub erase_tag_keeps : (h' : Home) → pin_kinds.Allowed pin_kinds.erase_tag fr l → Keeps_by_pins pin_kinds.erase_tag h h' fr l
   erase_tag_keeps h' a = record {
     column = λ t t' q c sums le _. grind (arith, q, c, a);
@@ -204,9 +211,9 @@ module _ (h : Home) (fr : Frame) (l : Link) where
   }
 
   -- where the lane's contents aren't known the block's page is forgotten
-  pub note_read_keeps : (p : Page) → (h' : Home) → h'.failed ≡ h.failed → h'.stored ≡ h.stored → (h'.known ≡ true → (h.known ≡ true) × (h'.block.logged ≡ h.block.logged)) → l.io ≡ Input → Keeps_by (kinds.note_read p) h h' fr l
-  note_read_keeps p h' failed stored same right = record {
-    column = λ t t' q c sums le _. grind (arith, q, failed, stored, same);
+  pub note_read_keeps : (p : Page) → (h' : Home) → h'.inside ≡ h.inside → h'.failed ≡ h.failed → h'.stored ≡ h.stored → (h'.known ≡ true → (h.known ≡ true) × (h'.block.logged ≡ h.block.logged)) → l.io ≡ Input → Keeps_by (kinds.note_read p) h h' fr l
+  note_read_keeps p h' inside failed stored same right = record {
+    column = λ t t' q c sums le _. grind (arith, q, inside, failed, stored, same);
     cell = λ t q le c. grind (arith, q, c, right);
     others = λ t n m q c le d. grind (arith, q, c, d, failed, stored);
   }

@@ -9,6 +9,7 @@ use Rattle.pin_core.specs.declared.view.LaneHold.{LaneHold}
 use Rattle.pin_core.specs.declared.view.View.{View}
 use Rattle.pin_core.specs.State.{link, hold, lane_hold, no_lane, new_view, emptied_view, joined_view}
 use Rattle.pin_core.specs.State as pins
+use Rattle.pin_core.specs.Sizes.{view_sized}
 use Rattle.pin_core.specs.Steps as pin_steps
 use Rattle.pin_core.specs.Turns.{view_turned}
 use Rattle.pin_core.proofs.Stepping as pin_stepping
@@ -49,6 +50,7 @@ set_stays views i j n a b v there same at = dite (ℕ_discrete j i)
 pins_keep : {e : pin_steps.Event} {s t : pins.State} → pin_steps.Step e s t → (j n : ℕ) (v : View) → get_elem? s.views j ≡ some v → LeavesHold (pool (page_steps.pins_and_maps e)) j n → HasKeptFlushed t.views j n v
 pins_keep (pin_steps.touches {s = s} i f k u there live inside a around) j n v at leaves = set_stays s.views i j n u (pin_stepping.after k s f u) v there (λ e. refl) at
 pins_keep (pin_steps.turns {s = s} i p k u there live below a) j n v at leaves = set_stays s.views i j n u (view_turned k p (hold u p) u) v there (λ e. refl) at
+pins_keep (pin_steps.sized {s = s} i fork k u there live a) j n v at leaves = set_stays s.views i j n u (view_sized k fork s u) v there (λ e. refl) at
 pins_keep (pin_steps.splits {s = s} u there room) j n v at leaves = let w : View = record u { next = u.next + 1 } in let x = set_stays s.views 0 j n u w v there (λ e. refl) at in
     record { view = x.view; there = at_longer (set s.views 0 w) (new_view u.next s.base (length u.links) (length u.partitions) (length u.lanes) ∷ []) j x.view x.there; flushed = x.flushed }
 pins_keep (pin_steps.joins {s = s} k a b there other here live free) j n v at leaves = let x = set_stays s.views 0 j n a (joined_view a b) v there (λ e. refl) at in record { view = x.view; there = set_else (set s.views 0 (joined_view a b)) k j emptied_view leaves ∙ x.there; flushed = x.flushed }

@@ -1,6 +1,7 @@
 -- What no step changes, and what only grows.
 use Rattle.std.proofs.Common.{◌≡◌, ◌≢◌, ℕ, ◌≤◌, List, [], ◌∷◌, ◌++◌, length, None, append-nil, sym, refl, ◌∙◌, lit<, arith}
 use Rattle.pin_core.specs.State as pins
+use Rattle.pin_core.specs.Sizes.{view_sized}
 use Rattle.pin_core.specs.Steps as pin_steps
 use Rattle.page_core.specs.State as page
 use Rattle.page_core.specs.Steps as page_steps
@@ -18,24 +19,26 @@ record IsSamePool (s t : pins.State) : Type 0 where
   backends : t.backends ≡ s.backends
   partitions : t.partitions ≡ s.partitions
   partition_of : t.partition_of ≡ s.partition_of
-  is_block : t.is_block ≡ s.is_block
+  is_fork : t.is_fork ≡ s.is_fork
+  resizes : t.resizes ≡ s.resizes
 
 pins_last : {e : pin_steps.Event} {s t : pins.State} → pin_steps.Step e s t → IsSamePool s t
-pins_last (pin_steps.touches i f k u there live inside a around) = record { frames = refl; backends = refl; partitions = refl; partition_of = refl; is_block = refl }
-pins_last (pin_steps.turns i p k u there live below a) = record { frames = refl; backends = refl; partitions = refl; partition_of = refl; is_block = refl }
-pins_last (pin_steps.splits u there room) = record { frames = refl; backends = refl; partitions = refl; partition_of = refl; is_block = refl }
-pins_last (pin_steps.joins k a b there other here live free) = record { frames = refl; backends = refl; partitions = refl; partition_of = refl; is_block = refl }
+pins_last (pin_steps.touches i f k u there live inside a around) = record { frames = refl; backends = refl; partitions = refl; partition_of = refl; is_fork = refl; resizes = refl }
+pins_last (pin_steps.turns i p k u there live below a) = record { frames = refl; backends = refl; partitions = refl; partition_of = refl; is_fork = refl; resizes = refl }
+pins_last (pin_steps.sized i fork k u there live a) = record { frames = refl; backends = refl; partitions = refl; partition_of = refl; is_fork = refl; resizes = refl }
+pins_last (pin_steps.splits u there room) = record { frames = refl; backends = refl; partitions = refl; partition_of = refl; is_fork = refl; resizes = refl }
+pins_last (pin_steps.joins k a b there other here live free) = record { frames = refl; backends = refl; partitions = refl; partition_of = refl; is_fork = refl; resizes = refl }
 
 pages_last : {e : page_steps.Event} {s t : page.State} → page_steps.Step e s t → IsSamePool s.core t.core
 pages_last (page_steps.cores x) = pins_last x
-pages_last (page_steps.touches i f k u there live inside a around) = record { frames = refl; backends = refl; partitions = refl; partition_of = refl; is_block = refl }
+pages_last (page_steps.touches i f k u there live inside a around) = record { frames = refl; backends = refl; partitions = refl; partition_of = refl; is_fork = refl; resizes = refl }
 
-of_pool : {s t : State} → IsSamePool s.pool.core t.pool.core → t.lanes ≡ s.lanes → t.lane_of ≡ s.lane_of → t.known ≡ s.known → t.origin ≡ s.origin → t.unsynced_at_start ≡ s.unsynced_at_start → t.log.base ≡ s.log.base → t.names ≡ s.names → t.ranges ≡ s.ranges → t.log_faults ≡ s.log_faults → IsSameOpening s t
-of_pool p count lane_of known origin unsynced base names ranges faults = record { frames = p.frames; backends = p.backends; partitions = p.partitions; partition_of = p.partition_of; is_block = p.is_block; lanes = count; lane_of = lane_of; known = known; origin = origin; unsynced = unsynced; base = base; names = names; ranges = ranges; log_faults = faults }
+of_pool : {s t : State} → IsSamePool s.pool.core t.pool.core → t.lanes ≡ s.lanes → t.lane_of ≡ s.lane_of → t.known ≡ s.known → t.opened_sizes ≡ s.opened_sizes → t.origin ≡ s.origin → t.unsynced_at_start ≡ s.unsynced_at_start → t.log.base ≡ s.log.base → t.names ≡ s.names → t.ranges ≡ s.ranges → t.log_faults ≡ s.log_faults → IsSameOpening s t
+of_pool p count lane_of known sizes origin unsynced base names ranges faults = record { frames = p.frames; backends = p.backends; partitions = p.partitions; partition_of = p.partition_of; is_fork = p.is_fork; resizes = p.resizes; opened_sizes = sizes; lanes = count; lane_of = lane_of; known = known; origin = origin; unsynced = unsynced; base = base; names = names; ranges = ranges; log_faults = faults }
 
 pub opening_stays : (s : State) → OpeningStays s
-opening_stays s e t (pools x a) = of_pool (pages_last x) refl refl refl refl refl refl refl refl refl
-opening_stays s e t _ = of_pool record { frames = refl; backends = refl; partitions = refl; partition_of = refl; is_block = refl } refl refl refl refl refl refl refl refl refl
+opening_stays s e t (pools x a) = of_pool (pages_last x) refl refl refl refl refl refl refl refl refl refl
+opening_stays s e t _ = of_pool record { frames = refl; backends = refl; partitions = refl; partition_of = refl; is_fork = refl; resizes = refl } refl refl refl refl refl refl refl refl refl refl
 
 -- the device after a call
 record DeviceGrows (d d' : Device) : Type 0 where

@@ -67,7 +67,9 @@ same_on a b = record {
   backends = b.backends ∙ a.backends;
   partitions = b.partitions ∙ a.partitions;
   partition_of = b.partition_of ∙ a.partition_of;
-  is_block = b.is_block ∙ a.is_block;
+  is_fork = b.is_fork ∙ a.is_fork;
+  resizes = b.resizes ∙ a.resizes;
+  opened_sizes = b.opened_sizes ∙ a.opened_sizes;
   lanes = b.lanes ∙ a.lanes;
   lane_of = b.lane_of ∙ a.lane_of;
   known = b.known ∙ a.known;
@@ -80,7 +82,7 @@ same_on a b = record {
 }
 
 opening_lasts : {es : List Event} {s t : State} → Run es s t → IsSameOpening s t
-opening_lasts rests = record { frames = refl; backends = refl; partitions = refl; partition_of = refl; is_block = refl; lanes = refl; lane_of = refl; known = refl; origin = refl; unsynced = refl; base = refl; names = refl; ranges = refl; log_faults = refl }
+opening_lasts rests = record { frames = refl; backends = refl; partitions = refl; partition_of = refl; is_fork = refl; resizes = refl; opened_sizes = refl; lanes = refl; lane_of = refl; known = refl; origin = refl; unsynced = refl; base = refl; names = refl; ranges = refl; log_faults = refl }
 opening_lasts (goes {e = e} {s = s} {t = t} x r) = same_on (opening_stays s e t x) (opening_lasts r)
 
 -- so a state that is reached has what its buffer pool was opened with

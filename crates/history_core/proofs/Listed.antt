@@ -16,9 +16,10 @@ use Rattle.pin_core.specs.State as pins
 use Rattle.pin_core.specs.Invariant.{LinkLaw, PinInvariant}
 use Rattle.pin_core.specs.Kinds as pin_kinds
 use Rattle.pin_core.specs.Kinds.{seen_gone, sighted}
+use Rattle.pin_core.specs.Sizes.{SizeKind, SizeAllowed, view_sized}
 use Rattle.pin_core.specs.Turns.{view_turned}
 use Rattle.pin_core.specs.Steps as pin_steps
-use Rattle.pin_core.proofs.Stepping.{new_link, relinked}
+use Rattle.pin_core.proofs.Stepping.{new_link, relinked, sized_links}
 use Rattle.page_core.specs.State.{Block, block_of}
 use Rattle.page_core.specs.Steps as page_steps
 use Rattle.page_core.specs.Kinds as kinds
@@ -76,6 +77,7 @@ here_pinned pin_kinds.load_tag f fr l rs c a old tag saw known = lists_last (see
 here_pinned (pin_kinds.pin_mapped t ring) f fr l rs c a old tag saw known = absurd (let none = (c.unpinned a.absent).1 in cc)
 here_pinned pin_kinds.unpin f fr l rs c a old tag saw known = absurd (cc)
 here_pinned (pin_kinds.store_tag t) f fr l rs c a old tag saw known = absurd (cc)
+here_pinned (pin_kinds.store_new_tag t) f fr l rs c a old tag saw known = absurd (cc)
 here_pinned pin_kinds.erase_tag f fr l rs c a old tag saw known = absurd (cc)
 here_pinned pin_kinds.assign f fr l rs c a old tag saw known = absurd (let none = (c.pending a.stored).unseen in cc)
 here_pinned _ f fr l rs c a old tag saw known = old tag saw known
@@ -109,11 +111,22 @@ touched n f v w l inside here else keeps new m g tag below saw known = dite (ℕ
 unseen : (number base n p m f : ℕ) → (link (new_view number base n p m) f).seen_valid ≡ true → ⊥
 unseen number base n p m f saw = let e = (new_link number base n p m f (empty_frame [])).seen saw in absurd (cc)
 
+-- what a link knows of its frame's block
+record KnowsNoMore (l m : Link) : Type 0 where
+  pub seen_valid : m.seen_valid ≡ l.seen_valid
+  pub tag : m.tag ≡ l.tag
+
+-- a step at the size of a fork leaves that
+sized_listed : (s : State) (h : PinInvariant s.pool.core) (i fork : ℕ) (v : View) → get_elem? s.pool.core.views i ≡ some v → v.emptied ≡ false → (k : SizeKind) → SizeAllowed k s.pool.core v fork → PinsListed s.pool.core.frames v → PinsListed s.pool.core.frames (view_sized k fork s.pool.core v)
+sized_listed s h i fork v there live k a m f tag below saw known = let x = sized_links s.pool.core h i fork v there live KnowsNoMore k a (λ l. record { seen_valid = refl; tag = refl }) (λ l some. record { seen_valid = refl; tag = refl }) (λ g end b e. record { seen_valid = refl; tag = refl }) f in
+    m f tag below (sym x.seen_valid ∙ saw) (sym x.tag ∙ known)
+
 pools_listed : (s : State) (h : PinInvariant s.pool.core) → AllListed s.pool.core.frames s.pool.core.views → {e : pin_steps.Event} {core' : pins.State} → pin_steps.Step e s.pool.core core' → AllListed core'.frames core'.views
 pools_listed s h m (pin_steps.touches i f k v there live inside a around) = let n = s.pool.core.frames in let fr = s.pool.core.frame f in let w : View = pin_kinds.view_after k s.pool.core.partition_of f fr (link v f) v in let r = relinked s.pool.core h i f v there live inside k in
     all_set n s.pool.core.views m i w (touched n f v w (pin_kinds.link_after k fr (link v f)) inside r.here r.else (keeps_pinned k f fr (link v f) v.residents)
     (here_pinned k f fr (link v f) v.residents (h.grid.cells i v f there inside) a (λ tag saw known. m i v there f tag inside saw known)) (m i v there))
 pools_listed s h m (pin_steps.turns i p k v there live below a) = all_set s.pool.core.frames s.pool.core.views m i (view_turned k p (hold v p) v) (m i v there)
+pools_listed s h m (pin_steps.sized i fork k v there live a) = all_set s.pool.core.frames s.pool.core.views m i (view_sized k fork s.pool.core v) (sized_listed s h i fork v there live k a (m i v there))
 pools_listed s h m (pin_steps.splits v there room) = let w : View = record v { next = v.next + 1 } in let b : View = new_view v.next s.pool.core.base (length v.links) (length v.partitions) (length v.lanes) in
     λ i u at. ⊎_elim (λ (y : get_elem? (set s.pool.core.views 0 w) i ≡ some u). all_set s.pool.core.frames s.pool.core.views m 0 w (m 0 v there) i u y)
     (λ (y : (b ≡ u) × (i ≡ length (set s.pool.core.views 0 w))). subst (PinsListed s.pool.core.frames) y.0 (λ f tag below saw known. absurd (unseen v.next s.pool.core.base (length v.links) (length v.partitions) (length v.lanes) f saw)))

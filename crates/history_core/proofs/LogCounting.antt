@@ -17,6 +17,7 @@ use Rattle.pin_core.specs.declared.view.LoadedWord.TheVariants as seen
 use Rattle.pin_core.specs.State.{Config, link, hold, lane_hold, first_view, new_view, emptied_view, joined_view}
 use Rattle.pin_core.specs.Kinds as pin_kinds
 use Rattle.pin_core.specs.Turns.{view_turned}
+use Rattle.pin_core.specs.Sizes.{view_sized}
 use Rattle.pin_core.specs.Steps as pin_steps
 use Rattle.page_core.specs.Steps as page_steps
 use Rattle.page_core.specs.Kinds.{begin_write, make_entry}
@@ -141,6 +142,7 @@ module _ (s : State) (h : HistoryInvariant s) (i : ℕ) (v : View) (there : get_
 pools_counted : (s : State) (h : HistoryInvariant s) → LogCounted s.log_faults s.device s.pool.core.views → {e : pin_steps.Event} {core' : _} → pin_steps.Step e s.pool.core core' → LogCounted s.log_faults s.device core'.views
 pools_counted s h m (pin_steps.touches i f k v there live inside a around) = elsewhere s h i v there m (pin_kinds.view_after k s.pool.core.partition_of f (s.pool.core.frame f) (link v f) v) refl refl refl
 pools_counted s h m (pin_steps.turns i p k v there live below a) = elsewhere s h i v there m (view_turned k p (hold v p) v) refl refl refl
+pools_counted s h m (pin_steps.sized i fork k v there live a) = elsewhere s h i v there m (view_sized k fork s.pool.core v) refl refl refl
 pools_counted s h m (pin_steps.splits v there room) = let w : View = record v { next = v.next + 1 } in let b : View = new_view v.next s.pool.core.base (length v.links) (length v.partitions) (length v.lanes) in let vs : List View = set s.pool.core.views 0 w in let x = elsewhere s h 0 v there m w refl refl refl in
     let sums : (all_met (vs ++ b ∷ [])).logs ≡ (all_met vs).logs = omega (arith, total-snoc logs_of vs b) in record {
       rose = λ e. x.rose (omega arith);

@@ -11,7 +11,7 @@ use Rattle.pin_core.specs.State.{emptied_view}
 use Rattle.pin_core.specs.Kinds as pins
 use Rattle.pin_core.specs.Turns.{TurnKind, take_turn, leave_turn, map_out, change_map, map_back}
 use Rattle.pin_core.specs.Steps as pin_steps
-use Rattle.pin_core.proofs.Sample.{at_partition, no_entries, one_entry, named, packed}
+use Rattle.pin_core.proofs.Sample.{at_partition, no_entries, one_entry, named, packed, in_fork, never}
 use Rattle.page_core.proofs.Sample.{at_frame, sound_read}
 use Rattle.page_core.specs.Kinds.{Kind, start_input, note_read, page_out, overwrite_read, page_back, end_io, share, take_copy, leave_copy}
 use Rattle.pin_core.specs.declared.view.LaneHold.{LaneHold}
@@ -166,14 +166,14 @@ begun = goes (pools (page_steps.cores (pin_steps.turns 0 0 take_turn (view_of m0
     (goes (pools (page_steps.cores (pin_steps.touches 0 0 pins.lock_header (view_of m1) refl refl (lit< tt) (record { unlocked = refl }) (at_frame (λ (l : Link). l.header ≡ None) (view_of m1) _ refl refl refl))) tt)
     (goes (pools (page_steps.cores (pin_steps.touches 0 0 pins.pin_victim (view_of m2) refl refl (lit< tt) (record { held = refl; absent = refl; room = λ e. refl }) (at_frame (λ (l : Link). l.role ≢ Victim) (view_of m2) _ refl (λ e. cc) (λ e. cc)))) tt)
     (goes (pools (page_steps.cores (pin_steps.touches 0 0 pins.lock_header (view_of m3) refl refl (lit< tt) (record { unlocked = refl }) (at_frame (λ (l : Link). l.header ≡ None) (view_of m3) _ refl refl refl))) tt)
-    (goes (pools (page_steps.cores (pin_steps.touches 0 0 (pins.store_tag 7) (view_of m4) refl refl (lit< tt) (record { alone = record { held = refl; settled = refl; single = refl; victim = refl; no_content = refl; no_io = refl }; named = named; packed = packed; untagged = refl }) (record { naming = record { held = refl; unchanged = refl; no_change = (at_partition (λ (h : PartitionHold). h.change ≡ Stable) (view_of m4) _ refl refl refl) }; block = refl; lacking = refl }))) tt)
+    (goes (pools (page_steps.cores (pin_steps.touches 0 0 (pins.store_tag 7) (view_of m4) refl refl (lit< tt) (record { alone = record { held = refl; settled = refl; single = refl; victim = refl; no_content = refl; no_io = refl }; named = named; packed = packed; untagged = refl }) (record { naming = record { held = refl; unchanged = refl; no_change = (at_partition (λ (h : PartitionHold). h.change ≡ Stable) (view_of m4) _ refl refl refl) }; block = in_fork; room = λ e. never e; lacking = refl }))) tt)
     (goes (pools (page_steps.cores (pin_steps.touches 0 0 pins.assign (view_of m5) refl refl (lit< tt) (record { held = refl; stored = refl; named = named }) tt)) tt)
     (goes (pools (page_steps.cores (pin_steps.turns 0 0 (map_out []) (view_of m6) refl refl (lit< tt) (record { held = refl; home = refl; entries_are = no_entries }))) tt)
     (goes (pools (page_steps.cores (pin_steps.turns 0 0 change_map (view_of m7) refl refl (lit< tt) (record { out = λ e. cc; unchanged = refl; named = λ e. cc }))) tt)
     (goes (pools (page_steps.cores (pin_steps.turns 0 0 (map_back (sample_entry ∷ [])) (view_of m8) refl refl (lit< tt) (record { out = λ e. cc; entries_are = one_entry }))) tt)
     (goes (pools (page_steps.cores (pin_steps.turns 0 0 leave_turn (view_of m9) refl refl (lit< tt) (record { held = refl; home = refl; no_change = refl }))) tt)
     (goes (pools (page_steps.cores (pin_steps.touches 0 0 pins.lock_header (view_of m10) refl refl (lit< tt) (record { unlocked = refl }) (at_frame (λ (l : Link). l.header ≡ None) (view_of m10) _ refl refl refl))) tt)
-    (goes (pools (page_steps.touches 0 0 start_input (view_of m11) refl refl (lit< tt) (record { held = refl; settled = refl; pinned = λ e. cc; clear = refl; tagged = refl; invalid = refl }) (at_frame (λ (l : Link). l.io ≡ Quiet) (view_of m11) _ refl refl refl)) tt)
+    (goes (pools (page_steps.touches 0 0 start_input (view_of m11) refl refl (lit< tt) (record { held = refl; settled = refl; pinned = λ e. cc; clear = refl; tagged = refl; invalid = refl }) (record { block = λ _. in_fork; none = at_frame (λ (l : Link). l.io ≡ Quiet) (view_of m11) _ refl refl refl })) tt)
     rests)))))))))))
 
 -- the block's page is in the frame
@@ -181,7 +181,7 @@ pub filled : Run (miss ++ fill) miss_start m22
 filled = run_append begun (goes (lanes 0 0 take_lane (view_of m12) refl refl (lit< tt) (record { free = refl }) tt)
     (goes (lanes 0 0 (lane_out sample_lane) (view_of m13) refl refl (lit< tt) goes_out tt)
     (goes (lanes 0 0 (read_block 7 example_page) (view_of m14) refl refl (lit< tt) (record { call = record { out = λ e. cc; once = refl }; given = λ e. refl }) refl)
-    (goes (notes 0 0 0 false (note_read example_page) (view_of m15) refl refl (lit< tt) (lit< tt) (record { out = λ e. cc; counts = λ taken e. record { failed = λ z. absurd (cc); all = λ z. absurd (cc); read_rose = λ z. below taken.read_faults z; write_rose = λ z. below taken.write_faults z } }) (record { was_read = refl; lane = refl; right = refl; fresh = refl }))
+    (goes (notes 0 0 0 false (note_read example_page) (view_of m15) refl refl (lit< tt) (lit< tt) (record { out = λ e. cc; counts = λ taken e. record { failed = λ z. absurd (cc); all = λ z. absurd (cc); read_rose = λ z. below taken.read_faults z; write_rose = λ z. below taken.write_faults z } }) (record { was_read = refl; lane = refl; right = refl; fresh = refl; unnoted = refl }))
     (goes (lanes 0 0 leave_lane (view_of m16) refl refl (lit< tt) (record { held = refl; home = refl }) tt)
     (goes (pools (page_steps.touches 0 0 page_out (view_of m17) refl refl (lit< tt) (record { page_home = refl; shared = λ e. absurd (cc); unlocked = λ e. refl }) tt) tt)
     (goes (pools (page_steps.touches 0 0 (overwrite_read example_page) (view_of m18) refl refl (lit< tt) (record { out = λ e. cc; once = refl; right = refl; read = refl }) tt) tt)

@@ -6,7 +6,9 @@ use lib.ListN.{get_elem?, length-replicate}
 use Rattle.pin_core.specs.declared.view.View.{View}
 use Rattle.pin_core.specs.State.{Config, CanOpen, Page, link, no_lane, lane_hold, first_view, empty_frame, no_tag}
 use Rattle.pin_core.proofs.Views.{link_new}
+use Rattle.page_core.specs.State.{below_sizes}
 use Rattle.page_core.proofs.Opening as pages
+use Rattle.history_core.proofs.Sizes.{sizes_none}
 use Rattle.history_core.specs.Log.{Log, cell, cut, write_weight, writes_in, records, head_bytes}
 use Rattle.history_core.specs.State.{Store, CanStore, is_known, known_origin, fresh_lane, fresh_device, opening}
 use Rattle.history_core.specs.Lanes.{holders, LaneLink, lane_shape}
@@ -40,8 +42,10 @@ fresh_frame h p = record { clean = λ named. absurd (named refl) }
 pub opens : (c : Config) (store : Store) (page : Page) → CanOpen c → CanStore c store → HistoryInvariant (opening c store page)
 opens c store page can stores = let w : View = first_view c.base c.frames c.partitions c.lanes in let log : Log = record { base = c.base; entries = [] } in let none : (k : LogTally) → total (λ (v : View). log_weigh k v.log) (w ∷ []) ≡ 0 = (λ k. one_total (λ (v : View). log_weigh k v.log) w (no_weight k)) in record {
   pool = pages.opens c (known_origin store) page can;
-  logged = λ tag is. ap (λ (b : Bool). cond b (store.origin tag) None) is ∙ sym (cell_none store.origin tag);
-  there = λ tag block is. ap (λ (o : Option Page). is_some o) (cell_none store.origin tag) ∙ stores.there tag block is;
+  logged = λ tag is. ap (λ (b : Bool). below_sizes c.sizes (λ _. cond b (store.origin tag) None) tag) is ∙ sym (cell_none (below_sizes c.sizes store.origin) tag);
+  sizes = λ fork. sym (sizes_none c.sizes fork);
+  quiet = stores.quiet;
+  there = λ tag block is. ap (λ (o : Option Page). is_some o) (cell_none (below_sizes c.sizes store.origin) tag ∙ ap (λ (b : Bool). cond b (store.origin tag) None) block) ∙ stores.there tag block is;
   pages = λ k tag e of. absurd (some-ne-none e (sym of.there));
   known = λ tag. refl;
   log = record { chained = none_chained c.base; valid = λ k e t. absurd (some-ne-none e (sym t)) };
@@ -57,7 +61,7 @@ opens c store page can stores = let w : View = first_view c.base c.frames c.part
     cells = λ i v g there below. subst (λ (x : View). LogLink (written_of (opening c store page)) (fresh_device c.base store) x.saw_down x.log) (at_only w v i there).0 (no_log_law (written_of (opening c store page)) (fresh_device c.base store));
   };
   history = record {
-    calls = λ i v there. subst (CallsLaw (is_known store) store.origin log c.base) (at_only w v i there).0 (no_calls (is_known store) store.origin log c.base w refl (λ _. refl) (omega (arith, end_none c.base)) (omega arith));
+    calls = λ i v there. subst (CallsLaw (is_known store) (below_sizes c.sizes store.origin) log c.base) (at_only w v i there).0 (no_calls (is_known store) (below_sizes c.sizes store.origin) log c.base w refl (λ _. refl) (omega (arith, end_none c.base)) (omega arith));
     kept = record {
       only_first = λ i v there other. absurd (other (at_only w v i there).1);
       spent = λ i k v c there at. absurd (some-ne-none c (sym (subst (λ (x : View). get_elem? x.joined_checkpoints k ≡ some c) (sym (at_only w v i there).0) at)));
@@ -76,6 +80,6 @@ opens c store page can stores = let w : View = first_view c.base c.frames c.part
     columns = λ f below. fresh_frame (home_of (opening c store page) no_tag) page;
     cells = λ i v f there below. subst (λ (x : View). HomeLink (home_of (opening c store page) no_tag) (empty_frame page) (link x f)) (at_only w v i there).0 (subst (HomeLink (home_of (opening c store page) no_tag) (empty_frame page)) (sym (link_new c.frames c.partitions c.lanes 0 c.base f)) (no_link (home_of (opening c store page) no_tag) (empty_frame page)));
   };
-  unframed = λ tag named none. record { done = refl; stored = λ is. ap (λ (b : Bool). cond b (store.origin tag) None) is };
-  flushed_cells = λ tag. record { based = omega arith; within = omega arith; is_cell = λ is ok. sym (cell_none store.origin tag) ∙ ap (λ es. cell store.origin es tag) (sym (cut_none c.base)) };
+  unframed = λ tag named none. record { done = λ block. refl; stored = λ block is. ap (λ (b : Bool). cond b (cond (is_known store tag) (store.origin tag) None) None) block ∙ ap (λ (b : Bool). cond b (store.origin tag) None) is };
+  flushed_cells = λ tag. record { based = omega arith; within = omega arith; is_cell = λ block is ok. sym (cell_none (below_sizes c.sizes store.origin) tag ∙ ap (λ (b : Bool). cond b (store.origin tag) None) block) ∙ ap (λ es. cell (below_sizes c.sizes store.origin) es tag) (sym (cut_none c.base)) };
 }

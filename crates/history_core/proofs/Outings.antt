@@ -11,6 +11,7 @@ use Rattle.pin_core.specs.State.{Config, Page, link, hold, first_view, new_view,
 use Rattle.pin_core.specs.State as pins
 use Rattle.pin_core.specs.Kinds as pin_kinds
 use Rattle.pin_core.specs.Turns.{view_turned}
+use Rattle.pin_core.specs.Sizes.{view_sized}
 use Rattle.pin_core.specs.Steps as pin_steps
 use Rattle.page_core.specs.Steps as page_steps
 use Rattle.page_core.specs.Kinds.{begin_write, make_entry}
@@ -35,6 +36,7 @@ aside d views m i v w there out same j u taken at = by_view views i v w there (�
 pools_out : (s : State) (h : HistoryInvariant s) → OutingsLaw s → {e : pin_steps.Event} {core' : pins.State} → pin_steps.Step e s.pool.core core' → Law s.device core'.views
 pools_out s h m (pin_steps.touches i f k v there live inside a around) = aside s.device s.pool.core.views m i v (pin_kinds.view_after k s.pool.core.partition_of f (s.pool.core.frame f) (link v f) v) there refl refl
 pools_out s h m (pin_steps.turns i p k v there live below a) = aside s.device s.pool.core.views m i v (view_turned k p (hold v p) v) there refl refl
+pools_out s h m (pin_steps.sized i fork k v there live a) = aside s.device s.pool.core.views m i v (view_sized k fork s.pool.core v) there refl refl
 pools_out s h m (pin_steps.splits v there room) = let w : View = record v { next = v.next + 1 } in let b : View = new_view v.next s.pool.core.base (length v.links) (length v.partitions) (length v.lanes) in let x = aside s.device s.pool.core.views m 0 v w there refl refl in
     λ j u taken at out same. ⊎_elim (λ (t : get_elem? (set s.pool.core.views 0 w) j ≡ some u). x j u taken t out same) (λ (t : (b ≡ u) × (j ≡ length (set s.pool.core.views 0 w))). absurd (none_out (ap (λ (y : View). y.log.out) (sym t.0)) out)) (at_end (set s.pool.core.views 0 w) b u j at)
 pools_out s h m (pin_steps.joins j v u there other here live free) = let w : View = joined_view v u in let x = aside s.device s.pool.core.views m 0 v w there refl refl in

@@ -19,8 +19,11 @@ use Rattle.pin_core.specs.State as pins
 use Rattle.pin_core.specs.Tallies.{frame_shape}
 use Rattle.pin_core.specs.Kinds as pin_kinds
 use Rattle.pin_core.specs.Turns.{view_turned}
+use Rattle.pin_core.specs.Sizes.{view_sized}
 use Rattle.pin_core.specs.Steps as pin_steps
 use Rattle.pin_core.proofs.Stepping as pin_stepping
+use Rattle.pin_core.proofs.Stepping.{sized_links}
+use Rattle.pin_core.proofs.SizeSchedules.{none_noted}
 use Rattle.pin_core.proofs.Views.{link_new}
 use Rattle.page_core.specs.State.{Block, block_of}
 use Rattle.page_core.specs.Tallies.{Tally, sharers, applied_locks, unapplied_locks, weigh, page_shape}
@@ -44,7 +47,7 @@ use Rattle.history_core.proofs.Blocks.{plain_block, tag_goes, written_is_logged}
 use Rattle.history_core.proofs.Calls.{at_both}
 use Rattle.history_core.proofs.Debts.{stays, Fresh, pins_move, pins_link, pages_move, pages_link, Touched, debts_touched, debts_set, debts_aside, debts_later}
 use Rattle.history_core.proofs.Logs.{some_size, entry_at, entry_longer, ends_below}
-use Rattle.history_core.proofs.Stepping.{step_keeps, makes_of, relinks, unframed_tag, logged_same, lane_put, lane_written, HoldsSame, no_write_holds, for_input}
+use Rattle.history_core.proofs.Stepping.{step_keeps, makes_of, relinks, unframed_tag, unframed_name, logged_stays, flags_differ, logged_same, lane_put, lane_written, HoldsSame, no_write_holds, for_input}
 use Rattle.grid.specs.Shape.{put, tallies}
 use Rattle.grid.proofs.Lists.{at_end, at_only, put_at, put_else, put_same}
 use Rattle.grid.proofs.Sums.{term_le}
@@ -77,6 +80,7 @@ module _ (s : State) (h : HistoryInvariant s) (d : DebtsLaw s) where
 
   fresh_of : (i f : ℕ) (v : View) (k : pin_kinds.Kind) → get_elem? views i ≡ some v → pin_kinds.Allowed k (frame f) (link v f) → pin_steps.AllowedAround k s.pool.core v f → Fresh t (frame f) (link v f) v.upto k
   fresh_of i f v (pin_kinds.store_tag tag) there a around = d.unframed tag a.named (unframed_tag s h i f tag v there a around)
+  fresh_of i f v (pin_kinds.store_new_tag tag) there a around = d.unframed tag a.named (unframed_name s h i tag v there a.named around.naming around.lacking)
   fresh_of i f v _ there a around = tt
 
   -- a view that has nothing at any frame, and no checkpoint
@@ -90,9 +94,15 @@ module _ (s : State) (h : HistoryInvariant s) (d : DebtsLaw s) where
 
   pins_owe : {e : pin_steps.Event} {core' : pins.State} → pin_steps.Step e s.pool.core core' → Debts t core'.frames core'.frame s.end s.pool.logged core'.views
   pins_owe (pin_steps.touches i f k v there live inside a around) = let fr = frame f in let l = link v f in let x = fresh_of i f v k there a around in let w : View = pin_stepping.after k s.pool.core f v in
-      debts_touched t n frame s.end f (pin_kinds.frame_after k fr) (pins_move t fr l v.upto k x a) s.pool.logged views d inside (tag_goes k fr l (tallies frame_shape views f) (h.pool.core.grid.columns f inside) a) i v w (pin_kinds.link_after k fr l) there
+      debts_touched t n frame s.end f (pin_kinds.frame_after k fr) (pins_move t fr l v.upto k x a) s.pool.logged views d inside (λ named goes. ⊎_elim (λ (clean : fr.word.dirty ≡ false). d.clean f inside named clean) (λ (noted : l.noted ≡ true). absurd (flags_differ (sym (none_noted s.pool.core h.pool.sizes h.quiet i f v there inside) ∙ noted))) (tag_goes k fr l (tallies frame_shape views f) (h.pool.core.grid.columns f inside) a goes)) i v w (pin_kinds.link_after k fr l) there
       (touches_at i f v w (pin_kinds.link_after k fr l) there live inside refl refl refl) (pins_link t fr l v.upto k x a (d.clean f inside) ((d.each i v there).own f inside))
   pins_owe (pin_steps.turns i p k v there live below a) = debts_aside t n frame s.end s.pool.logged views d i v (view_turned k p (hold v p) v) there refl refl refl
+  pins_owe (pin_steps.sized i fork k v there live a) = let w : View = view_sized k fork s.pool.core v in let x = d.each i v there in debts_set t n frame s.end s.pool.logged views d i w (record {
+    begun = x.begun;
+    kept_begun = x.kept_begun;
+    own = λ f below. sized_links s.pool.core h.pool.core i fork v there live (λ l m. LinkDebt t (frame f) v.upto l → LinkDebt t (frame f) v.upto m) k a (λ l y. y) (λ l known y. record { stored_or_left = y.stored_or_left; done = y.done }) (λ g end e z y. record { stored_or_left = y.stored_or_left; done = y.done }) f (x.own f below);
+    kept = x.kept;
+  })
   pins_owe (pin_steps.splits v there room) = let w : View = record v { next = v.next + 1 } in let b : View = new_view v.next s.pool.core.base (length v.links) (length v.partitions) (length v.lanes) in let x = debts_aside t n frame s.end s.pool.logged views d 0 v w there refl refl refl in record {
     named = x.named;
     clean = x.clean;
@@ -121,7 +131,7 @@ module _ (s : State) (h : HistoryInvariant s) (d : DebtsLaw s) where
   pages_owe : (i f : ℕ) (k : Kind) (v : View) → get_elem? views i ≡ some v → v.emptied ≡ false → f < n → kinds.Allowed k (block_of s.pool.logged (frame f).tag) (frame f) (link v f) → IsPlain k → DebtsLaw (record s { pool = page_steps.state_after k s.pool i f v })
   pages_owe i f k v there live inside a plain = let fr = frame f in let b = block_of s.pool.logged fr.tag in let l = link v f in let own = (d.each i v there).own f inside in let w : View = paged k s.pool f v in
       subst (λ (g : ℕ → Option Page). Debts t n (put frame f (frame_after k b fr)) s.end g (set views i w)) (sym (logged_same s h i f k v there live inside (plain_block k b plain)))
-      (debts_touched t n frame s.end f (frame_after k b fr) (pages_move t fr b l v.upto k plain a own) s.pool.logged views d inside (λ goes. absurd (goes (tag_kept k b fr))) i v w (link_after k b fr l) there (touches_at i f v w (link_after k b fr l) there live inside refl refl refl) (pages_link t fr b l v.upto k plain a own))
+      (debts_touched t n frame s.end f (frame_after k b fr) (pages_move t fr b l v.upto k plain a own) s.pool.logged views d inside (λ named goes. absurd (goes (tag_kept k b fr))) i v w (link_after k b fr l) there (touches_at i f v w (link_after k b fr l) there live inside refl refl refl) (pages_link t fr b l v.upto k plain a own))
 
   -- a view changes beside its links and checkpoints
   aside_owe : (i : ℕ) (v w : View) → get_elem? views i ≡ some v → w.upto ≡ v.upto → w.joined_checkpoints ≡ v.joined_checkpoints → w.links ≡ v.links → Debts t n frame s.end s.pool.logged (set views i w)
@@ -144,7 +154,7 @@ module _ (s : State) (h : HistoryInvariant s) (d : DebtsLaw s) where
 
   -- a frame where only what a view notes of its lane changes
   noted_owe : (i f : ℕ) (v w : View) (l : Link) → get_elem? views i ≡ some v → v.emptied ≡ false → f < n → w.links ≡ set v.links f l → w.upto ≡ v.upto → w.joined_checkpoints ≡ v.joined_checkpoints → l.visited ≡ (link v f).visited → l.left_to_write ≡ (link v f).left_to_write → (l.last_write ≡ Done → (frame f).tag ≢ no_tag → IsCurrent t (frame f).tag) → Debts t n (put frame f (frame f)) s.end s.pool.logged (set views i w)
-  noted_owe i f v w l there live inside links upto kept visited left_to_write done = debts_touched t n frame s.end f (frame f) (stays refl (λ e. e) (λ e. e)) s.pool.logged views d inside (λ goes. absurd (goes refl)) i v w l there (touches_at i f v w l there live inside links upto kept)
+  noted_owe i f v w l there live inside links upto kept visited left_to_write done = debts_touched t n frame s.end f (frame f) (stays refl (λ e. e) (λ e. e)) s.pool.logged views d inside (λ named goes. absurd (goes refl)) i v w l there (touches_at i f v w l there live inside links upto kept)
       (record { stored_or_left = subst (λ (x : Bool). IsStoredOrLeft t (frame f) v.upto x l.left_to_write) (sym visited) (subst (λ (x : Bool). IsStoredOrLeft t (frame f) v.upto (link v f).visited x) (sym left_to_write) ((d.each i v there).own f inside).stored_or_left); done = done })
 
   -- The page p of the frame f goes to its lane q, or fails to
@@ -308,12 +318,12 @@ module _ (s : State) (h : HistoryInvariant s) (d : DebtsLaw s) (i f : ℕ) (p : 
 
   enters_owe : Debts longer s.pool.core.frames (put s.pool.core.frame f (s.pool.core.frame f)) end' logged' (set s.pool.core.views i (has_written c (link v f).copied end' tag_of p (paged (make_entry p) s.pool f v)))
   enters_owe = let l : Link = link_after (make_entry p) (block_of s.pool.logged tag_of) (s.pool.core.frame f) (link v f) in let own = (entries_longer.each i v there).own f inside in
-      debts_touched longer s.pool.core.frames s.pool.core.frame end' f (s.pool.core.frame f) (stays refl (λ e. e) (λ e. e)) logged' s.pool.core.views entries_longer inside (λ goes. absurd (goes refl)) i v (has_written c (link v f).copied end' tag_of p (paged (make_entry p) s.pool f v)) l there
+      debts_touched longer s.pool.core.frames s.pool.core.frame end' f (s.pool.core.frame f) (stays refl (λ e. e) (λ e. e)) logged' s.pool.core.views entries_longer inside (λ named goes. absurd (goes refl)) i v (has_written c (link v f).copied end' tag_of p (paged (make_entry p) s.pool f v)) l there
       (touches_at s h d i f v (has_written c (link v f).copied end' tag_of p (paged (make_entry p) s.pool f v)) l there live inside refl refl refl) (record { stored_or_left = own.stored_or_left; done = own.done })
 
 -- a kind at a word
 words_owe : (s : State) (h : HistoryInvariant s) (d : DebtsLaw s) (i : ℕ) (k : WordKind) (v : View) → get_elem? s.pool.core.views i ≡ some v → DebtsLaw (state_after_word k s i v)
-words_owe s h d i begin_checkpoint v there = let w : View = after_word begin_checkpoint s v in let x = d.each i v there in let begun : BegunHere v w = record { emptied = refl; number = refl; next = refl; joined = refl; links = refl; partitions = refl } in
+words_owe s h d i begin_checkpoint v there = let w : View = after_word begin_checkpoint s v in let x = d.each i v there in let begun : BegunHere v w = record { emptied = refl; number = refl; next = refl; joined = refl; links = refl; partitions = refl; sizes = refl } in
     debts_set (taken_of s) s.pool.core.frames s.pool.core.frame s.end s.pool.logged s.pool.core.views d i w (record {
       begun = omega arith;
       kept_begun = x.kept_begun;
@@ -323,7 +333,7 @@ words_owe s h d i begin_checkpoint v there = let w : View = after_word begin_che
 words_owe s h d i k v there = aside_owe s h d i v (after_word k s v) there refl refl refl
 
 pub debts_kept : {e : Event} {s t : State} → Step e s t → HistoryInvariant s → DebtsLaw s → DebtsLaw t
-debts_kept (pools {s = s} (page_steps.cores x) a) h d = pins_owe s h d x
+debts_kept (pools {s = s} (page_steps.cores {core' = core'} x) a) h d = subst (λ (g : ℕ → Option Page). Debts (taken_of s) core'.frames core'.frame s.end g core'.views) (sym (logged_stays s h x)) (pins_owe s h d x)
 debts_kept (pools {s = s} (page_steps.touches i f k v there live inside a around) plain) h d = pages_owe s h d i f k v there live inside a plain
 debts_kept (lanes {s = s} i q k v there live low a alone) h d = let w : View = stepped (laned k q v v) in same_lane s h d q (lane_after k (s.lane q)) (no_write_holds k s q (lane_hold v q) (s.lane q) alone) s.pool.logged (set s.pool.core.views i w) s.pool.core.frame (aside_owe s h d i v w there refl refl refl)
 debts_kept (writes {s = s} i q f k v there live low inside a x) h d = subst (λ (g : ℕ → Option Page). Debts (taken_of (record s { lane = put s.lane q (lane_after k (s.lane q)) })) s.pool.core.frames (put s.pool.core.frame f (s.pool.core.frame f)) s.end g (set s.pool.core.views i (laned k q v (paged begin_write s.pool f v))))

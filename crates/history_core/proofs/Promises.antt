@@ -1,11 +1,12 @@
 -- What a checkpoint says at its end.
-use Rattle.std.proofs.Common.{◌≡◌, ◌≢◌, inl, inr, ℕ, ◌<◌, ◌≤◌, Bool, true, false, sym, refl, ◌∙◌, subst, ⊎_elim, arith}
+use Rattle.std.proofs.Common.{◌≡◌, ◌≢◌, inl, inr, ℕ, ◌<◌, ◌≤◌, Bool, true, false, sym, refl, ◌∙◌, subst, ⊎_elim, arith, ap}
 use Rattle.std.proofs.lemmas.Bool.{cases_lt}
 use mathlib.Core.Option.{some}
 use lib.ListN.{get_elem?}
 use Rattle.pin_core.specs.declared.view.JoinedCheckpoint.{JoinedCheckpoint}
 use Rattle.pin_core.specs.declared.view.View.{View}
-use Rattle.pin_core.specs.State.{no_tag, link, lane_hold}
+use Rattle.pin_core.specs.State.{no_tag, link, lane_hold, is_block}
+use Rattle.history_core.specs.Histories.{EntriesAreOfBlocks}
 use Rattle.history_core.specs.Swept.{IsSwept, has_swept, SweptLaw}
 use Rattle.history_core.specs.Log.{Entry, end_of, IsEntryOf}
 use Rattle.history_core.specs.State.{State, stored_upto, failed}
@@ -31,21 +32,21 @@ apart y n = cc
 pub seen_durable : (s : State) → HistoryInvariant s → (i upto : ℕ) (v : View) → get_elem? s.pool.core.views i ≡ some v → upto ≤ v.flushed → AreDurable s upto
 seen_durable s h i upto v there seen k e at low = let x = loaded_flushed s h i v there in durable s h k e at (omega arith)
 
-module _ (s : State) (h : HistoryInvariant s) (d : DebtsLaw s) where
+module _ (s : State) (h : HistoryInvariant s) (d : DebtsLaw s) (blocks : EntriesAreOfBlocks s) where
   in_lane : (k tag : ℕ) (e : Entry) → IsEntryOf s.log.entries tag k e → failed s tag ≡ false → end_of e ≤ stored_upto s tag → IsInLane s e tag
-  in_lane k tag e of ok low = let x = h.flushed_cells tag in record { place = stored_upto s tag; later = low; flushed = x.within; durable = durable s h k e of.there (let y = x.within in omega arith); holds = λ known. x.is_cell known ok }
+  in_lane k tag e of ok low = let x = h.flushed_cells tag in record { place = stored_upto s tag; later = low; flushed = x.within; durable = durable s h k e of.there (let y = x.within in omega arith); holds = λ known. x.is_cell (blocks tag k e of) known ok }
 
   -- a block whose last write failed has a frame, which is dirty
-  unwritten : (tag : ℕ) → tag ≢ no_tag → failed s tag ≡ true → IsUnwritten s tag
-  unwritten tag named bad = ⊎_elim
-      (λ (x : (f : ℕ) × (f < s.pool.core.frames) × ((s.pool.core.frame f).tag ≡ tag)). let dirty = either (s.pool.core.frame x.0).word.dirty (λ y. y) (λ clean. absurd (apart bad (subst (λ (t : ℕ). failed s t ≡ false) x.2 ((h.homes.columns x.0 x.1).clean (λ z. named (sym x.2 ∙ z)) clean).done))) in
+  unwritten : (tag : ℕ) → tag ≢ no_tag → is_block s.pool.core tag ≡ true → failed s tag ≡ true → IsUnwritten s tag
+  unwritten tag named block bad = ⊎_elim
+      (λ (x : (f : ℕ) × (f < s.pool.core.frames) × ((s.pool.core.frame f).tag ≡ tag)). let dirty = either (s.pool.core.frame x.0).word.dirty (λ y. y) (λ clean. absurd (apart bad (subst (λ (t : ℕ). failed s t ≡ false) x.2 (((h.homes.columns x.0 x.1).clean (λ z. named (sym x.2 ∙ z)) clean).done (ap (is_block s.pool.core) x.2 ∙ block))))) in
       record { failed_write = bad; frame = x.0; inside = x.1; tagged = x.2; valid = (h.pool.core.grid.columns x.0 x.1).dirty dirty; dirty = dirty })
-      (λ (none : IsUnframed s.pool.core.frames s.pool.core.frame tag). absurd (apart bad (h.unframed tag named none).done))
+      (λ (none : IsUnframed s.pool.core.frames s.pool.core.frame tag). absurd (apart bad ((h.unframed tag named none).done block)))
       (framed s.pool.core.frames s.pool.core.frame tag)
 
   -- a checkpoint that has visited every frame, and has none left
   all_stored : (upto : ℕ) (visited left_to_write : ℕ → Bool) → ((f : ℕ) → f < s.pool.core.frames → IsStoredOrLeft (taken_of s) (s.pool.core.frame f) upto (visited f) (left_to_write f)) → ((f : ℕ) → f < s.pool.core.frames → (visited f ≡ true) × (left_to_write f ≡ false)) → AreStored s upto
-  all_stored upto visited left_to_write stored_or_left ended k tag e of low = let named = d.named k tag e of in either (failed s tag) (λ bad. inr (unwritten tag named bad)) (λ ok. inl (in_lane k tag e of ok (⊎_elim
+  all_stored upto visited left_to_write stored_or_left ended k tag e of low = let named = d.named k tag e of in either (failed s tag) (λ bad. inr (unwritten tag named (blocks tag k e of) bad)) (λ ok. inl (in_lane k tag e of ok (⊎_elim
       (λ (behind : stored_upto s tag < end_of e). ⊎_elim
       (λ (x : (f : ℕ) × (f < s.pool.core.frames) × ((s.pool.core.frame f).tag ≡ tag)). let done = ended x.0 x.1 in
       absurd (apart (stored_or_left x.0 x.1 done.0 (λ z. named (sym x.2 ∙ z)) k e (entry_at s.log.entries tag (s.pool.core.frame x.0).tag k e (sym x.2) of) low (subst (λ (t : ℕ). stored_upto s t < end_of e) (sym x.2) behind)).1 done.1))
@@ -65,7 +66,7 @@ module _ (s : State) (h : HistoryInvariant s) (d : DebtsLaw s) where
       (λ (x : (n : ℕ) → n < s.lanes → upto ≤ (lane_hold v n).swept). λ n below. ((lane_hold v n).swept, x n below, (m.each i v there).own n))
       (λ (x : (k : ℕ) × (c : JoinedCheckpoint) × (get_elem? v.joined_checkpoints k ≡ some c) × ((n : ℕ) → n < s.lanes → upto ≤ has_swept c n)). λ n below. (has_swept x.1 n, x.3 n below, (m.each i v there).kept x.0 n x.1 x.2)) low) in (
         covered,
-        λ k tag e of upto. let x = covered k tag e of upto in let y = m.below (s.lane_of tag) tag in either (failed s tag) (λ bad. inr (unwritten tag (d.named k tag e of) bad)) (λ ok. inl (in_lane k tag e of ok (omega arith))),
+        λ k tag e of upto. let x = covered k tag e of upto in let y = m.below (s.lane_of tag) tag in either (failed s tag) (λ bad. inr (unwritten tag (d.named k tag e of) (blocks tag k e of) bad)) (λ ok. inl (in_lane k tag e of ok (omega arith))),
       )
     where
       all_synced : ((n : ℕ) → n < s.lanes → (p : ℕ) × (upto ≤ p) × IsSwept s n p) → AreSynced s upto

@@ -11,6 +11,7 @@ use Rattle.pin_core.specs.declared.view.LaneHold.{LaneHold}
 use Rattle.pin_core.specs.State.{Page, lane_hold, link}
 use Rattle.pin_core.specs.Kinds as pins
 use Rattle.pin_core.specs.Steps as pin_steps
+use Rattle.pin_core.proofs.Sample.{in_fork}
 use Rattle.page_core.proofs.Sample.{at_frame}
 use Rattle.page_core.specs.Kinds.{share, unshare, exclude, unexclude, mark_dirty, page_out, overwrite_logged, page_back, begin_write, start_output, clear_just_dirtied, make_entry, note_write, end_io}
 use Rattle.page_core.specs.Steps as page_steps
@@ -157,7 +158,7 @@ none_out : (p : Page) → HasNoWriteOut (view_of (q30 p)) 0
 none_out p n out = absurd (out (at_one_lane (λ (h : LaneHold). h.out ≡ None) (view_of (q30 p)) _ refl refl refl n))
 
 may_log : (p : Page) → IsPut p → CanLog (q4 p) 0 7 p (image 7 p) (view_of (q4 p))
-may_log p is = record { inside = lit< tt; tagged = refl; right = record { right = refl; dirtied = refl; applied = refl; sound = is.sound; used = is.used }; around = at_frame (λ (l : Link). l.unapplied ≡ false) (view_of (q4 p)) _ refl refl refl; full = is.full; ends = is.ends; room = has_room; makes = (refl, refl); past = tt; allowed = tt }
+may_log p is = record { inside = lit< tt; tagged = refl; right = record { right = refl; dirtied = refl; applied = refl; sound = is.sound; used = is.used }; around = record { block = in_fork; none = at_frame (λ (l : Link). l.unapplied ≡ false) (view_of (q4 p)) _ refl refl refl }; full = is.full; ends = is.ends; room = has_room; makes = (refl, refl); past = tt; allowed = tt }
 
 pub changes : (p : Page) → IsPut p → Run (change p) m22 (q12 p)
 changes p is = goes (pools (page_steps.touches 0 0 exclude (view_of m22) refl refl (lit< tt) (record { pinned = λ e. cc; seen = refl; none = refl; free = refl; alone = refl; no_copy = refl }) tt) tt)
@@ -166,7 +167,7 @@ changes p is = goes (pools (page_steps.touches 0 0 exclude (view_of m22) refl re
     (goes (logs 0 (log_out sample_log) (view_of (q3 p)) refl refl (record { held = refl; home = refl; faults = refl; synced = refl; down = refl; bytes = λ bytes e. sym (same_Some (head_bytes 0) bytes e) }) tt)
     (goes (logs 0 (append 0 7 p (put_bytes p)) (view_of (q4 p)) refl refl (record { call = record { out = λ e. cc; once = refl; up = refl }; entered = refl; unsynced = refl; short = (let x = record_length sample_store.names 0 record_size (image 7 p) (λ tag. refl) (record { sound = is.sound; used = is.used; full = is.full; ends = is.ends }) in omega arith) }) (image 7 p, may_log p is, refl))
     (goes (logs 0 (log_back false) (view_of (q5 p)) refl refl (record { out = λ e. cc; failed = λ z. absurd (cc); rose = λ taken e z. below taken.faults z }) tt)
-    (goes (enters 0 0 p (image 7 p) (view_of (q6 p)) refl refl (lit< tt) (record { right = record { right = refl; dirtied = refl; applied = refl; sound = is.sound; used = is.used }; around = at_frame (λ (l : Link). l.unapplied ≡ false) (view_of (q6 p)) _ refl refl refl; full = is.full; ends = is.ends; room = has_room; makes = (refl, refl); past = tt; allowed = tt; appended = refl }))
+    (goes (enters 0 0 p (image 7 p) (view_of (q6 p)) refl refl (lit< tt) (record { right = record { right = refl; dirtied = refl; applied = refl; sound = is.sound; used = is.used }; around = record { block = in_fork; none = at_frame (λ (l : Link). l.unapplied ≡ false) (view_of (q6 p)) _ refl refl refl }; full = is.full; ends = is.ends; room = has_room; makes = (refl, refl); past = tt; allowed = tt; appended = refl }))
     (goes (logs 0 leave_log (view_of (q7 p)) refl refl (record { held = refl; home = refl; entered = refl }) tt)
     (goes (pools (page_steps.touches 0 0 page_out (view_of (q8 p)) refl refl (lit< tt) (record { page_home = refl; shared = λ e. absurd (cc); unlocked = λ e. absurd (cc) }) tt) tt)
     (goes (pools (page_steps.touches 0 0 overwrite_logged (view_of (q9 p)) refl refl (lit< tt) (record { out = λ e. cc; once = refl; unapplied = refl }) tt) tt)

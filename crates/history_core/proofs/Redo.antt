@@ -18,6 +18,7 @@ use Rattle.pin_core.specs.State.{Config, Page, no_tag, link, hold, first_view, n
 use Rattle.pin_core.specs.State as pins
 use Rattle.pin_core.specs.Kinds as pin_kinds
 use Rattle.pin_core.specs.Turns.{view_turned}
+use Rattle.pin_core.specs.Sizes.{view_sized}
 use Rattle.pin_core.specs.Steps as pin_steps
 use Rattle.page_core.specs.Steps as page_steps
 use Rattle.page_core.specs.Kinds.{begin_write, make_entry}
@@ -206,6 +207,7 @@ module _ (views : List View) (j : ℕ) (v u : View) (there : get_elem? views 0 �
 pools_raised : (s : State) → {e : pin_steps.Event} {core' : pins.State} → pin_steps.Step e s.pool.core core' → SameRaised s.pool.core.views core'.views × SameHolds s.pool.core.views core'.views
 pools_raised s (pin_steps.touches i f k v there live inside a around) = let w : View = pin_kinds.view_after k s.pool.core.partition_of f (s.pool.core.frame f) (link v f) v in (one_raised s.pool.core.views i v w there refl (same_calls v w refl), one_holds s.pool.core.views i v w there (λ r x. x))
 pools_raised s (pin_steps.turns i p k v there live below a) = let w : View = view_turned k p (hold v p) v in (one_raised s.pool.core.views i v w there refl (same_calls v w refl), one_holds s.pool.core.views i v w there (λ r x. x))
+pools_raised s (pin_steps.sized i fork k v there live a) = let w : View = view_sized k fork s.pool.core v in (one_raised s.pool.core.views i v w there refl (same_calls v w refl), one_holds s.pool.core.views i v w there (λ r x. x))
 pools_raised s (pin_steps.splits v there room) = let w : View = record v { next = v.next + 1 } in let b : View = new_view v.next s.pool.core.base (length v.links) (length v.partitions) (length v.lanes) in let vs : List View = set s.pool.core.views 0 w in
     (both_raised s.pool.core.views vs (vs ++ b ∷ []) (one_raised s.pool.core.views 0 v w there refl (same_calls v w refl)) (more_raised vs b refl refl), both_holds s.pool.core.views vs (vs ++ b ∷ []) (one_holds s.pool.core.views 0 v w there (λ r x. x)) (more_holds vs b refl))
 pools_raised s (pin_steps.joins j v u there other here live free) = (joins_raised s.pool.core.views j v u there other here, joins_holds s.pool.core.views j v u there other here)

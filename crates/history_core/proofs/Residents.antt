@@ -20,6 +20,7 @@ use Rattle.pin_core.specs.Invariant.{FrameLaw, LinkLaw, PinInvariant}
 use Rattle.pin_core.specs.Kinds as pin_kinds
 use Rattle.pin_core.specs.Kinds.{seen_gone, sighted, seen_valid_after, tag_after}
 use Rattle.pin_core.specs.Tallies.{Tally, frame_shape}
+use Rattle.pin_core.specs.Sizes.{view_sized}
 use Rattle.pin_core.specs.Turns.{view_turned}
 use Rattle.pin_core.specs.Steps as pin_steps
 use Rattle.page_core.specs.State.{Block, block_of}
@@ -117,6 +118,7 @@ counts _ n = inr (refl, tt)
 module _ (fr : Frame) (l : Link) (t : Tally → ℕ) (c : FrameLaw fr t) where
   pin_keeps : (k : pin_kinds.Kind) → NoErase k → pin_kinds.Allowed k fr l → KeepsBlock fr (pin_kinds.frame_after k fr)
   pin_keeps (pin_kinds.store_tag tag) other a named valid = absurd (let x = c.valid valid in let y = a.untagged in cc)
+  pin_keeps (pin_kinds.store_new_tag tag) other a named valid = absurd (let x = c.valid valid in let y = a.untagged in cc)
   pin_keeps pin_kinds.clear other a named valid = absurd (named a.unnamed)
   pin_keeps pin_kinds.erase_tag other a named valid = absurd other
   pin_keeps pin_kinds.load_state other a named valid = (refl, valid)
@@ -177,6 +179,7 @@ pin_lists s h i f pin_kinds.unpin v there inside was k r at = inl (k, at)
 pin_lists s h i f pin_kinds.lock_header v there inside was k r at = inl (k, at)
 pin_lists s h i f pin_kinds.unlock_header v there inside was k r at = inl (k, at)
 pin_lists s h i f (pin_kinds.store_tag tag) v there inside was k r at = inl (k, at)
+pin_lists s h i f (pin_kinds.store_new_tag tag) v there inside was k r at = inl (k, at)
 pin_lists s h i f pin_kinds.erase_tag v there inside was k r at = inl (k, at)
 pin_lists s h i f pin_kinds.pin_victim v there inside was k r at = inl (k, at)
 pin_lists s h i f pin_kinds.lower_usage v there inside was k r at = inl (k, at)
@@ -193,6 +196,7 @@ pools_stay s h m (pin_steps.touches i f k v there live inside a around) = let fr
     frame_stays s.pool.core.frames s.pool.core.frame s.pool.core.views i f v w (pin_kinds.frame_after k fr) there y.0 keeps (λ was. lists_put s.pool.core.frames f s.pool.core.frame (pin_kinds.frame_after k fr) v.residents w.residents keeps (pin_lists s h i f k v there inside was)) m)
     (counts k v.cleared)
 pools_stay s h m (pin_steps.turns i p k v there live below a) = aside_stays s.pool.core.frames s.pool.core.frame s.pool.core.views i v (view_turned k p (hold v p) v) there refl refl m
+pools_stay s h m (pin_steps.sized i fork k v there live a) = aside_stays s.pool.core.frames s.pool.core.frame s.pool.core.views i v (view_sized k fork s.pool.core v) there refl refl m
 pools_stay s h m (pin_steps.splits v there room) = let w : View = record v { next = v.next + 1 } in let b : View = new_view v.next s.pool.core.base (length v.links) (length v.partitions) (length v.lanes) in
     λ none i k u r at listed. let x = aside_stays s.pool.core.frames s.pool.core.frame s.pool.core.views 0 v w there refl refl m (let y = total-snoc (λ (z : View). z.cleared) (set s.pool.core.views 0 w) b in omega arith) in ⊎_elim
     (λ (y : get_elem? (set s.pool.core.views 0 w) i ≡ some u). x i k u r y listed)

@@ -63,7 +63,7 @@ goes_out = record { held = refl; home = refl; reads = refl; writes = refl; pages
 pub sample : SampleRuns
 sample = (
   record { some_backend = lit< tt; placed = λ tag. lit< tt },
-  record { placed = λ tag. lit< tt; based = omega arith; named = λ tag. refl; synced = omega arith; there = λ tag block known. refl },
+  record { quiet = refl; placed = λ tag. lit< tt; based = omega arith; named = λ tag. refl; synced = omega arith; there = λ tag block known. refl },
   (
     s5,
     state_after_word load_end s12 0 (view_of s12),

@@ -1,12 +1,16 @@
 -- A block is there exactly below its fork's size, after any of the entries.
-use Rattle.std.proofs.Common.{◌≡◌, ◌≢◌, ◌⊎◌, inl, inr, ℕ, ◌+◌, ◌<◌, ◌≤◌, Bool, cond, eq-eqb, ne_eqb, List, [], ◌∷◌, ◌++◌, Option, Some, None, sym, refl, ap, ◌∙◌, subst, ⊎_elim, arith}
+use Rattle.std.proofs.Common.{◌≡◌, ◌≢◌, ◌⊎◌, inl, inr, ℕ, zero, suc, ◌+◌, ◌<◌, ◌≤◌, Bool, cond, eq-eqb, ne_eqb, List, [], ◌∷◌, ◌++◌, Option, Some, None, sym, refl, ap, ◌∙◌, subst, ⊎_elim, arith}
 use Rattle.std.specs.Prelude.{option_map, is_some, nat_eq, nat_lt, nat_le, ◌&&◌}
 use Rattle.std.proofs.lemmas.Bool.{le-leb, lt-leb, lt-ltb, le-ltb, cases_lt}
 use mathlib.Core.Logic.{dite}
+use mathlib.Core.Option.{some}
 use native.Mathlib.Decide.{ℕ_discrete}
+use lib.ListN.{get_elem?}
 use Rattle.page_layout.specs.Fields.{with_lsn}
 use Rattle.pin_core.specs.State.{Page}
-use Rattle.history_core.specs.Log.{Change, image, ranges, resize, Entry, Log, LogLaw, AreChained, end_of, cut, cell, with_spans, zero_page, resized, changed_page, page_after, tag_fork, tag_block}
+use Rattle.history_core.specs.Log.{Change, image, ranges, resize, Entry, Log, LogLaw, AreChained, end_of, cut, cell, with_spans, resized, changed_page, page_after}
+use Rattle.pin_core.specs.State.{tag_fork, tag_block}
+use Rattle.page_core.specs.State.{zero_page}
 use Rattle.history_core.specs.Sizes.{resized_fork, sizes_after, FitsSizes, AreSized, AreThere}
 use Rattle.history_core.proofs.Logs.{some_size, in_or_out, cut_in, cut_out, cut_none_below, chain_above}
 
@@ -78,3 +82,38 @@ cut_first from p (e ∷ es) h = in_or_out p e
 pub there_upto : (opened : ℕ → Option Page) (log : Log) (sizes : ℕ → ℕ) → LogLaw log → AreSized log.entries sizes → AreThere opened sizes → (place : ℕ) → AreThere (cell opened (cut place log.entries)) (sizes_after (cut place log.entries) sizes)
 there_upto opened log sizes law fits is place = let x = cut_first log.base place log.entries law.chained in
     cell_there opened (cut place log.entries) sizes (sized_first (cut place log.entries) x.0 sizes (subst (λ (l : List Entry). AreSized l sizes) (sym x.1) fits)) is
+
+-- what one more entry makes of the sizes
+pub sizes_more : (es : List Entry) (e : Entry) (sizes : ℕ → ℕ) (fork : ℕ) → sizes_after (es ++ e ∷ []) sizes fork ≡ resized_fork e.change (sizes_after es sizes) fork
+unfolding sizes_after
+sizes_more [] e sizes fork = by_change e.change
+  where
+    by_change : (c : Change) → resized_fork c sizes fork ≡ resized_fork c (λ g. sizes g) fork
+    by_change (image tag page) = refl
+    by_change (ranges tag spans) = refl
+    by_change (resize g old new) = refl
+sizes_more (x ∷ xs) e sizes fork = sizes_more xs e (resized_fork x.change sizes) fork
+
+-- none but a resize does
+pub sizes_longer : (es : List Entry) (e : Entry) (sizes : ℕ → ℕ) (fork : ℕ) → ((g old new : ℕ) → e.change ≡ resize g old new → ⊥) → sizes_after (es ++ e ∷ []) sizes fork ≡ sizes_after es sizes fork
+sizes_longer es e sizes fork none = sizes_more es e sizes fork ∙ by_change e.change refl
+  where
+    by_change : (c : Change) → e.change ≡ c → resized_fork c (sizes_after es sizes) fork ≡ sizes_after es sizes fork
+    by_change (image tag page) is = refl
+    by_change (ranges tag spans) is = refl
+    by_change (resize g old new) is = absurd (none g old new is)
+
+-- entries without a resize leave the sizes
+pub sizes_still : (es : List Entry) (sizes : ℕ → ℕ) (fork : ℕ) → ((k : ℕ) (e : Entry) → get_elem? es k ≡ some e → (g old new : ℕ) → e.change ≡ resize g old new → ⊥) → sizes_after es sizes fork ≡ sizes fork
+unfolding sizes_after
+sizes_still [] sizes fork none = refl
+sizes_still (e ∷ es) sizes fork none = ap (λ (f : ℕ → ℕ). sizes_after es f fork) (by_change e.change (none zero e refl)) ∙ sizes_still es sizes fork (λ k x at. none (suc k) x at)
+  where
+    by_change : (c : Change) → ((g old new : ℕ) → c ≡ resize g old new → ⊥) → resized_fork c sizes ≡ sizes
+    by_change (image tag page) none = refl
+    by_change (ranges tag spans) none = refl
+    by_change (resize g old new) none = absurd (none g old new refl)
+
+pub sizes_none : (sizes : ℕ → ℕ) (fork : ℕ) → sizes_after [] sizes fork ≡ sizes fork
+unfolding sizes_after
+sizes_none sizes fork = refl

@@ -11,11 +11,12 @@ use Rattle.pin_core.specs.declared.view.Call.{Call}
 use Rattle.pin_core.specs.declared.view.Content.TheVariants.{Unlocked, Exclusive}
 use Rattle.pin_core.specs.declared.view.LoadedWord.TheVariants as seen
 use Rattle.pin_core.specs.declared.view.View.{View}
-use Rattle.pin_core.specs.State.{Config, Frame, Page, no_tag, link, hold, first_view, new_view, emptied_view, joined_view}
+use Rattle.pin_core.specs.State.{Config, Frame, Page, no_tag, link, hold, first_view, new_view, emptied_view, joined_view, is_block}
 use Rattle.pin_core.specs.State as pins
 use Rattle.pin_core.specs.Tallies.{flag_weight}
 use Rattle.pin_core.specs.Kinds as pin_kinds
 use Rattle.pin_core.specs.Turns.{view_turned}
+use Rattle.pin_core.specs.Sizes.{view_sized}
 use Rattle.pin_core.specs.Steps as pin_steps
 use Rattle.page_core.specs.Steps as page_steps
 use Rattle.page_core.specs.Kinds.{begin_write, make_entry}
@@ -31,7 +32,7 @@ use Rattle.history_core.specs.Steps.{Event, new_entry, stepped, looked, pool_not
 use Rattle.history_core.proofs.Calls.{at_both}
 use Rattle.history_core.proofs.Histories.{clean_stored}
 use Rattle.history_core.proofs.Logs.{cut_all, ends_below, cell_absent, after_none, after_images, entry_longer, IsLastUpto, last_upto, cell_upto}
-use Rattle.history_core.proofs.Stepping.{makes_of, page_of, logged_there}
+use Rattle.history_core.proofs.Stepping.{makes_of, page_of, logged_there, frame_block}
 use Rattle.grid.specs.Shape.{total}
 use Rattle.grid.proofs.Lists.{at_set, at_end, at_only}
 use Rattle.grid.proofs.Sums.{some_term}
@@ -91,6 +92,7 @@ no_calls {c = c} k at = some-ne-none c (sym at)
 pools_sound : (s : State) → AreSound s s.pool.core.views → {e : pin_steps.Event} {core' : pins.State} → pin_steps.Step e s.pool.core core' → AreSound s core'.views
 pools_sound s m (pin_steps.touches i f k v there live inside a around) = calls_same s s.pool.core.views m i v (pin_kinds.view_after k s.pool.core.partition_of f (s.pool.core.frame f) (link v f) v) there refl
 pools_sound s m (pin_steps.turns i p k v there live below a) = calls_same s s.pool.core.views m i v (view_turned k p (hold v p) v) there refl
+pools_sound s m (pin_steps.sized i fork k v there live a) = calls_same s s.pool.core.views m i v (view_sized k fork s.pool.core v) there refl
 pools_sound s m (pin_steps.splits v there room) = let w : View = record v { next = v.next + 1 } in let b : View = new_view v.next s.pool.core.base (length v.links) (length v.partitions) (length v.lanes) in let x = calls_same s s.pool.core.views m 0 v w there refl in
     λ j k u c at is. ⊎_elim (λ (y : get_elem? (set s.pool.core.views 0 w) j ≡ some u). x j k u c y is) (λ (y : (b ≡ u) × (j ≡ length (set s.pool.core.views 0 w))). absurd (no_calls k (subst (λ (z : View). get_elem? z.calls k ≡ some c) (sym y.0) is))) (at_end (set s.pool.core.views 0 w) b u j at)
 pools_sound s m (pin_steps.joins j v u there other here live free) = let w : View = joined_view v u in
@@ -148,8 +150,14 @@ stay_untouched s h m tag p named known is unsound = record { unentered = none; i
     clean : (f : ℕ) → f < s.pool.core.frames → (s.pool.core.frame f).tag ≡ tag → (s.pool.core.frame f).word.dirty ≡ false
     clean f below same = either_way (s.pool.core.frame f).word.dirty (λ dirty. absurd (both_ways _ (invalid f below same) ((h.pool.core.grid.columns f below).dirty dirty))) (λ e. e)
 
+    there : is_block s.pool.core tag ≡ true
+    there = either_way (is_block s.pool.core tag) (λ e. e) (λ e. absurd (none_some p (sym (h.pool.gone tag e) ∙ h.logged tag known ∙ cell_is ∙ is)))
+      where
+        none_some : (p : Page) → None ≡ Some p → ⊥
+        none_some p e = absurd (cc)
+
     stored_is : IsStored s tag
-    stored_is = clean_stored s h tag named clean
+    stored_is = clean_stored s h tag named there clean
 
 -- a page that isn't sound is the first one of its block, for after an entry a page is sound
 pub unsound_first : (s : State) → HistoryInvariant s → ImagesAlone s → UnsoundAreFirst s
@@ -157,7 +165,7 @@ unsound_first s h alone = record {
   cells = cells;
   last_cells = last_cells;
   reads = λ i f v p there below is unsound known. let tag = (s.pool.core.frame f).tag in let r = (h.pool.pages.cells i v f there below).read p is in let named = (((h.pool.pages.cells i v f there below).input r.right).0).named in
-      let e = logged_there s h tag (h.pool.core.blocks f below named) known in last_cells tag p (inl known) (sym (h.logged tag known) ∙ e ∙ ap (λ (y : Page). Some y) (r.is_logged (page_of s tag) e)) unsound;
+      let e = logged_there s h tag (frame_block s h f below named) known in last_cells tag p (inl known) (sym (h.logged tag known) ∙ e ∙ ap (λ (y : Page). Some y) (r.is_logged (page_of s tag) e)) unsound;
 }
   where
     known_cells : (tag place : ℕ) (p : Page) → s.known tag ≡ true → cell s.origin (cut place s.log.entries) tag ≡ Some p → is_sound_page p ≡ false → s.origin tag ≡ Some p

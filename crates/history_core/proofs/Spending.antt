@@ -9,6 +9,7 @@ use Rattle.pin_core.specs.State.{Config, Page, link, hold, first_view, new_view,
 use Rattle.pin_core.specs.State as pins
 use Rattle.pin_core.specs.Kinds as pin_kinds
 use Rattle.pin_core.specs.Turns.{view_turned}
+use Rattle.pin_core.specs.Sizes.{view_sized}
 use Rattle.pin_core.specs.Steps as pin_steps
 use Rattle.page_core.specs.Steps as page_steps
 use Rattle.page_core.specs.Kinds.{begin_write, make_entry}
@@ -35,6 +36,7 @@ spent_live views h i w live = spent_set views h i w (λ gone. absurd (both_ways 
 pools_spent : (s : State) (h : HistoryInvariant s) → SpentLaw s → {e : pin_steps.Event} {core' : pins.State} → pin_steps.Step e s.pool.core core' → AllSpent core'.views
 pools_spent s h m (pin_steps.touches i f k v there live inside a around) = spent_live s.pool.core.views m i (pin_kinds.view_after k s.pool.core.partition_of f (s.pool.core.frame f) (link v f) v) live
 pools_spent s h m (pin_steps.turns i p k v there live below a) = spent_live s.pool.core.views m i (view_turned k p (hold v p) v) live
+pools_spent s h m (pin_steps.sized i fork k v there live a) = spent_live s.pool.core.views m i (view_sized k fork s.pool.core v) live
 pools_spent s h m (pin_steps.splits v there room) = let w : View = record v { next = v.next + 1 } in let b : View = new_view v.next s.pool.core.base (length v.links) (length v.partitions) (length v.lanes) in let x = spent_live s.pool.core.views m 0 w (h.pool.core.views.first v there).0 in
     λ j u at gone. ⊎_elim (λ (y : get_elem? (set s.pool.core.views 0 w) j ≡ some u). x j u y gone) (λ (y : (b ≡ u) × (j ≡ length (set s.pool.core.views 0 w))). absurd (both_ways _ (ap (λ (z : View). z.emptied) (sym y.0)) gone)) (at_end (set s.pool.core.views 0 w) b u j at)
 pools_spent s h m (pin_steps.joins j v u there other here live free) = spent_set (set s.pool.core.views 0 (joined_view v u)) (spent_live s.pool.core.views m 0 (joined_view v u) (h.pool.core.views.first v there).0) j emptied_view (λ gone. refl)

@@ -8,6 +8,7 @@ use Rattle.pin_core.specs.declared.view.LoadedWord.TheVariants as seen
 use Rattle.pin_core.specs.declared.view.View.{View}
 use Rattle.pin_core.specs.State.{hold, link, new_view, emptied_view, joined_view}
 use Rattle.pin_core.specs.State as pins
+use Rattle.pin_core.specs.Sizes.{view_sized}
 use Rattle.pin_core.specs.Steps as pin_steps
 use Rattle.pin_core.specs.Turns.{view_turned}
 use Rattle.pin_core.proofs.Stepping as pin_stepping
@@ -40,6 +41,7 @@ other_stays views i j b v o at = record { view = v; there = set_else views i j b
 pins_stay : {e : pin_steps.Event} {s t : pins.State} → pin_steps.Step e s t → (j : ℕ) (v : View) → get_elem? s.views j ≡ some v → LeavesCalls (pool (page_steps.pins_and_maps e)) j → HasCallsOf t.views j v
 pins_stay (pin_steps.touches {s = s} i f k u there live inside a around) j v at leaves = set_stays s.views i j u (pin_stepping.after k s f u) v there refl refl at
 pins_stay (pin_steps.turns {s = s} i p k u there live below a) j v at leaves = set_stays s.views i j u (view_turned k p (hold u p) u) v there refl refl at
+pins_stay (pin_steps.sized {s = s} i fork k u there live a) j v at leaves = set_stays s.views i j u (view_sized k fork s u) v there refl refl at
 pins_stay (pin_steps.splits {s = s} u there room) j v at leaves = let w : View = record u { next = u.next + 1 } in let x = set_stays s.views 0 j u w v there refl refl at in
     record { view = x.view; there = at_longer (set s.views 0 w) (new_view u.next s.base (length u.links) (length u.partitions) (length u.lanes) ∷ []) j x.view x.there; calls = x.calls; front = x.front }
 pins_stay (pin_steps.joins {s = s} k a b there other here live free) j v at leaves = record { view = v; there = set_else (set s.views 0 (joined_view a b)) k j emptied_view leaves.1 ∙ set_else s.views 0 j (joined_view a b) leaves.0 ∙ at; calls = refl; front = refl }

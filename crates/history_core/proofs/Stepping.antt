@@ -1,7 +1,7 @@
 -- Each step keeps the law, and so does each list of steps.
 use Rattle.std.proofs.Common.{◌≡◌, ◌≢◌, ℕ, ◌+◌, ◌<◌, ◌≤◌, cond, Bool, true, false, List, [], ◌∷◌, ◌++◌, length, set, Option, Some, None, length-set, get_or-set_same, get_or-set_other, sym, refl, ap, ◌∙◌, subst, arith, lit<, ⊎_elim}
 use Rattle.std.proofs.lemmas.Option.{same_Some}
-use Rattle.std.specs.Prelude.{max, unwrap_or}
+use Rattle.std.specs.Prelude.{max, unwrap_or, nat_lt, ◌⊎◌}
 use Rattle.std.specs.Option.{is_some}
 use mathlib.Core.Logic.{dite}
 use mathlib.Core.Option.{some}
@@ -17,13 +17,14 @@ use Rattle.pin_core.specs.declared.view.View.{View}
 use Rattle.pin_core.specs.declared.view.ImageTest.{ImageTest}
 use Rattle.pin_core.specs.declared.view.Call.TheVariants.{Read}
 use Rattle.pin_core.specs.declared.view.LoadedWord.TheVariants as seen
-use Rattle.pin_core.specs.State.{Frame, Page, no_tag, idle, link, hold, lane_hold, new_view, emptied_view, joined_view}
+use Rattle.pin_core.specs.State.{Frame, Page, no_tag, tag_fork, tag_block, is_block, idle, link, hold, lane_hold, new_view, emptied_view, joined_view}
 use Rattle.pin_core.specs.State as pins
 use Rattle.pin_core.specs.Tallies as pin_tallies
 use Rattle.pin_core.specs.Tallies.{frame_shape}
 use Rattle.pin_core.specs.Invariant.{FrameLaw, LinkLaw, HasTag}
 use Rattle.pin_core.specs.Kinds as pin_kinds
 use Rattle.pin_core.specs.Turns.{view_turned}
+use Rattle.pin_core.specs.Sizes.{SizeKind, SizeAllowed, view_sized, state_sized}
 use Rattle.pin_core.specs.Steps as pin_steps
 use Rattle.pin_core.proofs.Views.{link_new}
 use Rattle.pin_core.proofs.Stepping as pin_stepping
@@ -35,7 +36,10 @@ use Rattle.page_core.specs.Invariant.{PageLink}
 use Rattle.page_core.specs.Kinds as kinds
 use Rattle.page_core.specs.Kinds.{Kind, note_read, begin_write, note_write, make_entry, Allowed, frame_after, block_after, link_after}
 use Rattle.page_core.specs.Steps as page_steps
-use Rattle.page_core.specs.Steps.{logged_after}
+use Rattle.page_core.specs.Steps.{logged_after, logged_sized, logged_by}
+use Rattle.pin_core.proofs.Stepping.{sized_links}
+use Rattle.pin_core.proofs.SizeSchedules.{tag_words, same_sizes}
+use Rattle.page_core.proofs.Stepping.{quiet_logged}
 use Rattle.page_core.proofs.Cases.{tag_kept}
 use Rattle.page_core.proofs.Stepping as page_stepping
 use Rattle.page_core.proofs.Stepping.{new_none}
@@ -62,7 +66,8 @@ use Rattle.history_core.proofs.Blocks.{plain_keeps, plain_block, StoresClean, pi
 use Rattle.grid.specs.Shape.{Grid, put, tallies}
 use Rattle.grid.proofs.Lists.{put_here, put_at, put_else, put_same, set_else, at_end}
 use Rattle.grid.proofs.Sums.{term_le}
-use Rattle.grid.proofs.Grids.{Keeps, Relinks, both_grids, touch, sweep, steady, reblock, grows}
+use Rattle.grid.proofs.Grids.{Keeps, Relinks, both_grids, touch, sweep, steady, steady_alike, reblock, grows}
+use Rattle.history_core.proofs.Sizes.{sizes_longer, sizes_still}
 
 -- the laws of a state, by what they speak of
 pub outer_of : (s : State) → HistoryInvariant s → Outer s.known s.origin s.log s.lanes s.lane s.flushed (written_of s) s.device s.pool.core.views
@@ -76,19 +81,30 @@ knows s h = let g = page_stepping.knows s.pool h.pool in both_grids (record { co
 
 -- what is known of each block with these pages after the log, and these lanes
 abbrev homes_with : State → (ℕ → Option Page) → (ℕ → Lane) → ℕ → Home
-homes_with s logged lane tag = record { block = block_of logged tag; known = s.known tag; stored = (lane (s.lane_of tag)).stored tag; stored_upto = (lane (s.lane_of tag)).stored_upto tag; failed = (lane (s.lane_of tag)).failed tag }
+homes_with s logged lane tag = record { inside = is_block s.pool.core tag; block = block_of logged tag; known = s.known tag; stored = (lane (s.lane_of tag)).stored tag; stored_upto = (lane (s.lane_of tag)).stored_upto tag; failed = (lane (s.lane_of tag)).failed tag }
+
+-- what pools begin with, and the sizes of forks by the log, are the same
+record SameSizes (s t : pins.State) : Type 0 where
+  base : t.base ≡ s.base
+  resizes : t.resizes ≡ s.resizes
+  sizes : (fork : ℕ) → (t.size fork).logged ≡ (s.size fork).logged
+
+all_same : (s t : pins.State) → t.base ≡ s.base → t.resizes ≡ s.resizes → t.size ≡ s.size → SameSizes s t
+all_same s t base resizes sizes = record { base = base; resizes = resizes; sizes = λ fork. ap (λ (g : ℕ → pins.SizeWord). (g fork).logged) sizes }
 
 -- a state with another buffer pool and other lanes, where the log stays
-assemble : (s : State) → HistoryInvariant s → (pool' : page.State) (lane' : ℕ → Lane) → page_law.PageInvariant pool' → ((tag : ℕ) → s.known tag ≡ true → pool'.logged tag ≡ cell s.origin s.log.entries tag) → ((tag : ℕ) → (lane' (s.lane_of tag)).known ≡ s.known tag) → (pool'.core.base ≡ s.pool.core.base) × (pool'.core.is_block ≡ s.pool.core.is_block)
+assemble : (s : State) → HistoryInvariant s → (pool' : page.State) (lane' : ℕ → Lane) → page_law.PageInvariant pool' → ((tag : ℕ) → s.known tag ≡ true → pool'.logged tag ≡ cell s.origin s.log.entries tag) → ((tag : ℕ) → (lane' (s.lane_of tag)).known ≡ s.known tag) → SameSizes s.pool.core pool'.core
     → Outer s.known s.origin s.log s.lanes lane' s.flushed (written_of s) s.device pool'.core.views → Blocks pool'.core.frames pool'.core.frame pool'.core.views s.origin s.log s.flushed (homes_with s pool'.logged lane') → HistoryInvariant (record s { pool = pool'; lane = lane' })
 assemble s h pool' lane' law logged known kept outer blocks = record {
   pool = law;
   logged = logged;
-  there = λ tag block is. h.there tag (sym (λ j. kept.1 j tag) ∙ block) is;
+  sizes = λ fork. kept.sizes fork ∙ h.sizes fork;
+  quiet = kept.resizes ∙ h.quiet;
+  there = λ tag block is. h.there tag (ap (λ (n : ℕ). nat_lt (tag_block tag) n) (sym (kept.sizes (tag_fork tag))) ∙ block) is;
   pages = h.pages;
   known = known;
   log = h.log;
-  based = kept.0 ∙ h.based;
+  based = kept.base ∙ h.based;
   ends = h.ends;
   limit = h.limit;
   flushed_from = h.flushed_from;
@@ -100,13 +116,17 @@ assemble s h pool' lane' law logged known kept outer blocks = record {
   lanes = outer.lanes;
   wide = outer.wide;
   placed = h.placed;
-  homes = blocks.homes;
-  unframed = blocks.unframed;
-  flushed_cells = blocks.flushed_cells;
+  homes = now.homes;
+  unframed = now.unframed;
+  flushed_cells = now.flushed_cells;
 }
+  where
+    now : Blocks pool'.core.frames pool'.core.frame pool'.core.views s.origin s.log s.flushed (home_of (record s { pool = pool'; lane = lane' }))
+    now = subst (λ (g : ℕ → Home). Blocks pool'.core.frames pool'.core.frame pool'.core.views s.origin s.log s.flushed g)
+        (λ j tag. record (homes_with s pool'.logged lane' tag) { inside = nat_lt (tag_block tag) (sym (kept.sizes (tag_fork tag)) j) }) blocks
 
 -- and where each block's page after the log stays
-assemble_same : (s : State) → HistoryInvariant s → (pool' : page.State) (lane' : ℕ → Lane) → page_law.PageInvariant pool' → pool'.logged ≡ s.pool.logged → ((tag : ℕ) → (lane' (s.lane_of tag)).known ≡ s.known tag) → (pool'.core.base ≡ s.pool.core.base) × (pool'.core.is_block ≡ s.pool.core.is_block)
+assemble_same : (s : State) → HistoryInvariant s → (pool' : page.State) (lane' : ℕ → Lane) → page_law.PageInvariant pool' → pool'.logged ≡ s.pool.logged → ((tag : ℕ) → (lane' (s.lane_of tag)).known ≡ s.known tag) → SameSizes s.pool.core pool'.core
     → Outer s.known s.origin s.log s.lanes lane' s.flushed (written_of s) s.device pool'.core.views → Blocks pool'.core.frames pool'.core.frame pool'.core.views s.origin s.log s.flushed (homes_with s s.pool.logged lane') → HistoryInvariant (record s { pool = pool'; lane = lane' })
 assemble_same s h pool' lane' law same known kept outer blocks = assemble s h pool' lane' law (λ tag is. (λ j. same j tag) ∙ h.logged tag is) known kept outer
     (subst (λ (g : ℕ → Option Page). Blocks pool'.core.frames pool'.core.frame pool'.core.views s.origin s.log s.flushed (homes_with s g lane')) (sym same) blocks)
@@ -131,6 +151,7 @@ pub record HoldsSame (a b : Lane) : Type 0 where
 
 homes_same : (s : State) (logged : ℕ → Option Page) (q : ℕ) (ln : Lane) → HoldsSame ln (s.lane q) → homes_with s logged s.lane ≡ homes_with s logged (put s.lane q ln)
 homes_same s logged q ln same = λ j tag. record {
+  inside = is_block s.pool.core tag;
   block = block_of logged tag;
   known = s.known tag;
   stored = sym (lane_put (λ (x : Lane). x.stored tag) s.lane q ln (λ i. same.stored i tag) (s.lane_of tag)) j;
@@ -166,8 +187,14 @@ abbrev pub page_of : State → ℕ → Page
 page_of s tag = unwrap_or (cell s.origin s.log.entries tag) []
 
 -- it is known of a block of the relations, where the contents of its lane are
-pub logged_there : (s : State) → HistoryInvariant s → (tag : ℕ) → s.pool.core.is_block tag ≡ true → s.known tag ≡ true → s.pool.logged tag ≡ Some (page_of s tag)
+pub logged_there : (s : State) → HistoryInvariant s → (tag : ℕ) → is_block s.pool.core tag ≡ true → s.known tag ≡ true → s.pool.logged tag ≡ Some (page_of s tag)
 logged_there s h tag block known = h.logged tag known ∙ some_of (cell s.origin s.log.entries tag) (h.there tag block known)
+
+pub flags_differ : false ≡ true → ⊥
+flags_differ e = absurd (cc)
+
+no_resize : (g o n end : ℕ) → IsChange end (resize g o n) → ⊥
+no_resize g o n end x = x
 
 -- What a change makes
 pub makes_of : (c : Change) (end tag : ℕ) (p : Page) (l : Link) → MakesPage c end tag p l → tag_in c ≡ Some tag
@@ -214,23 +241,36 @@ module _ (s : State) (h : HistoryInvariant s) where
   clean_at f inside named = (h.homes.columns f inside).clean named
 
   -- no frame has a tag that a backend may name
+  pub unframed_name : (i tag : ℕ) (v : View) → get_elem? views i ≡ some v → tag ≢ no_tag → pin_steps.MayName s.pool.core v tag → (s.pool.core.partition (s.pool.core.partition_of tag)).map tag ≡ None → IsUnframed n frame tag
+  unframed_name i tag v there named m lacking g below = let p = s.pool.core.partition_of tag in
+      lacked (s.pool.core.partition p) (hold v p) (frame g).tag tag g (h.pool.core.turns.cells i v p there (h.pool.core.placed tag)) (h.pool.core.maps.pairs tag g named below) m.held m.unchanged (m.no_change p) lacking
+
   pub unframed_tag : (i f tag : ℕ) (v : View) → get_elem? views i ≡ some v → pin_kinds.Allowed (pin_kinds.store_tag tag) (frame f) (link v f) → pin_steps.AllowedAround (pin_kinds.store_tag tag) s.pool.core v f → IsUnframed n frame tag
-  unframed_tag i f tag v there a around g below = let m = around.naming in let p = s.pool.core.partition_of tag in
-      lacked (s.pool.core.partition p) (hold v p) (frame g).tag tag g (h.pool.core.turns.cells i v p there (h.pool.core.placed tag)) (h.pool.core.maps.pairs tag g a.named below) m.held m.unchanged (m.no_change p) around.lacking
+  unframed_tag i f tag v there a around = unframed_name i tag v there a.named around.naming around.lacking
+
+  -- a frame's tag is a block's, since forks don't grow yet
+  pub frame_block : (f : ℕ) → f < n → (frame f).tag ≢ no_tag → is_block s.pool.core (frame f).tag ≡ true
+  frame_block f below named = (tag_words s.pool.core h.pool.sizes).quiet h.quiet f below named
+
+  -- a block that isn't there is clean
+  outside : (tag : ℕ) → is_block s.pool.core tag ≡ false → IsClean (home_of s tag)
+  outside tag e = record { done = λ x. absurd (flags_differ (sym e ∙ x)); stored = λ x. absurd (flags_differ (sym e ∙ x)) }
 
   -- a tag that no frame has, as a backend names it
   fresh : (i f : ℕ) (k : pin_kinds.Kind) (v : View) → get_elem? views i ≡ some v → pin_kinds.Allowed k (frame f) (link v f) → pin_steps.AllowedAround k s.pool.core v f → StoresClean k (home_of s (pin_kinds.frame_after k (frame f)).tag)
   fresh i f (pin_kinds.store_tag tag) v there a around = h.unframed tag a.named (unframed_tag i f tag v there a around)
+  fresh i f (pin_kinds.store_new_tag tag) v there a around = h.unframed tag a.named (unframed_name i tag v there a.named around.naming around.lacking)
   fresh i f _ v there a around = tt
 
   -- a step of a kind of `pin_core` at a frame
   pins_step : (i f : ℕ) (k : pin_kinds.Kind) (v : View) → get_elem? views i ≡ some v → v.emptied ≡ false → f < n → pin_kinds.Allowed k (frame f) (link v f) → pin_steps.AllowedAround k s.pool.core v f → HistoryInvariant (record s { pool = record s.pool { core = pin_steps.state_after k s.pool.core i f v } })
   pins_step i f k v there live inside a around = let w : View = pin_stepping.after k s.pool.core f v in let fr : Frame = pin_kinds.frame_after k (frame f) in let l : Link = pin_kinds.link_after k (frame f) (link v f) in
       let law = page_stepping.step_keeps (page_steps.cores (pin_steps.touches i f k v there live inside a around)) h.pool in
-      assemble_same s h (record s.pool { core = pin_steps.state_after k s.pool.core i f v }) s.lane law refl h.known (refl, refl) (outer_same s.known s.origin s.log s.lanes s.lane s.flushed (written_of s) s.device views (outer_of s h) i v w there (record { calls = refl; front = refl; joined = refl; flushed = refl; emptied = refl; number = refl; kept = refl }) refl refl refl refl)
+      assemble_same s h (record s.pool { core = pin_steps.state_after k s.pool.core i f v }) s.lane law refl h.known (record { base = refl; resizes = refl; sizes = λ fork. refl }) (outer_same s.known s.origin s.log s.lanes s.lane s.flushed (written_of s) s.device views (outer_of s h) i v w there (record { calls = refl; front = refl; joined = refl; flushed = refl; emptied = refl; number = refl; kept = refl }) refl refl refl refl)
       (record {
         homes = touched i f v w fr l there live inside refl (home_of s) (λ g below other. refl) (pins_keep k (home_of s (frame f).tag) (home_of s fr.tag) (frame f) (link v f) a (λ e. ap (home_of s) e) (fresh i f k v there a around));
-        unframed = unframed_put (λ (t : ℕ). IsClean (home_of s t)) n frame f fr inside h.unframed (clean_at f inside) (tag_goes k (frame f) (link v f) (tallies frame_shape views f) (h.pool.core.grid.columns f inside) a);
+        unframed = unframed_put (λ (t : ℕ). IsClean (home_of s t)) n frame f fr inside h.unframed (λ named goes. ⊎_elim (λ (clean : (frame f).word.dirty ≡ false). clean_at f inside named clean)
+            (λ (noted : (link v f).noted ≡ true). outside (frame f).tag (page_stepping.noted_outside s.pool h.pool i f v there inside noted)) (tag_goes k (frame f) (link v f) (tallies frame_shape views f) (h.pool.core.grid.columns f inside) a goes));
         flushed_cells = h.flushed_cells;
       })
 
@@ -251,32 +291,46 @@ module _ (s : State) (h : HistoryInvariant s) where
     pub blocks_touched : (w : View) → w.links ≡ set v.links f l → Keeps_by k (home_of s (frame f).tag) (pages_home_after k (home_of s (frame f).tag)) (frame f) (link v f) → Blocks n (put frame f fr) (set views i w) s.origin s.log s.flushed (home_of s)
     blocks_touched w e keeps = let is : pages_home_after k (home_of s (frame f).tag) ≡ home_of s fr.tag = ap (λ (x : Block). record (home_of s (frame f).tag) { block = x }) stays ∙ ap (home_of s) (sym (tag_kept k b (frame f))) in record {
       homes = touched i f v w fr l there live inside e (home_of s) (λ g below other. refl) (subst (λ (x : Home). Keeps home_shape known home_part (home_of s (frame f).tag) x tt tt (frame f) (link v f) fr l) is keeps);
-      unframed = unframed_put (λ (t : ℕ). IsClean (home_of s t)) n frame f fr inside h.unframed (clean_at f inside) (λ goes. absurd (goes (tag_kept k b (frame f))));
+      unframed = unframed_put (λ (t : ℕ). IsClean (home_of s t)) n frame f fr inside h.unframed (λ named goes. absurd (goes (tag_kept k b (frame f))));
       flushed_cells = h.flushed_cells;
     }
 
   -- a step of a plain kind of `page_core`
-  page_step : (i f : ℕ) (k : Kind) (v : View) → get_elem? views i ≡ some v → v.emptied ≡ false → f < n → Allowed k (block_of s.pool.logged (frame f).tag) (frame f) (link v f) → page_steps.AllowedAround k v f → IsPlain k → HistoryInvariant (record s { pool = page_steps.state_after k s.pool i f v })
+  page_step : (i f : ℕ) (k : Kind) (v : View) → get_elem? views i ≡ some v → v.emptied ≡ false → f < n → Allowed k (block_of s.pool.logged (frame f).tag) (frame f) (link v f) → page_steps.AllowedAround k s.pool v f → IsPlain k → HistoryInvariant (record s { pool = page_steps.state_after k s.pool i f v })
   page_step i f k v there live inside a around plain = let stays = plain_block k (block_of s.pool.logged (frame f).tag) plain in let w : View = paged k s.pool f v in
-      assemble_same s h (page_steps.state_after k s.pool i f v) s.lane (page_stepping.step_keeps (page_steps.touches i f k v there live inside a around) h.pool) (logged_same i f k v there live inside stays) h.known (refl, refl)
+      assemble_same s h (page_steps.state_after k s.pool i f v) s.lane (page_stepping.step_keeps (page_steps.touches i f k v there live inside a around) h.pool) (logged_same i f k v there live inside stays) h.known (record { base = refl; resizes = refl; sizes = λ fork. refl })
       (outer_same s.known s.origin s.log s.lanes s.lane s.flushed (written_of s) s.device views (outer_of s h) i v w there (record { calls = refl; front = refl; joined = refl; flushed = refl; emptied = refl; number = refl; kept = refl }) refl refl refl refl)
-      (blocks_touched i f k v there live inside stays w refl (plain_keeps k (home_of s (frame f).tag) (frame f) (link v f) (page_of s (frame f).tag) (λ named known. logged_there s h (frame f).tag (h.pool.core.blocks f inside named) known) plain a))
+      (blocks_touched i f k v there live inside stays w refl (plain_keeps k (home_of s (frame f).tag) (frame f) (link v f) (page_of s (frame f).tag) (λ named known. logged_there s h (frame f).tag (frame_block f inside named) known) plain a))
 
   -- the blocks where a view changes beside its links
   blocks_aside : (i : ℕ) (v w : View) → get_elem? views i ≡ some v → w.links ≡ v.links → Blocks n frame (set views i w) s.origin s.log s.flushed (home_of s)
   blocks_aside i v w there e = record { homes = steady home_shape home_part n frame (home_of s) views h.homes i v w there refl (λ g. ap (λ (x : List Link). link (record w { links = x }) g) e); unframed = h.unframed; flushed_cells = h.flushed_cells }
 
+  -- a step at the size of a fork, which leaves the sizes by the log, since forks don't grow or shrink yet
+  sized_step : (i fork : ℕ) (k : SizeKind) (v : View) → get_elem? s.pool.core.views i ≡ some v → v.emptied ≡ false → SizeAllowed k s.pool.core v fork → HistoryInvariant (record s { pool = record { core = state_sized k s.pool.core i fork v; logged = logged_sized k fork s.pool } })
+  sized_step i fork k v there live a = let w : View = view_sized k fork s.pool.core v in let x : pin_steps.Step (pin_steps.size_at i fork k) s.pool.core (state_sized k s.pool.core i fork v) = pin_steps.sized i fork k v there live a in
+      assemble_same s h (record { core = state_sized k s.pool.core i fork v; logged = logged_sized k fork s.pool }) s.lane (page_stepping.step_keeps (page_steps.cores x) h.pool) (quiet_logged s.pool h.pool.sizes h.quiet i fork v k there a) h.known
+      (record { base = refl; resizes = refl; sizes = same_sizes s.pool.core h.pool.sizes h.quiet i fork v k there a })
+      (outer_same s.known s.origin s.log s.lanes s.lane s.flushed (written_of s) s.device s.pool.core.views (outer_of s h) i v w there (record { calls = refl; front = refl; joined = refl; flushed = refl; emptied = refl; number = refl; kept = refl }) refl refl refl refl)
+      (record {
+        homes = steady_alike home_shape home_part s.pool.core.frames s.pool.core.frame (home_of s) s.pool.core.views h.homes i v w there refl (page_stepping.sized_weight s.pool h.pool i fork v there live k a)
+            (λ g b c o. sized_links s.pool.core h.pool.core i fork v there live (λ l m. HomeLink b c l → HomeLink b c m) k a (λ l y. y) (λ l known y. record { written = y.written }) (λ f end e z y. record { written = y.written }) g);
+        unframed = h.unframed;
+        flushed_cells = h.flushed_cells;
+      })
+
   -- a step of `pin_core` that is no step at a frame
-  others_step : {e : pin_steps.Event} {core' : pins.State} → pin_steps.Step e s.pool.core core' → HistoryInvariant (record s { pool = record s.pool { core = core' } })
+  others_step : {e : pin_steps.Event} {core' : pins.State} → pin_steps.Step e s.pool.core core' → HistoryInvariant (record s { pool = record { core = core'; logged = logged_by e s.pool } })
   others_step (pin_steps.touches i f k v there live inside a around) = pins_step i f k v there live inside a around
   others_step (pin_steps.turns i p k v there live below a) = let x : pin_steps.Step (pin_steps.turn i p k) s.pool.core (pin_steps.state_turned k s.pool.core i p v) = pin_steps.turns i p k v there live below a in let w : View = view_turned k p (hold v p) v in
-      assemble_same s h (record s.pool { core = pin_steps.state_turned k s.pool.core i p v }) s.lane (page_stepping.step_keeps (page_steps.cores x) h.pool) refl h.known (refl, refl)
+      assemble_same s h (record s.pool { core = pin_steps.state_turned k s.pool.core i p v }) s.lane (page_stepping.step_keeps (page_steps.cores x) h.pool) refl h.known (record { base = refl; resizes = refl; sizes = λ fork. refl })
       (outer_same s.known s.origin s.log s.lanes s.lane s.flushed (written_of s) s.device views (outer_of s h) i v w there (record { calls = refl; front = refl; joined = refl; flushed = refl; emptied = refl; number = refl; kept = refl }) refl refl refl refl) (blocks_aside i v w there refl)
+  others_step (pin_steps.sized i fork k v there live a) = sized_step i fork k v there live a
   others_step (pin_steps.splits v there room) = let x : pin_steps.Step pin_steps.split s.pool.core (pins.split_state s.pool.core v) = pin_steps.splits v there room in let w : View = record v { next = v.next + 1 } in
       let a = length v.links in let p = length v.partitions in let m = length v.lanes in let first = h.pool.core.views.first v there in
       let outer = outer_grows s.known s.origin s.log s.lanes s.lane s.flushed (written_of s) s.device (set views 0 w) (outer_same s.known s.origin s.log s.lanes s.lane s.flushed (written_of s) s.device views (outer_of s h) 0 v w there (record { calls = refl; front = refl; joined = refl; flushed = refl; emptied = refl; number = refl; kept = refl }) refl refl refl refl) v.next s.pool.core.base a p h.based h.flushed_from (end_above s.log (new_entry s 0 (image 0 [])) h.log) in
       let blocks = blocks_aside 0 v w there refl in
-      assemble_same s h (record s.pool { core = pins.split_state s.pool.core v }) s.lane (page_stepping.step_keeps (page_steps.cores x) h.pool) refl h.known (refl, refl)
+      assemble_same s h (record s.pool { core = pins.split_state s.pool.core v }) s.lane (page_stepping.step_keeps (page_steps.cores x) h.pool) refl h.known (record { base = refl; resizes = refl; sizes = λ fork. refl })
       (subst (λ (z : ℕ). Outer s.known s.origin s.log s.lanes s.lane s.flushed (written_of s) s.device (set views 0 w ++ new_view v.next s.pool.core.base a p z ∷ [])) (sym (h.wide 0 v there first.0)) outer)
       (record {
         homes = grows home_shape home_part n frame (home_of s) (set views 0 w) blocks.homes (new_view v.next s.pool.core.base a p m) (new_none v.next s.pool.core.base a p m) (λ g inside. subst (HomeLink (home_of s (frame g).tag) (frame g)) (sym (link_new a p m v.next s.pool.core.base g)) (no_link (home_of s (frame g).tag) (frame g)));
@@ -285,13 +339,34 @@ module _ (s : State) (h : HistoryInvariant s) where
       })
   others_step (pin_steps.joins j v u there other here live free) = let x : pin_steps.Step (pin_steps.join j) s.pool.core (pins.joined_state s.pool.core v j u) = pin_steps.joins j v u there other here live free in let w : View = joined_view v u in let alive = (h.pool.core.views.first v there).0 in
       let first = steady home_shape known n frame (home_of s) views (knows s h) 0 v w there refl (λ g. refl) in
-      assemble_same s h (record s.pool { core = pins.joined_state s.pool.core v j u }) s.lane (page_stepping.step_keeps (page_steps.cores x) h.pool) refl h.known (refl, refl)
+      assemble_same s h (record s.pool { core = pins.joined_state s.pool.core v j u }) s.lane (page_stepping.step_keeps (page_steps.cores x) h.pool) refl h.known (record { base = refl; resizes = refl; sizes = λ fork. refl })
       (outer_joins s.known s.origin s.log s.lanes s.lane s.flushed (written_of s) s.device views (outer_of s h) j v u there alive (h.pool.core.views.numbered 0 v there alive) other here live (h.pool.core.views.numbered j u here live) free.lanes free.log)
       (record {
         homes = sweep home_shape known home_part n frame frame (home_of s) (home_of s) (set views 0 w) j u emptied_view first (set_else views 0 j w other ∙ here) (λ g inside. home_forgets (home_of s (frame g).tag) (frame g) (link u g));
         unframed = h.unframed;
         flushed_cells = h.flushed_cells;
       })
+
+-- a block is below its fork's size at the start
+pub below_opened : (s : State) → HistoryInvariant s → (tag : ℕ) → is_block s.pool.core tag ≡ true → pins.is_below s.opened_sizes tag ≡ true
+below_opened s h tag block = ap (λ (n : ℕ). nat_lt (tag_block tag) n) (sym (h.sizes (tag_fork tag) ∙ sizes_still s.log.entries s.opened_sizes (tag_fork tag) (λ k e at g o n is. no_resize g o n (end_of e) (subst (IsChange (end_of e)) is (h.log.valid k e at))))) ∙ block
+
+-- and so do the blocks' pages after the log, but for an entry
+pub logged_stays : (s : State) → HistoryInvariant s → {e : pin_steps.Event} {core' : pins.State} → pin_steps.Step e s.pool.core core' → logged_by e s.pool ≡ s.pool.logged
+logged_stays s h (pin_steps.touches i f k v there live inside a around) = refl
+logged_stays s h (pin_steps.turns i p k v there live below a) = refl
+logged_stays s h (pin_steps.sized i fork k v there live a) = quiet_logged s.pool h.pool.sizes h.quiet i fork v k there a
+logged_stays s h (pin_steps.splits v there room) = refl
+logged_stays s h (pin_steps.joins j v u there other here live free) = refl
+
+-- the sizes of forks by the log stay
+pub pool_sizes : (s : State) → HistoryInvariant s → {e : page_steps.Event} {pool' : page.State} → page_steps.Step e s.pool pool' → (fork : ℕ) → (pool'.core.size fork).logged ≡ (s.pool.core.size fork).logged
+pool_sizes s h (page_steps.cores (pin_steps.touches i f k v there live inside a around)) g = refl
+pool_sizes s h (page_steps.cores (pin_steps.turns i p k v there live below a)) g = refl
+pool_sizes s h (page_steps.cores (pin_steps.sized i fork k v there live a)) g = same_sizes s.pool.core h.pool.sizes h.quiet i fork v k there a g
+pool_sizes s h (page_steps.cores (pin_steps.splits v there room)) g = refl
+pool_sizes s h (page_steps.cores (pin_steps.joins j v u there other here live free)) g = refl
+pool_sizes s h (page_steps.touches i f k v there live inside a around) g = refl
 
 pools_step : (s : State) → HistoryInvariant s → {e : page_steps.Event} {pool' : page.State} → page_steps.Step e s.pool pool' → PoolAllowed e → HistoryInvariant (record s { pool = pool' })
 pools_step s h (page_steps.cores x) a = others_step s h x
@@ -319,14 +394,14 @@ module _ (s : State) (h : HistoryInvariant s) (i q f : ℕ) (noted : Bool) (k : 
   noting_block = block_of logged noting_frame.tag
 
   noted_keeps : page_law.PageInvariant noting → ((tag : ℕ) → s.known tag ≡ true → logged tag ≡ s.pool.logged tag) → ((tag : ℕ) → tag ≢ noting_frame.tag → homes_with s logged s.lane tag ≡ home_of s tag) → ((g : ℕ) → g < s.pool.core.frames → g ≢ f → homes_with s logged s.lane (s.pool.core.frame g).tag ≡ home_of s (s.pool.core.frame g).tag)
-      → Allowed k noting_block noting_frame (link v f) → page_steps.AllowedAround k v f → block_after k noting_block ≡ noting_block
+      → Allowed k noting_block noting_frame (link v f) → page_steps.AllowedAround k noting v f → block_after k noting_block ≡ noting_block
       → Keeps home_shape known home_part (home_of s noting_frame.tag) (homes_with s logged s.lane noting_frame.tag) tt tt noting_frame (link v f) (frame_after k noting_block noting_frame) (link_after k noting_block noting_frame (link v f))
       → HistoryInvariant (record s { pool = pool_after k noting i f (laned (lane_kinds.lane_back noted) q v (paged k noting f v)); lane = put s.lane q (s.lane q) })
   noted_keeps law same free else a around stays keeps = let fr : Frame = frame_after k noting_block noting_frame in let w : View = laned (lane_kinds.lane_back noted) q v (paged k noting f v) in let views = s.pool.core.views in
       let is : logged_after k logged noting_frame.tag ≡ logged = (λ j g. put_same logged noting_frame.tag (block_after k noting_block).logged g (ap (λ (x : Block). x.logged) stays) j) in
-      let here : SameHere (paged k noting f v) w = record { backend = record { emptied = refl; number = refl; next = refl; links = refl; partitions = refl }; joined = refl; links = refl; partitions = refl } in
+      let here : SameHere (paged k noting f v) w = record { backend = record { emptied = refl; number = refl; next = refl; links = refl; partitions = refl }; joined = refl; links = refl; partitions = refl; sizes = refl } in
       let tag_same = tag_kept k noting_block noting_frame in
-      assemble s h (pool_after k noting i f w) (put s.lane q (s.lane q)) (pool_touched noting law i f k v w there live inside a around here) (λ tag e. (λ j. is j tag) ∙ same tag e ∙ h.logged tag e) (known_after s h (lane_kinds.lane_back noted) q) (refl, refl)
+      assemble s h (pool_after k noting i f w) (put s.lane q (s.lane q)) (pool_touched noting law i f k v w there live inside a around here) (λ tag e. (λ j. is j tag) ∙ same tag e ∙ h.logged tag e) (known_after s h (lane_kinds.lane_back noted) q) (record { base = refl; resizes = refl; sizes = λ fork. refl })
       (laned_outer s h i q (lane_kinds.lane_back noted) v w there live low back (record { calls = refl; front = refl; joined = refl; flushed = refl; emptied = refl; number = refl; kept = refl }) refl refl refl refl)
       (subst (λ (y : ℕ → Option Page). Blocks s.pool.core.frames (put s.pool.core.frame f fr) (set views i w) s.origin s.log s.flushed (homes_with s y (put s.lane q (s.lane q)))) (sym is)
       (subst (λ (y : ℕ → Home). Blocks s.pool.core.frames (put s.pool.core.frame f fr) (set views i w) s.origin s.log s.flushed y) (homes_same s logged q (s.lane q) (record { stored = refl; upto = refl; failed = refl }))
@@ -352,8 +427,8 @@ module _ (s : State) (h : HistoryInvariant s) (i q f : ℕ) (noted : Bool) (v : 
   note_known : s.known read_frame.tag ≡ true → HistoryInvariant (record s { pool = pool_after (note_read p) s.pool i f (laned (lane_kinds.lane_back noted) q v (paged (note_read p) s.pool f v)); lane = put s.lane q (s.lane q) })
   note_known e = let hm = home_of s read_frame.tag in let clean = (h.homes.columns f inside).clean is_input.0 is_input.1 in
       let held = (h.lanes.cells i v q there low).hold.read read_frame.tag p x.was_read (ap (λ (z : ℕ). (s.lane z).known) (sym x.lane) ∙ h.known read_frame.tag ∙ e) in let is : hm.stored ≡ Some p = ap (λ (z : ℕ). (s.lane z).stored read_frame.tag) x.lane ∙ held in
-      noted_keeps s h i q f noted (note_read p) v there live low inside back s.pool.logged h.pool (λ tag z. refl) (λ tag z. refl) (λ g below other. refl) (record { right = x.right; fresh = x.fresh; given = λ r z. same_Some r p (sym z ∙ clean.stored e ∙ is) }) tt refl
-      (homes.note_read_keeps hm read_frame (link v f) p hm refl refl (λ z. (z, refl)) x.right)
+      noted_keeps s h i q f noted (note_read p) v there live low inside back s.pool.logged h.pool (λ tag z. refl) (λ tag z. refl) (λ g below other. refl) (record { right = x.right; fresh = x.fresh; given = λ r z. same_Some r p (sym z ∙ clean.stored (frame_block s h f inside is_input.0) e ∙ is); zero = λ z. absurd (flags_differ (sym x.unnoted ∙ z)) }) tt refl
+      (homes.note_read_keeps hm read_frame (link v f) p hm refl refl refl (λ z. (z, refl)) x.right)
 
   -- where the contents aren't known the block's page is forgotten
   note_unknown : s.known read_frame.tag ≡ false → HistoryInvariant (record s { pool = pool_after (note_read p) (record s.pool { logged = put s.pool.logged read_frame.tag None }) i f (laned (lane_kinds.lane_back noted) q v (paged (note_read p) (record s.pool { logged = put s.pool.logged read_frame.tag None }) f v)); lane = put s.lane q (s.lane q) })
@@ -361,8 +436,8 @@ module _ (s : State) (h : HistoryInvariant s) (i q f : ℕ) (noted : Bool) (v : 
       let else : (t : ℕ) → t ≢ tag → homes_with s g s.lane t ≡ home_of s t = (λ t other. ap (λ (o : Option Page). record (home_of s t) { block = record { logged = o } }) (put_else s.pool.logged tag None t other)) in
       noted_keeps s h i q f noted (note_read p) v there live low inside back g (forgets s.pool f h.pool inside is_input.0 is_input.2) (λ t z. put_else s.pool.logged tag None t (λ same. absurd (apart (sym (ap s.known same) ∙ z) e))) else
       (λ k below other. else (s.pool.core.frame k).tag (λ same. other (sym (h.pool.core.apart f k inside below is_input.0 (sym same)))))
-      (record { right = x.right; fresh = x.fresh; given = λ r z. let none = sym z ∙ put_here s.pool.logged tag None in absurd (cc) }) tt refl
-      (homes.note_read_keeps hm read_frame (link v f) p (homes_with s g s.lane tag) refl refl (λ z. absurd (apart z e)) x.right)
+      (record { right = x.right; fresh = x.fresh; given = λ r z. let none = sym z ∙ put_here s.pool.logged tag None in absurd (cc); zero = λ z. absurd (flags_differ (sym x.unnoted ∙ z)) }) tt refl
+      (homes.note_read_keeps hm read_frame (link v f) p (homes_with s g s.lane tag) refl refl refl (λ z. absurd (apart z e)) x.right)
     where
       apart : {b : Bool} → b ≡ true → b ≡ false → ⊥
       apart y n = cc
@@ -406,8 +481,8 @@ notes_step s h i q f noted (kinds.end_io end) v there live low inside back x = a
 lanes_step : (s : State) → HistoryInvariant s → (i q : ℕ) (k : LaneKind) (v : View) → get_elem? s.pool.core.views i ≡ some v → v.emptied ≡ false → q < s.lanes → LaneAllowed k (s.lane q) (lane_hold v q) → LaneAlone k s q (lane_hold v q)
     → HistoryInvariant (record s { pool = aside s.pool i (stepped (laned k q v v)); lane = put s.lane q (lane_after k (s.lane q)) })
 lanes_step s h i q k v there live inside a alone = let w : View = stepped (laned k q v v) in let views = s.pool.core.views in let holds = no_write_holds k s q (lane_hold v q) (s.lane q) alone in
-    let same : SameHere v w = record { backend = record { emptied = refl; number = refl; next = refl; links = refl; partitions = refl }; joined = refl; links = refl; partitions = refl } in
-    assemble_same s h (aside s.pool i w) (put s.lane q (lane_after k (s.lane q))) (pool_aside s.pool i v w h.pool there same) refl (known_after s h k q) (refl, refl)
+    let same : SameHere v w = record { backend = record { emptied = refl; number = refl; next = refl; links = refl; partitions = refl }; joined = refl; links = refl; partitions = refl; sizes = refl } in
+    assemble_same s h (aside s.pool i w) (put s.lane q (lane_after k (s.lane q))) (pool_aside s.pool i v w h.pool there same) refl (known_after s h k q) (record { base = refl; resizes = refl; sizes = λ fork. refl })
     (laned_outer s h i q k v w there live inside a (record { calls = refl; front = refl; joined = refl; flushed = refl; emptied = refl; number = refl; kept = refl }) refl refl refl refl)
     (subst (λ (x : ℕ → Home). Blocks s.pool.core.frames s.pool.core.frame (set views i w) s.origin s.log s.flushed x) (homes_same s s.pool.logged q (lane_after k (s.lane q)) holds) (blocks_aside s h i v w there refl))
 
@@ -433,14 +508,14 @@ module _ (s : State) (h : HistoryInvariant s) (i q f : ℕ) (v : View) (there : 
 
   -- the block's page after the log is the frame's, where the contents of its lane are known
   is_cell_now : s.known tag ≡ true → cell s.origin s.log.entries tag ≡ Some written_frame.page
-  is_cell_now known = let block = subst (λ (z : ℕ). s.pool.core.is_block z ≡ true) x.tagged (h.pool.core.blocks f inside named_logged.0.named) in let e = logged_there s h tag block known in
+  is_cell_now known = let block = subst (λ (z : ℕ). is_block s.pool.core z ≡ true) x.tagged (frame_block s h f inside named_logged.0.named) in let e = logged_there s h tag block known in
       sym (h.logged tag known) ∙ e ∙ ap (λ (y : Page). Some y) (named_logged.1 (page_of s tag) (ap s.pool.logged x.tagged ∙ e))
 
   is_flushed : (lane_hold v q).out ≢ None → IsFlushedCell s.origin s.log s.flushed tag (record (home_of s tag) { stored = Some written_frame.page; stored_upto = upto; failed = false })
   is_flushed out = let early = is_early out in let was = h.flushed_cells tag in let same : (s.lane q).stored_upto tag ≡ stored_upto s tag = ap (λ (z : ℕ). (s.lane z).stored_upto tag) (sym x.lane) in record {
     based = (let z = was.based in omega arith);
     within = (let z = was.within in omega arith);
-    is_cell = λ known ok. sym (cell_at_position s.origin s.log.entries tag upto (log_end s.log) written_frame.page h.log.valid (ends_below s.log (new_entry s 0 (image tag [])) h.log) (λ k e of. h.pages k tag e of known) (is_cell_now known) (omega arith));
+    is_cell = λ block known ok. sym (cell_at_position s.origin s.log.entries tag upto (log_end s.log) written_frame.page h.log.valid (ends_below s.log (new_entry s 0 (image tag [])) h.log) (λ k e of. h.pages k tag e of known) (is_cell_now known) (omega arith));
   }
 
   -- the lane after the write holds the page p for the block, and the block's entries up to u
@@ -457,6 +532,7 @@ module _ (s : State) (h : HistoryInvariant s) (i q f : ℕ) (v : View) (there : 
 
     else : (t : ℕ) → t ≢ tag → home' t ≡ home_of s t
     else t other = λ j. record {
+      inside = is_block s.pool.core t;
       block = block_of s.pool.logged t;
       known = s.known t;
       stored = (written_at (λ (y : Lane). y.stored) p stores t ∙ put_else (stored s) tag p t other) j;
@@ -466,6 +542,7 @@ module _ (s : State) (h : HistoryInvariant s) (i q f : ℕ) (v : View) (there : 
 
     here : home' tag ≡ record (home_of s tag) { stored = p; stored_upto = u; failed = done }
     here = λ j. record {
+      inside = is_block s.pool.core tag;
       block = block_of s.pool.logged tag;
       known = s.known tag;
       stored = (written_at (λ (y : Lane). y.stored) p stores tag ∙ put_here (stored s) tag p) j;
@@ -475,8 +552,8 @@ module _ (s : State) (h : HistoryInvariant s) (i q f : ℕ) (v : View) (there : 
 
     pub write_keeps : HistoryInvariant (record s { pool = pool_after begin_write s.pool i f (laned k q v (paged begin_write s.pool f v)); lane = lane' })
     write_keeps = let b : Block = block_of s.pool.logged written_frame.tag in let w : View = laned k q v (paged begin_write s.pool f v) in let views = s.pool.core.views in let a : Allowed begin_write b written_frame (link v f) = record { right = x.right.right } in
-        let same : SameHere (paged begin_write s.pool f v) w = record { backend = record { emptied = refl; number = refl; next = refl; links = refl; partitions = refl }; joined = refl; links = refl; partitions = refl } in
-        assemble_same s h (pool_after begin_write s.pool i f w) lane' (pool_touched s.pool h.pool i f begin_write v w there live inside a tt same) (logged_same s h i f begin_write v there live inside refl) (known_after s h k q) (refl, refl)
+        let same : SameHere (paged begin_write s.pool f v) w = record { backend = record { emptied = refl; number = refl; next = refl; links = refl; partitions = refl }; joined = refl; links = refl; partitions = refl; sizes = refl } in
+        assemble_same s h (pool_after begin_write s.pool i f w) lane' (pool_touched s.pool h.pool i f begin_write v w there live inside a tt same) (logged_same s h i f begin_write v there live inside refl) (known_after s h k q) (record { base = refl; resizes = refl; sizes = λ fork. refl })
         (laned_outer s h i q k v w there live low back (record { calls = refl; front = refl; joined = refl; flushed = refl; emptied = refl; number = refl; kept = refl }) refl refl refl refl)
         (record {
           homes = touched s h i f v w written_frame (link_after begin_write b written_frame (link v f)) there live inside refl home' (λ g below other. else (s.pool.core.frame g).tag (other_tag g below other))
@@ -495,7 +572,7 @@ writes_step s h i q f (lane_kinds.write_block g tag p) v there live low inside b
     let y : CanWrite s q f tag page (lane_hold v q) (link v f) = record { tagged = x.tagged; lane = x.lane; page = refl; right = x.right; log_first = subst (λ (z : Page). lsn_of z ≤ (lane_hold v q).flushed) (sym x.page) x.log_first } in
     write_keeps s h i q f v there live low inside tag y (lane_kinds.write_block g tag p) (Some p) (upto_of p) false back refl refl refl (subst (λ (z : Page). IsFlushedCell s.origin s.log s.flushed tag (record (home_of s tag) { stored = Some z; stored_upto = upto_of z; failed = false })) x.page (is_flushed s h i q f v there live low inside tag y back.out))
 writes_step s h i q f (lane_kinds.fail_write g tag p faults) v there live low inside back (at, x) = let was = h.flushed_cells tag in let u = (s.lane q).stored_upto tag in let same : u ≡ stored_upto s tag = ap (λ (z : ℕ). (s.lane z).stored_upto tag) (sym x.lane) in
-    write_keeps s h i q f v there live low inside tag x (lane_kinds.fail_write g tag p faults) (Some p) u true back refl (λ j t. sym (put_same (s.lane q).stored_upto tag u t refl) j) refl (record { based = (let z = was.based in omega arith); within = (let z = was.within in omega arith); is_cell = λ known ok. absurd (cc) })
+    write_keeps s h i q f v there live low inside tag x (lane_kinds.fail_write g tag p faults) (Some p) u true back refl (λ j t. sym (put_same (s.lane q).stored_upto tag u t refl) j) refl (record { based = (let z = was.based in omega arith); within = (let z = was.within in omega arith); is_cell = λ block known ok. absurd (cc) })
 writes_step s h i q f lane_kinds.take_lane v there live low inside back x = absurd x
 writes_step s h i q f lane_kinds.leave_lane v there live low inside back x = absurd x
 writes_step s h i q f (lane_kinds.lane_out taken) v there live low inside back x = absurd x
@@ -511,7 +588,7 @@ copied_is_logged _ _ _ tag p c d a = let y = d.remembers tag a.remembered in ((c
 
 -- a state where a view changes beside all that the pool and the lanes know of it
 with_view : (s : State) (h : HistoryInvariant s) (i : ℕ) (v w : View) → get_elem? s.pool.core.views i ≡ some v → SameHere v w → w.lanes ≡ v.lanes → w.log ≡ v.log → w.saw_down ≡ v.saw_down → HistoryLaw s.known s.origin s.log s.flushed (set s.pool.core.views i w) → HistoryInvariant (record s { pool = aside s.pool i w })
-with_view s h i v w there same holds unlogged saw history = assemble_same s h (aside s.pool i w) s.lane (pool_aside s.pool i v w h.pool there same) refl h.known (refl, refl)
+with_view s h i v w there same holds unlogged saw history = assemble_same s h (aside s.pool i w) s.lane (pool_aside s.pool i v w h.pool there same) refl h.known (record { base = refl; resizes = refl; sizes = λ fork. refl })
     (record {
       device = steady log_shape log_part 1 (λ _. s.device) (λ _. written_of s) s.pool.core.views h.device i v w there saw (λ g. unlogged);
       history = history;
@@ -523,8 +600,8 @@ with_view s h i v w there same holds unlogged saw history = assemble_same s h (a
 reads_step : (s : State) → HistoryInvariant s → (i f tag : ℕ) (p : Page) (v : View) → get_elem? s.pool.core.views i ≡ some v → f < s.pool.core.frames → CanRead tag p (link v f) → HistoryInvariant (record s { pool = aside s.pool i (looked (seen.LogEnd s.end) (has_read s.end tag p v)) })
 reads_step s h i f tag p v there inside a = let w : View = looked (seen.LogEnd s.end) (has_read s.end tag p v) in
     let x = copied_is_logged (block_of s.pool.logged (s.pool.core.frame f).tag) (s.pool.core.frame f) (link v f) tag p (h.pool.pages.cells i v f there inside) (h.pool.core.grid.cells i v f there inside) a in
-    let is : s.known tag ≡ true → cell s.origin s.log.entries tag ≡ Some p = (λ known. let block = subst (λ (z : ℕ). s.pool.core.is_block z ≡ true) x.1 (h.pool.core.blocks f inside x.2.named) in let e = logged_there s h tag block known in sym (h.logged tag known) ∙ e ∙ ap (λ (y : Page). Some y) (x.0 (page_of s tag) (ap s.pool.logged x.1 ∙ e))) in
-    with_view s h i v w there (record { backend = record { emptied = refl; number = refl; next = refl; links = refl; partitions = refl }; joined = refl; links = refl; partitions = refl }) refl refl refl
+    let is : s.known tag ≡ true → cell s.origin s.log.entries tag ≡ Some p = (λ known. let block = subst (λ (z : ℕ). is_block s.pool.core z ≡ true) x.1 (frame_block s h f inside x.2.named) in let e = logged_there s h tag block known in sym (h.logged tag known) ∙ e ∙ ap (λ (y : Page). Some y) (x.0 (page_of s tag) (ap s.pool.logged x.1 ∙ e))) in
+    with_view s h i v w there (record { backend = record { emptied = refl; number = refl; next = refl; links = refl; partitions = refl }; joined = refl; links = refl; partitions = refl; sizes = refl }) refl refl refl
     (history_read s.known s.origin s.log s.flushed s.pool.core.views h.history h.log i v w there tag p is (new_entry s 0 (image tag p)) (ap (λ (z : ℕ). v.calls ++ Read v.number tag p z ∷ []) h.ends) h.ends refl refl refl refl)
 
 -- the flushed position rises to the log's end, whose bytes are durable
@@ -532,6 +609,8 @@ raised_state : (t : State) → HistoryInvariant t → length (log_bytes t.names 
 raised_state t k durable = let more : t.flushed ≤ max t.flushed t.end = omega arith in record {
   pool = k.pool;
   logged = k.logged;
+  sizes = k.sizes;
+  quiet = k.quiet;
   there = k.there;
   pages = k.pages;
   known = k.known;
@@ -554,7 +633,7 @@ raised_state t k durable = let more : t.flushed ≤ max t.flushed t.end = omega 
 }
 
 raises_step : (s : State) → HistoryInvariant s → (i : ℕ) (v : View) → get_elem? s.pool.core.views i ≡ some v → v.log.synced ≡ true → HistoryInvariant (record s { pool = aside s.pool i (has_raised s.end v); flushed = max s.flushed s.end })
-raises_step s h i v there synced = raised_state (record s { pool = aside s.pool i (has_raised s.end v) }) (with_view s h i v (has_raised s.end v) there (record { backend = record { emptied = refl; number = refl; next = refl; links = refl; partitions = refl }; joined = refl; links = refl; partitions = refl }) refl refl refl (history_same s.known s.origin s.log s.flushed s.pool.core.views h.history i v (has_raised s.end v) there (record { calls = refl; front = refl; joined = refl; flushed = refl; emptied = refl; number = refl; kept = refl })))
+raises_step s h i v there synced = raised_state (record s { pool = aside s.pool i (has_raised s.end v) }) (with_view s h i v (has_raised s.end v) there (record { backend = record { emptied = refl; number = refl; next = refl; links = refl; partitions = refl }; joined = refl; links = refl; partitions = refl; sizes = refl }) refl refl refl (history_same s.known s.origin s.log s.flushed s.pool.core.views h.history i v (has_raised s.end v) there (record { calls = refl; front = refl; joined = refl; flushed = refl; emptied = refl; number = refl; kept = refl })))
     (synced_all (written_of s) s.device v.saw_down v.log (tallies log_shape s.pool.core.views 0) (h.device.columns 0 (lit< tt)) (h.device.cells i v 0 there (lit< tt)) (λ k. term_le (λ (u : View). log_weigh k u.log) s.pool.core.views i v there) synced)
 
 -- what is durable stays so
@@ -572,9 +651,11 @@ durable_later see_down end d h a low = omega arith
 -- a step at the log
 logs_step : (s : State) → HistoryInvariant s → (i : ℕ) (k : LogKind) (v : View) → get_elem? s.pool.core.views i ≡ some v → LogAllowed k s.device v.log → HistoryInvariant (record s { pool = aside s.pool i (view_logged k v); device = device_after k s.end s.device })
 logs_step s h i k v there a = let w : View = view_logged k v in let views = s.pool.core.views in let later = durable_later k s.end s.device v.log a (h.device.columns 0 (lit< tt)).synced in
-    let same : SameHere v w = record { backend = record { emptied = refl; number = refl; next = refl; links = refl; partitions = refl }; joined = refl; links = refl; partitions = refl } in let blocks = blocks_aside s h i v w there refl in record {
+    let same : SameHere v w = record { backend = record { emptied = refl; number = refl; next = refl; links = refl; partitions = refl }; joined = refl; links = refl; partitions = refl; sizes = refl } in let blocks = blocks_aside s h i v w there refl in record {
       pool = pool_aside s.pool i v w h.pool there same;
       logged = h.logged;
+      sizes = h.sizes;
+      quiet = h.quiet;
       there = h.there;
       pages = h.pages;
       known = h.known;
@@ -598,7 +679,7 @@ logs_step s h i k v there a = let w : View = view_logged k v in let views = s.po
 
 -- a page that a backend has copied is the block's, where the contents of its lane are known
 pub copied_cell : (s : State) (h : HistoryInvariant s) (i f : ℕ) (v : View) → get_elem? s.pool.core.views i ≡ some v → f < s.pool.core.frames → (s.pool.core.frame f).tag ≢ no_tag → (q : Page) → (link v f).copied ≡ Some q → s.known (s.pool.core.frame f).tag ≡ true → cell s.origin s.log.entries (s.pool.core.frame f).tag ≡ Some q
-copied_cell s h i f v there inside named q copied known = let tag = (s.pool.core.frame f).tag in let e = logged_there s h tag (h.pool.core.blocks f inside named) known in let same : page_of s tag ≡ q = ((h.pool.pages.cells i v f there inside).copied q copied).is_logged (page_of s tag) e in
+copied_cell s h i f v there inside named q copied known = let tag = (s.pool.core.frame f).tag in let e = logged_there s h tag (frame_block s h f inside named) known in let same : page_of s tag ≡ q = ((h.pool.pages.cells i v f there inside).copied q copied).is_logged (page_of s tag) e in
     sym (h.logged tag known) ∙ e ∙ ap (λ (y : Page). Some y) same
 
 -- An entry of the page p of the frame f is made
@@ -675,7 +756,7 @@ module _ (s : State) (h : HistoryInvariant s) (i f : ℕ) (p : Page) (ch : Chang
       (λ (e : t ≡ tag_of). put_at s.pool.logged tag_of (Some p) t e ∙ sym (subst (λ (z : ℕ). s.known z ≡ true → cell s.origin (s.log.entries ++ entry ∷ []) z ≡ Some p) (sym e) cell_now known))
       (λ (o : t ≢ tag_of). put_else s.pool.logged tag_of (Some p) t o ∙ h.logged t known ∙ sym (cell_else t o))
 
-  there_longer : (t : ℕ) → s.pool.core.is_block t ≡ true → s.known t ≡ true → is_some (cell s.origin (s.log.entries ++ entry ∷ []) t) ≡ true
+  there_longer : (t : ℕ) → is_block s.pool.core t ≡ true → s.known t ≡ true → is_some (cell s.origin (s.log.entries ++ entry ∷ []) t) ≡ true
   there_longer t block known = dite (ℕ_discrete t tag_of)
       (λ (e : t ≡ tag_of). ap (λ (o : Option Page). is_some o) (subst (λ (z : ℕ). s.known z ≡ true → cell s.origin (s.log.entries ++ entry ∷ []) z ≡ Some p) (sym e) cell_now known))
       (λ (o : t ≢ tag_of). ap (λ (y : Option Page). is_some y) (cell_else t o) ∙ h.there t block known)
@@ -695,10 +776,12 @@ module _ (s : State) (h : HistoryInvariant s) (i f : ℕ) (p : Page) (ch : Chang
 
   pub enters_step : HistoryInvariant entered
   enters_step = let views = s.pool.core.views in let n = s.pool.core.frames in let frame = s.pool.core.frame in let l : Link = link_after (make_entry p) at_block old (link v f) in
-      let same : SameHere (paged (make_entry p) s.pool f v) after = record { backend = record { emptied = refl; number = refl; next = refl; links = refl; partitions = refl }; joined = refl; links = refl; partitions = refl } in record {
+      let same : SameHere (paged (make_entry p) s.pool f v) after = record { backend = record { emptied = refl; number = refl; next = refl; links = refl; partitions = refl }; joined = refl; links = refl; partitions = refl; sizes = refl } in record {
         pool = pool_touched s.pool h.pool i f (make_entry p) v after there live inside x.right x.around same;
         logged = logged_longer;
         there = there_longer;
+        sizes = λ fork. h.sizes fork ∙ sym (sizes_longer s.log.entries entry s.opened_sizes fork (λ g o n e. no_resize g o n end' (subst (IsChange end') e valid)));
+        quiet = h.quiet;
         pages = pages_longer;
         known = h.known;
         log = log_longer s.log entry h.log h.ends valid;
@@ -721,7 +804,7 @@ module _ (s : State) (h : HistoryInvariant s) (i f : ℕ) (p : Page) (ch : Chang
         flushed_cells = λ t. let y = h.flushed_cells t in record {
           based = y.based;
           within = y.within;
-          is_cell = λ known ok. y.is_cell known ok ∙ ap (λ (es : List Entry). cell s.origin es t) (sym (cut_longer (stored_upto s t) s.log.entries entry (let a = y.within in let c = h.flushed_to in omega (arith, some_size ch))));
+          is_cell = λ block known ok. y.is_cell block known ok ∙ ap (λ (es : List Entry). cell s.origin es t) (sym (cut_longer (stored_upto s t) s.log.entries entry (let a = y.within in let c = h.flushed_to in omega (arith, some_size ch))));
         };
       }
 
@@ -729,8 +812,8 @@ module _ (s : State) (h : HistoryInvariant s) (i f : ℕ) (p : Page) (ch : Chang
 module _ (s : State) (h : HistoryInvariant s) (i : ℕ) (v : View) (there : get_elem? s.pool.core.views i ≡ some v) where
   -- the holder of the log's latch keeps the log end that it loads
   loads_end_step : HistoryInvariant (state_after_word load_end s i v)
-  loads_end_step = let w : View = after_word load_end s v in let same : SameHere v w = record { backend = record { emptied = refl; number = refl; next = refl; links = refl; partitions = refl }; joined = refl; links = refl; partitions = refl } in
-      assemble_same s h (aside s.pool i w) s.lane (pool_aside s.pool i v w h.pool there same) refl h.known (refl, refl)
+  loads_end_step = let w : View = after_word load_end s v in let same : SameHere v w = record { backend = record { emptied = refl; number = refl; next = refl; links = refl; partitions = refl }; joined = refl; links = refl; partitions = refl; sizes = refl } in
+      assemble_same s h (aside s.pool i w) s.lane (pool_aside s.pool i v w h.pool there same) refl h.known (record { base = refl; resizes = refl; sizes = λ fork. refl })
       (record {
         device = sweep log_shape log_part log_part 1 (λ _. s.device) (λ _. s.device) (λ _. written_of s) (λ _. written_of s) s.pool.core.views i v w h.device there (λ g below. end_keeps (written_of s) s.device v.saw_down v.log);
         history = history_same s.known s.origin s.log s.flushed s.pool.core.views h.history i v w there (record { calls = refl; front = refl; joined = refl; flushed = refl; emptied = refl; number = refl; kept = refl });
@@ -740,15 +823,15 @@ module _ (s : State) (h : HistoryInvariant s) (i : ℕ) (v : View) (there : get_
       (blocks_aside s h i v w there refl)
 
   begins_step : HistoryInvariant (state_after_word begin_checkpoint s i v)
-  begins_step = let w : View = after_word begin_checkpoint s v in let begun : BegunHere v w = record { emptied = refl; number = refl; next = refl; joined = refl; links = refl; partitions = refl } in
-      assemble_same s h (aside s.pool i w) s.lane (pool_begun i v w begun s.pool h.pool there) refl h.known (refl, refl)
+  begins_step = let w : View = after_word begin_checkpoint s v in let begun : BegunHere v w = record { emptied = refl; number = refl; next = refl; joined = refl; links = refl; partitions = refl; sizes = refl } in
+      assemble_same s h (aside s.pool i w) s.lane (pool_begun i v w begun s.pool h.pool there) refl h.known (record { base = refl; resizes = refl; sizes = λ fork. refl })
       (outer_same s.known s.origin s.log s.lanes s.lane s.flushed (written_of s) s.device s.pool.core.views (outer_of s h) i v w there (record { calls = refl; front = refl; joined = refl; flushed = refl; emptied = refl; number = refl; kept = refl }) refl refl refl refl)
       (record { homes = homes_begun i v w begun s.pool.core.frames s.pool.core.frame (home_of s) s.pool.core.views h.homes there; unframed = h.unframed; flushed_cells = h.flushed_cells })
 
   -- the holder of the log's latch keeps the redo position that it loads
   loads_redo_step : v.log.held ≡ true → HistoryInvariant (state_after_word load_redo s i v)
-  loads_redo_step held = let w : View = after_word load_redo s v in let same : SameHere v w = record { backend = record { emptied = refl; number = refl; next = refl; links = refl; partitions = refl }; joined = refl; links = refl; partitions = refl } in
-      assemble_same s h (aside s.pool i w) s.lane (pool_aside s.pool i v w h.pool there same) refl h.known (refl, refl)
+  loads_redo_step held = let w : View = after_word load_redo s v in let same : SameHere v w = record { backend = record { emptied = refl; number = refl; next = refl; links = refl; partitions = refl }; joined = refl; links = refl; partitions = refl; sizes = refl } in
+      assemble_same s h (aside s.pool i w) s.lane (pool_aside s.pool i v w h.pool there same) refl h.known (record { base = refl; resizes = refl; sizes = λ fork. refl })
       (record {
         device = sweep log_shape log_part log_part 1 (λ _. s.device) (λ _. s.device) (λ _. written_of s) (λ _. written_of s) s.pool.core.views i v w h.device there (λ g below. redo_keeps (written_of s) s.device v.saw_down v.log (Some s.redo) (λ free. absurd (let x = held in cc)));
         history = history_same s.known s.origin s.log s.flushed s.pool.core.views h.history i v w there (record { calls = refl; front = refl; joined = refl; flushed = refl; emptied = refl; number = refl; kept = refl });
@@ -759,8 +842,8 @@ module _ (s : State) (h : HistoryInvariant s) (i : ℕ) (v : View) (there : get_
 
   -- and forgets it once it is raised
   forgets_redo_step : HistoryInvariant (record s { pool = aside s.pool i (after_word raise_redo s v) })
-  forgets_redo_step = let w : View = after_word raise_redo s v in let same : SameHere v w = record { backend = record { emptied = refl; number = refl; next = refl; links = refl; partitions = refl }; joined = refl; links = refl; partitions = refl } in
-      assemble_same s h (aside s.pool i w) s.lane (pool_aside s.pool i v w h.pool there same) refl h.known (refl, refl)
+  forgets_redo_step = let w : View = after_word raise_redo s v in let same : SameHere v w = record { backend = record { emptied = refl; number = refl; next = refl; links = refl; partitions = refl }; joined = refl; links = refl; partitions = refl; sizes = refl } in
+      assemble_same s h (aside s.pool i w) s.lane (pool_aside s.pool i v w h.pool there same) refl h.known (record { base = refl; resizes = refl; sizes = λ fork. refl })
       (record {
         device = sweep log_shape log_part log_part 1 (λ _. s.device) (λ _. s.device) (λ _. written_of s) (λ _. written_of s) s.pool.core.views i v w h.device there (λ g below. redo_keeps (written_of s) s.device v.saw_down v.log (None) (λ free. refl));
         history = history_same s.known s.origin s.log s.flushed s.pool.core.views h.history i v w there (record { calls = refl; front = refl; joined = refl; flushed = refl; emptied = refl; number = refl; kept = refl });
@@ -773,6 +856,8 @@ module _ (s : State) (h : HistoryInvariant s) (i : ℕ) (v : View) (there : get_
   raises_redo_step = let x = forgets_redo_step in record {
     pool = x.pool;
     logged = x.logged;
+    sizes = x.sizes;
+    quiet = x.quiet;
     there = x.there;
     pages = x.pages;
     known = x.known;
@@ -797,17 +882,19 @@ module _ (s : State) (h : HistoryInvariant s) (i : ℕ) (v : View) (there : get_
   words_step : (k : WordKind) → WordAllowed k s v → HistoryInvariant (state_after_word k s i v)
   words_step load_end a = loads_end_step
   words_step begin_checkpoint a = begins_step
-  words_step load_flushed a = let w : View = after_word load_flushed s v in with_view s h i v w there (record { backend = record { emptied = refl; number = refl; next = refl; links = refl; partitions = refl }; joined = refl; links = refl; partitions = refl }) refl refl refl
+  words_step load_flushed a = let w : View = after_word load_flushed s v in with_view s h i v w there (record { backend = record { emptied = refl; number = refl; next = refl; links = refl; partitions = refl }; joined = refl; links = refl; partitions = refl; sizes = refl }) refl refl refl
       (history_loaded s.known s.origin s.log s.flushed s.pool.core.views h.history i v w there refl refl refl refl refl refl refl)
   words_step raise_flushed synced = raises_step s h i v there synced
   words_step load_redo held = loads_redo_step held
   words_step raise_redo ended = raises_redo_step
   -- no law speaks of the others
-  words_step k a = let w : View = after_word k s v in let x = with_view s h i v w there (record { backend = record { emptied = refl; number = refl; next = refl; links = refl; partitions = refl }; joined = refl; links = refl; partitions = refl }) refl refl refl
+  words_step k a = let w : View = after_word k s v in let x = with_view s h i v w there (record { backend = record { emptied = refl; number = refl; next = refl; links = refl; partitions = refl }; joined = refl; links = refl; partitions = refl; sizes = refl }) refl refl refl
       (history_same s.known s.origin s.log s.flushed s.pool.core.views h.history i v w there (record { calls = refl; front = refl; joined = refl; flushed = refl; emptied = refl; number = refl; kept = refl })) in record {
         pool = x.pool;
         logged = x.logged;
-        there = x.there;
+        sizes = x.sizes;
+    quiet = x.quiet;
+    there = x.there;
         pages = x.pages;
         known = x.known;
         log = x.log;

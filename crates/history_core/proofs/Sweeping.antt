@@ -16,6 +16,7 @@ use Rattle.pin_core.specs.State.{Config, Page, no_lane, idle, link, lane_hold, h
 use Rattle.pin_core.specs.State as pins
 use Rattle.pin_core.specs.Kinds as pin_kinds
 use Rattle.pin_core.specs.Turns.{view_turned}
+use Rattle.pin_core.specs.Sizes.{view_sized, state_sized}
 use Rattle.pin_core.specs.Steps as pin_steps
 use Rattle.page_core.specs.Steps as page_steps
 use Rattle.page_core.specs.Kinds.{begin_write, make_entry}
@@ -202,9 +203,10 @@ module _ (s : State) (h : HistoryInvariant s) (d : DebtsLaw s) (m : SweptLaw s) 
   plain : (t : State) → t.lane_of ≡ s.lane_of → t.end ≡ s.end → t.log.entries ≡ s.log.entries → t.lane ≡ s.lane → Later s t
   plain t lane_of end entries lane = record { lane_of = lane_of; end = omega arith; entries = λ tag n e of. inl (subst (λ (l : List Entry). IsEntryOf l tag n e) entries of); synced = λ tag. let same : synced_upto t tag ≡ synced_upto s tag = (λ j. (lane j (lane_of j tag)).synced_upto tag) in omega arith }
 
-  pools_swept : {e : pin_steps.Event} {core' : pins.State} → pin_steps.Step e s.pool.core core' → SweptLaw (record s { pool = record s.pool { core = core' } })
+  pools_swept : {e : pin_steps.Event} {core' : pins.State} → pin_steps.Step e s.pool.core core' → SweptLaw (record s { pool = record { core = core'; logged = page_steps.logged_by e s.pool } })
   pools_swept (pin_steps.touches i f k v there live inside a around) = let t : State = record s { pool = record s.pool { core = pin_steps.state_after k s.pool.core i f v } } in aside_swept i v (pin_kinds.view_after k s.pool.core.partition_of f (s.pool.core.frame f) (link v f) v) t there refl refl refl (plain t refl refl refl refl) m.below
   pools_swept (pin_steps.turns i p k v there live below a) = let t : State = record s { pool = record s.pool { core = pin_steps.state_turned k s.pool.core i p v } } in aside_swept i v (view_turned k p (hold v p) v) t there refl refl refl (plain t refl refl refl refl) m.below
+  pools_swept (pin_steps.sized i fork k v there live a) = let t : State = record s { pool = record { core = state_sized k s.pool.core i fork v; logged = page_steps.logged_sized k fork s.pool } } in aside_swept i v (view_sized k fork s.pool.core v) t there refl refl refl (plain t refl refl refl refl) m.below
   pools_swept (pin_steps.splits v there room) = let t : State = record s { pool = record s.pool { core = pins.split_state s.pool.core v } } in let w : View = record v { next = v.next + 1 } in let b : View = new_view v.next s.pool.core.base (length v.links) (length v.partitions) (length v.lanes) in let l = plain t refl refl refl refl in record {
     below = m.below;
     each = λ j u at. ⊎_elim (λ (y : get_elem? (set s.pool.core.views 0 w) j ≡ some u). each_set l s.pool.core.views m.each 0 w (view_later l v w refl refl (m.each 0 v there)) j u y)

@@ -1,20 +1,22 @@
 -- The blocks of the relations have pages.
-use Rattle.std.proofs.Common.{◌≡◌, ℕ, Bool, true, Option, sym, ap, ◌∙◌}
+use Rattle.std.proofs.Common.{◌≡◌, ℕ, Bool, true, cond, Option, None, sym, ap, ◌∙◌}
 use Rattle.std.specs.Option.{is_some}
-use Rattle.pin_core.specs.State.{Page}
+use Rattle.pin_core.specs.State.{Page, is_below}
 use Rattle.history_core.specs.Log.{cell, cut}
 use Rattle.history_core.specs.State.{State, stored_upto}
 use Rattle.history_core.specs.Laws.{Laws}
 use Rattle.history_core.specs.Histories.{BlocksAreThere}
 use Rattle.history_core.proofs.Laws.{begun}
+use Rattle.history_core.proofs.Stepping.{below_opened}
 use Rattle.history_core.proofs.Logs.{after_some}
 
 pub blocks_are_there : (s : State) → Laws s → BlocksAreThere s
-blocks_are_there s h tag block known = record { first = first; last = h.invariant.there tag block known; upto = upto; held = λ done. ap (λ (o : Option Page). is_some o) ((h.invariant.flushed_cells tag).is_cell known done) ∙ upto (stored_upto s tag) }
+blocks_are_there s h tag block known = record { first = first; last = h.invariant.there tag block known; upto = upto; held = λ done. ap (λ (o : Option Page). is_some o) ((h.invariant.flushed_cells tag).is_cell block known done) ∙ upto (stored_upto s tag) }
   where
     first : is_some (s.origin tag) ≡ true
     first = let r = h.reached in let same = begun s r in
-        ap (λ (g : ℕ → Option Page). is_some (g tag)) same.origin ∙ r.stores.there tag (sym (ap (λ (g : ℕ → Bool). g tag) same.is_block) ∙ block) (sym (ap (λ (g : ℕ → Bool). g tag) same.known) ∙ known)
+        let below : is_below r.config.sizes tag ≡ true = ap (λ (g : ℕ → ℕ). is_below g tag) (sym same.opened_sizes) ∙ below_opened s h.invariant tag block in
+        ap (λ (g : ℕ → Option Page). is_some (g tag)) same.origin ∙ ap (λ (b : Bool). is_some (cond b (r.store.origin tag) None)) below ∙ r.stores.there tag below (sym (ap (λ (g : ℕ → Bool). g tag) same.known) ∙ known)
 
     upto : (place : ℕ) → is_some (cell s.origin (cut place s.log.entries) tag) ≡ true
     upto place = after_some tag place s.log.entries (s.origin tag) h.invariant.log.valid first

@@ -13,6 +13,7 @@ use Rattle.pin_core.specs.declared.view.LaneHold.{LaneHold}
 use Rattle.pin_core.specs.State.{Page, lane_hold}
 use Rattle.pin_core.specs.Kinds as pins
 use Rattle.pin_core.specs.Steps as pin_steps
+use Rattle.pin_core.proofs.Sample.{in_fork}
 use Rattle.page_core.proofs.Sample.{at_frame}
 use Rattle.page_core.specs.Kinds.{share, unshare, exclude, unexclude, mark_dirty, start_output, clear_just_dirtied, note_write, end_io}
 use Rattle.page_core.specs.Sample.{example_page}
@@ -58,7 +59,7 @@ torn_length : (q : Page) (n : ℕ) → length (torn_record q n) ≤ n
 torn_length q n = omega (arith, length-take n (record_bytes sample_store.names (next_entry q)))
 
 may_log : (p q : Page) → IsNext q → CanLog (c4 p) 0 7 q (image 7 q) (view_of (c4 p))
-may_log p q is = record { inside = lit< tt; tagged = refl; right = record { right = refl; dirtied = refl; applied = refl; sound = is.sound; used = is.used }; around = at_frame (λ (l : Link). l.unapplied ≡ false) (view_of (c4 p)) _ refl refl refl; full = is.full; ends = is.ends; room = next_room; makes = (refl, refl); past = tt; allowed = tt }
+may_log p q is = record { inside = lit< tt; tagged = refl; right = record { right = refl; dirtied = refl; applied = refl; sound = is.sound; used = is.used }; around = record { block = in_fork; none = at_frame (λ (l : Link). l.unapplied ≡ false) (view_of (c4 p)) _ refl refl refl }; full = is.full; ends = is.ends; room = next_room; makes = (refl, refl); past = tt; allowed = tt }
 
 tears : (p q : Page) (n : ℕ) → IsNext q → n < 32 → Run (tear p q n) (q32 p) (c5 p q n)
 tears p q n is few = goes (pools (page_steps.touches 0 0 exclude (view_of (q32 p)) refl refl (lit< tt) (record { pinned = λ e. cc; seen = refl; none = refl; free = refl; alone = refl; no_copy = refl }) tt) tt)

@@ -12,6 +12,7 @@ use Rattle.pin_core.specs.State.{Page, link, hold, emptied_view, joined_view}
 use Rattle.pin_core.specs.State as pins
 use Rattle.pin_core.specs.Kinds as pin_kinds
 use Rattle.pin_core.specs.Turns.{view_turned}
+use Rattle.pin_core.specs.Sizes.{view_sized}
 use Rattle.pin_core.specs.Steps as pin_steps
 use Rattle.page_core.specs.Kinds.{begin_write, make_entry}
 use Rattle.page_core.specs.Steps as page_steps
@@ -61,6 +62,7 @@ torn_joined views j v u there other here c (m, k, y, x, at, is, of) = dite (ℕ_
 torn_pins : (s : pins.State) {e : pin_steps.Event} {t : pins.State} → pin_steps.Step e s t → (c : Change) → NotesTorn s.views c → NotesTorn t.views c
 torn_pins s (pin_steps.touches i f k v there live inside a around) = torn_set s.views i v (pin_kinds.view_after k s.partition_of f (s.frame f) (link v f) v) there (all_torn v.torn)
 torn_pins s (pin_steps.turns i p k v there live below a) = torn_set s.views i v (view_turned k p (hold v p) v) there (all_torn v.torn)
+torn_pins s (pin_steps.sized i fork k v there live a) = torn_set s.views i v (view_sized k fork s v) there (all_torn v.torn)
 torn_pins s (pin_steps.splits v there room) = λ c x. let y = torn_set s.views 0 v (record v { next = v.next + 1 }) there (all_torn v.torn) c x in (y.0, y.1, y.2, y.3, at_longer (set s.views 0 (record v { next = v.next + 1 })) _ y.0 y.2 y.4, y.5, y.6)
 torn_pins s (pin_steps.joins j v u there other here live free) = torn_joined s.views j v u there other here
 

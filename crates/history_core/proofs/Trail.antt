@@ -16,6 +16,7 @@ use Rattle.pin_core.specs.State as pins
 use Rattle.pin_core.specs.Tallies.{flag_weight}
 use Rattle.pin_core.specs.Kinds as pin_kinds
 use Rattle.pin_core.specs.Turns.{view_turned}
+use Rattle.pin_core.specs.Sizes.{view_sized}
 use Rattle.pin_core.specs.Steps as pin_steps
 use Rattle.page_core.specs.State.{Block, block_of}
 use Rattle.page_core.specs.Steps as page_steps
@@ -59,6 +60,7 @@ pins_list pin_kinds.unpin f fr cs = lists_one f fr.word (pin_kinds.frame_after p
 pins_list pin_kinds.lock_header f fr cs = lists_one f fr.word (pin_kinds.frame_after pin_kinds.lock_header fr).word cs
 pins_list pin_kinds.unlock_header f fr cs = lists_one f fr.word (pin_kinds.frame_after pin_kinds.unlock_header fr).word cs
 pins_list (pin_kinds.store_tag tag) f fr cs = lists_none f fr.word cs
+pins_list (pin_kinds.store_new_tag tag) f fr cs = lists_none f fr.word cs
 pins_list pin_kinds.erase_tag f fr cs = lists_none f fr.word cs
 pins_list pin_kinds.load_tag f fr cs = lists_none f fr.word cs
 pins_list pin_kinds.pin_victim f fr cs = lists_one f fr.word (pin_kinds.frame_after pin_kinds.pin_victim fr).word cs
@@ -103,6 +105,7 @@ moves frame views m i f v w fr' there l g h = let was = λ (is : h ≡ f). ap (�
 pools_trail : (s : State) → Follows s.pool.core.frame s.pool.core.views → {e : pin_steps.Event} {core' : pins.State} → pin_steps.Step e s.pool.core core' → Follows core'.frame core'.views
 pools_trail s m (pin_steps.touches i f k v there live inside a around) = moves s.pool.core.frame s.pool.core.views m i f v (pin_kinds.view_after k s.pool.core.partition_of f (s.pool.core.frame f) (link v f) v) (pin_kinds.frame_after k (s.pool.core.frame f)) there (pins_list k f (s.pool.core.frame f) v.changes)
 pools_trail s m (pin_steps.turns i p k v there live below a) = λ g f. balances_aside (m g f) i v (view_turned k p (hold v p) v) there refl
+pools_trail s m (pin_steps.sized i fork k v there live a) = λ g f. balances_aside (m g f) i v (view_sized k fork s.pool.core v) there refl
 pools_trail s m (pin_steps.splits v there room) = let w : View = record v { next = v.next + 1 } in let b = new_view v.next s.pool.core.base (length v.links) (length v.partitions) (length v.lanes) in λ g f. balances_split (balances_aside (m g f) 0 v w there refl) b refl
 pools_trail s m (pin_steps.joins j v u there other here live free) = λ g f. balances_joined (m g f) j v u there here other refl refl
 
@@ -133,6 +136,7 @@ same_ticks views i v w there e = let a = total-set (λ (x : View). x.ticks) view
 pools_ticks : (s : State) → {e : pin_steps.Event} {core' : pins.State} → pin_steps.Step e s.pool.core core' → Ticks core'.views ≡ Ticks s.pool.core.views
 pools_ticks s (pin_steps.touches i f k v there live inside a around) = same_ticks s.pool.core.views i v (pin_kinds.view_after k s.pool.core.partition_of f (s.pool.core.frame f) (link v f) v) there refl
 pools_ticks s (pin_steps.turns i p k v there live below a) = same_ticks s.pool.core.views i v (view_turned k p (hold v p) v) there refl
+pools_ticks s (pin_steps.sized i fork k v there live a) = same_ticks s.pool.core.views i v (view_sized k fork s.pool.core v) there refl
 pools_ticks s (pin_steps.splits v there room) = let w : View = record v { next = v.next + 1 } in let b : View = new_view v.next s.pool.core.base (length v.links) (length v.partitions) (length v.lanes) in let a = total-snoc (λ (y : View). y.ticks) (set s.pool.core.views 0 w) b in let x = same_ticks s.pool.core.views 0 v w there refl in omega arith
 pools_ticks s (pin_steps.joins j v u there other here live free) = let w : View = joined_view v u in let vs : List View = set s.pool.core.views 0 w in let also = set_else s.pool.core.views 0 j w other ∙ here in
     let a = total-set (λ (y : View). y.ticks) s.pool.core.views 0 v w there in let c = total-set (λ (y : View). y.ticks) vs j u emptied_view also in omega arith
@@ -185,6 +189,7 @@ highest_is a b views h k = let x = h.above k.reached.0 k.reached.1 k.reached.2 i
 pools_highest : (s : State) → s.pool.core.base ≤ s.flushed → IsHighest s.flushed s.pool.core.views → {e : pin_steps.Event} {core' : pins.State} → pin_steps.Step e s.pool.core core' → IsHighest s.flushed core'.views
 pools_highest s from m (pin_steps.touches i f k v there live inside a around) = highest_same s.flushed s.pool.core.views m i v (pin_kinds.view_after k s.pool.core.partition_of f (s.pool.core.frame f) (link v f) v) there refl
 pools_highest s from m (pin_steps.turns i p k v there live below a) = highest_same s.flushed s.pool.core.views m i v (view_turned k p (hold v p) v) there refl
+pools_highest s from m (pin_steps.sized i fork k v there live a) = highest_same s.flushed s.pool.core.views m i v (view_sized k fork s.pool.core v) there refl
 pools_highest s from m (pin_steps.splits v there room) = let w : View = record v { next = v.next + 1 } in let b : View = new_view v.next s.pool.core.base (length v.links) (length v.partitions) (length v.lanes) in let x = highest_same s.flushed s.pool.core.views m 0 v w there refl in record {
   above = λ j u at. ⊎_elim (λ (y : get_elem? (set s.pool.core.views 0 w) j ≡ some u). x.above j u y) (λ (y : (b ≡ u) × (j ≡ length (set s.pool.core.views 0 w))). let e : s.pool.core.base ≡ u.raised_to = ap (λ (z : View). z.raised_to) y.0 in omega arith) (at_end (set s.pool.core.views 0 w) b u j at);
   reached = (x.reached.0, x.reached.1, at_longer (set s.pool.core.views 0 w) (b ∷ []) x.reached.0 x.reached.1 x.reached.2, x.reached.3);

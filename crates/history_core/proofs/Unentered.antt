@@ -17,8 +17,11 @@ use Rattle.pin_core.specs.Tallies as pin_tallies
 use Rattle.pin_core.specs.Tallies.{frame_shape}
 use Rattle.pin_core.specs.Kinds as pin_kinds
 use Rattle.pin_core.specs.Turns.{view_turned}
+use Rattle.pin_core.specs.Sizes.{view_sized}
 use Rattle.pin_core.specs.Steps as pin_steps
 use Rattle.pin_core.proofs.Stepping as pin_stepping
+use Rattle.pin_core.proofs.Stepping.{sized_links}
+use Rattle.pin_core.proofs.SizeSchedules.{none_noted, no_exclusive}
 use Rattle.pin_core.proofs.Views.{link_new}
 use Rattle.page_core.specs.State.{Block, block_of}
 use Rattle.page_core.specs.Invariant.{PageLink}
@@ -84,6 +87,7 @@ noted_joined views j v u there other here tag (m, k, x, at, is) = dite (ℕ_disc
 noted_pins : (s : pins.State) {e : pin_steps.Event} {t : pins.State} → pin_steps.Step e s t → (tag : ℕ) → NotesUnentered s.views tag → NotesUnentered t.views tag
 noted_pins s (pin_steps.touches i f k v there live inside a around) = noted_set s.views i v (pin_kinds.view_after k s.partition_of f (s.frame f) (link v f) v) there (all_noted v.unentered)
 noted_pins s (pin_steps.turns i p k v there live below a) = noted_set s.views i v (view_turned k p (hold v p) v) there (all_noted v.unentered)
+noted_pins s (pin_steps.sized i fork k v there live a) = noted_set s.views i v (view_sized k fork s v) there (all_noted v.unentered)
 noted_pins s (pin_steps.splits v there room) = λ tag x. let y = noted_set s.views 0 v (record v { next = v.next + 1 }) there (all_noted v.unentered) tag x in (y.0, y.1, y.2, at_longer (set s.views 0 (record v { next = v.next + 1 })) _ y.0 y.2 y.3, y.4)
 noted_pins s (pin_steps.joins j v u there other here live free) = noted_joined s.views j v u there other here
 
@@ -129,20 +133,21 @@ record MarkMoves (E : Type 0) (fr fr' : Frame) (l l' : Link) (tags : List ℕ) :
   marked : EntersDirtied l'
 
 -- a kind of `pin_core`
-pins_dirty : (k : pin_kinds.Kind) (fr : Frame) (l : Link) (t : pin_tallies.Tally → ℕ) → FrameLaw fr t → pin_kinds.Allowed k fr l → (pin_kinds.frame_after k fr).word.dirty ≡ true → ((pin_kinds.frame_after k fr).tag ≡ fr.tag) × (fr.word.dirty ≡ true)
-pins_dirty (pin_kinds.store_tag tag) fr l t c a e = absurd (grind (arith, c, a.untagged, e))
-pins_dirty pin_kinds.erase_tag fr l t c a e = absurd (grind (arith, a.clean, e))
-pins_dirty pin_kinds.clear fr l t c a e = absurd (cc)
-pins_dirty _ fr l t c a e = (refl, e)
+pins_dirty : (k : pin_kinds.Kind) (fr : Frame) (l : Link) (t : pin_tallies.Tally → ℕ) → FrameLaw fr t → l.noted ≡ false → pin_kinds.Allowed k fr l → (pin_kinds.frame_after k fr).word.dirty ≡ true → ((pin_kinds.frame_after k fr).tag ≡ fr.tag) × (fr.word.dirty ≡ true)
+pins_dirty (pin_kinds.store_tag tag) fr l t c n a e = absurd (grind (arith, c, a.untagged, e))
+pins_dirty (pin_kinds.store_new_tag tag) fr l t c n a e = absurd (grind (arith, c, a.untagged, e))
+pins_dirty pin_kinds.erase_tag fr l t c n a e = absurd (grind (arith, a.clean n, e))
+pins_dirty pin_kinds.clear fr l t c n a e = absurd (cc)
+pins_dirty _ fr l t c n a e = (refl, e)
 
 pins_alike : (k : pin_kinds.Kind) (fr : Frame) (l : Link) → Alike l (pin_kinds.link_after k fr l)
 pins_alike pin_kinds.load_state fr l = record { holds = λ h. record { right = h.right; dirtied = h.dirtied; unentered = h.unentered }; marked = λ h. h }
 pins_alike _ fr l = record { holds = λ h. record { right = h.right; dirtied = h.dirtied; unentered = h.unentered }; marked = λ h. h }
 
-pins_move : (E : Type 0) (k : pin_kinds.Kind) (fr : Frame) (l : Link) (t : pin_tallies.Tally → ℕ) (tags : List ℕ) → FrameLaw fr t → pin_kinds.Allowed k fr l → EntersDirtied l → MarkMoves E fr (pin_kinds.frame_after k fr) l (pin_kinds.link_after k fr l) tags
-pins_move E k fr l t tags c a m = record {
-  tag = λ e. (pins_dirty k fr l t c a e).0;
-  dirty = λ e. inl (pins_dirty k fr l t c a e).1;
+pins_move : (E : Type 0) (k : pin_kinds.Kind) (fr : Frame) (l : Link) (t : pin_tallies.Tally → ℕ) (tags : List ℕ) → FrameLaw fr t → l.noted ≡ false → pin_kinds.Allowed k fr l → EntersDirtied l → MarkMoves E fr (pin_kinds.frame_after k fr) l (pin_kinds.link_after k fr l) tags
+pins_move E k fr l t tags c n a m = record {
+  tag = λ e. (pins_dirty k fr l t c n a e).0;
+  dirty = λ e. inl (pins_dirty k fr l t c n a e).1;
   holds = λ h. inr (inr ((pins_alike k fr l).holds h));
   marked = (pins_alike k fr l).marked m;
 }
@@ -277,8 +282,11 @@ module _ (s : State) (h : HistoryInvariant s) (m : IsUnenteredLaw s) where
   pins_law : {e : pin_steps.Event} {t : pins.State} → pin_steps.Step e s.pool.core t → UnenteredLaw t.frames t.frame es t.views
   pins_law (pin_steps.touches i f k v there live inside a around) = let l = link v f in let w : View = pin_stepping.after k s.pool.core f v in let r = relinks s h i f v w (pin_kinds.link_after k (frame f) l) there live inside refl in
       law_touched n frame es es views m same_entries i v w there (noted_set views i v w there (all_noted v.unentered)) f (pin_kinds.frame_after k (frame f)) (pin_kinds.link_after k (frame f) l) inside r.here r.else
-      (pins_move (IsEntered es (frame f).tag) k (frame f) l (tallies frame_shape views f) w.unentered (h.pool.core.grid.columns f inside) a (m.marked i f v there))
+      (pins_move (IsEntered es (frame f).tag) k (frame f) l (tallies frame_shape views f) w.unentered (h.pool.core.grid.columns f inside) (none_noted s.pool.core h.pool.sizes h.quiet i f v there inside) a (m.marked i f v there))
   pins_law (pin_steps.turns i p k v there live below a) = aside_law i v (view_turned k p (hold v p) v) there refl refl
+  pins_law (pin_steps.sized i fork k v there live a) = law_aside n frame es es views m same_entries i v (view_sized k fork s.pool.core v) there (noted_set views i v (view_sized k fork s.pool.core v) there (all_noted v.unentered))
+      (λ f. sized_links s.pool.core h.pool.core i fork v there live Alike k a (λ l. alike_same l l refl) (λ l known. record { holds = λ y. record { right = y.right; dirtied = y.dirtied; unentered = y.unentered }; marked = λ y. y })
+      (λ g end e z. absurd (no_exclusive s.pool.core h.pool.sizes h.quiet i fork v there e.may.right)) f)
   pins_law (pin_steps.splits v there room) = let w : View = record v { next = v.next + 1 } in let b : View = new_view v.next s.pool.core.base (length v.links) (length v.partitions) (length v.lanes) in let x = aside_law 0 v w there refl refl in record {
     dirty = λ f below e. later (set views 0 (record v { next = v.next + 1 })) b (frame f).tag f (x.dirty f below e);
     marked = λ j f u at. ⊎_elim (λ (y : get_elem? (set views 0 w) j ≡ some u). x.marked j f u y) (λ (y : (b ≡ u) × (j ≡ length (set views 0 w))). subst (λ (z : View). EntersDirtied (link z f)) y.0 (subst EntersDirtied (sym (link_new (length v.links) (length v.partitions) (length v.lanes) v.next s.pool.core.base f)) (λ e. absurd (cc)))) (at_end (set views 0 w) b u j at);
@@ -310,7 +318,7 @@ module _ (s : State) (h : HistoryInvariant s) (m : IsUnenteredLaw s) where
       (subst (MarkMoves (IsEntered es' (frame f).tag) (frame f) (frame_after k b (frame f)) l l') (sym noted) (pages_move (IsEntered es' (frame f).tag) k b (block_of s.pool.logged (frame f).tag) (frame f) l v.unentered (h.pool.pages.cells i v f there inside) (m.marked i f v there) needs))
 
   words_law : (i : ℕ) (k : WordKind) (v : View) → get_elem? views i ≡ some v → UnenteredLaw n frame es (set views i (after_word k s v))
-  words_law i begin_checkpoint v there = let w : View = after_word begin_checkpoint s v in let begun : BegunHere v w = record { emptied = refl; number = refl; next = refl; joined = refl; links = refl; partitions = refl } in
+  words_law i begin_checkpoint v there = let w : View = after_word begin_checkpoint s v in let begun : BegunHere v w = record { emptied = refl; number = refl; next = refl; joined = refl; links = refl; partitions = refl; sizes = refl } in
       law_aside n frame es es views m same_entries i v w there (noted_set views i v w there (all_noted v.unentered)) (λ f. subst (Alike (link v f)) (sym (link_begun v w begun f)) (record { holds = λ x. record { right = x.right; dirtied = x.dirtied; unentered = x.unentered }; marked = λ x. x }))
   words_law i k v there = aside_law i v (after_word k s v) there refl refl
 

@@ -25,5 +25,5 @@ end_stays _ s e = absurd (cc)
 
 -- no kind changes more of what the view has at a frame than a checkpoint's two notes
 pub link_left : (k : WordKind) (found end : ℕ) (v : View) (f : ℕ) → unmarked (link (view_after_word k found end v) f) ≡ unmarked (link v f)
-link_left begin_checkpoint found end v f = ap unmarked (link_begun v (view_after_word begin_checkpoint found end v) (record { emptied = refl; number = refl; next = refl; joined = refl; links = refl; partitions = refl }) f)
+link_left begin_checkpoint found end v f = ap unmarked (link_begun v (view_after_word begin_checkpoint found end v) (record { emptied = refl; number = refl; next = refl; joined = refl; links = refl; partitions = refl; sizes = refl }) f)
 link_left _ found end v f = refl

@@ -2,7 +2,7 @@
 use Rattle.std.specs.Prelude.{◌≡◌, ℕ, ◌<◌, ◌⊎◌, true, false, List, [], ◌∷◌, ◌++◌, length, Option}
 use mathlib.Core.Option.{some}
 use lib.ListN.{get_elem?}
-use Rattle.pin_core.specs.State.{Page}
+use Rattle.pin_core.specs.State.{Page, is_block}
 use Rattle.history_core.specs.Log.{Entry, ranges, Span, IsChange, IsEntryOf, end_of, cell, change_size, log_bytes}
 use Rattle.history_core.specs.State.{State, stored, failed, unsynced}
 use Rattle.history_core.specs.Redo.{CanFollow, HasWhole, StartsBased}
@@ -40,6 +40,6 @@ CanRedo s es tag = HasWhole es tag ⊎ ((s.known tag ≡ true) × StartsSynced s
 abbrev pub RedoGives : State → (ℕ → Option Page) → List Entry → ℕ → Type 0
 RedoGives s pages es tag = (cell pages es tag ≡ cell s.origin es tag) ⊎ (IsExcepted s es tag × IsUnentered s tag)
 
--- Redo makes each surviving entry's change, in order, on the pages that a crash left, whatever these pages' own positions are
+-- Redo makes each surviving entry's change, in order, on the pages that a crash left, whatever these pages' own positions are. It says nothing of blocks that aren't there
 abbrev pub CrashesRedo : State → Type 0
-CrashesRedo s = (pages : ℕ → Option Page) (es : List Entry) → Crashed s pages es → (tag : ℕ) → CanRedo s es tag → RedoGives s pages es tag
+CrashesRedo s = (pages : ℕ → Option Page) (es : List Entry) → Crashed s pages es → (tag : ℕ) → is_block s.pool.core tag ≡ true → CanRedo s es tag → RedoGives s pages es tag

@@ -10,7 +10,7 @@ use Rattle.pin_core.specs.declared.view.Call.TheVariants.{Read, Write}
 use Rattle.pin_core.specs.declared.view.LastWrite.TheVariants.{Done}
 use Rattle.pin_core.specs.declared.view.TakenLane.{TakenLane}
 use Rattle.pin_core.specs.declared.view.View.{View}
-use Rattle.pin_core.specs.State.{Page, Config, CanOpen, no_tag, link, lane_hold}
+use Rattle.pin_core.specs.State.{Page, Config, CanOpen, no_tag, link, lane_hold, is_block}
 use Rattle.pin_core.specs.Invariant.{HasTag}
 use Rattle.pin_core.specs.Steps as pin_steps
 use Rattle.page_core.specs.Steps as page_steps
@@ -47,7 +47,7 @@ ImagesAlone s = s.ranges ≡ false → AreImages s.log.entries
 -- each entry of a block is of one of the relations' blocks
 abbrev pub EntriesAreOfBlocks : State → Type 0
 EntriesAreOfBlocks s = (tag k : ℕ) (e : Entry) → IsEntryOf s.log.entries tag k e
-    → s.pool.core.is_block tag ≡ true
+    → is_block s.pool.core tag ≡ true
 
 -- The block has a page: at the start, after all entries and after those up to any place, and in its lane where its last write didn't fail
 pub record HasPages (s : State) (tag : ℕ) : Type 0 where
@@ -58,7 +58,7 @@ pub record HasPages (s : State) (tag : ℕ) : Type 0 where
 
 -- so has each block of the relations, where its lane's contents are known
 abbrev pub BlocksAreThere : State → Type 0
-BlocksAreThere s = (tag : ℕ) → s.pool.core.is_block tag ≡ true → s.known tag ≡ true → HasPages s tag
+BlocksAreThere s = (tag : ℕ) → is_block s.pool.core tag ≡ true → s.known tag ≡ true → HasPages s tag
 
 -- each call is the backend's own, or that of one whose calls it took in
 abbrev pub CallsAreOwn : State → Type 0
@@ -212,9 +212,9 @@ pub record IsStored (s : State) (tag : ℕ) : Type 0 where
   pub done : failed s tag ≡ false
   pub stored_is : s.known tag ≡ true → stored s tag ≡ cell s.origin s.log.entries tag
 
--- so it is where no dirty frame has the block
+-- so it is where the block is there and no dirty frame has it
 abbrev pub CleanBlocksAreStored : State → Type 0
-CleanBlocksAreStored s = (tag : ℕ) → tag ≢ no_tag → HasNoDirtyFrame s tag → IsStored s tag
+CleanBlocksAreStored s = (tag : ℕ) → tag ≢ no_tag → is_block s.pool.core tag ≡ true → HasNoDirtyFrame s tag → IsStored s tag
 
 -- the page of a valid frame is sound
 abbrev pub FramesAreSound : State → Type 0

@@ -3,7 +3,7 @@ use Rattle.std.specs.Prelude.{◌≡◌, ◌≢◌, ℕ, ◌<◌, ◌≤◌, Boo
 use Rattle.pin_core.specs.declared.view.LastWrite.TheVariants.{Done}
 use Rattle.pin_core.specs.declared.view.Link.{Link}
 use Rattle.pin_core.specs.declared.view.View.{View}
-use Rattle.pin_core.specs.State.{Frame, Page, no_tag, link}
+use Rattle.pin_core.specs.State.{Frame, Page, no_tag, link, is_block}
 use Rattle.page_core.specs.State as page
 use Rattle.page_core.specs.State.{block_of}
 use Rattle.page_core.specs.Tallies.{Tally, weigh, page_shape}
@@ -13,7 +13,8 @@ use Rattle.grid.specs.Shape.{Shape, Part}
 
 -- What is known of a block
 pub record Home : Type 0 where
-  -- its page after the log
+  -- whether it is below its fork's size by the log, and its page after the log
+  pub inside : Bool
   pub block : page.Block
   -- whether its lane's contents are known, the page that the lane holds, or none, up to which position of the log the block's entries are in that page, and whether the block's last write failed
   pub known : Bool
@@ -22,12 +23,12 @@ pub record Home : Type 0 where
   pub failed : Bool
 
 abbrev pub home_of : State → ℕ → Home
-home_of s tag = record { block = block_of s.pool.logged tag; known = s.known tag; stored = stored s tag; stored_upto = stored_upto s tag; failed = failed s tag }
+home_of s tag = record { inside = is_block s.pool.core tag; block = block_of s.pool.logged tag; known = s.known tag; stored = stored s tag; stored_upto = stored_upto s tag; failed = failed s tag }
 
--- the block's last write didn't fail, and the lane holds its page after the log, where its contents are known
+-- if the block is there its last write didn't fail, and the lane holds its page after the log, where its contents are known
 pub record IsClean (h : Home) : Type 0 where
-  pub done : h.failed ≡ false
-  pub stored : h.known ≡ true → h.block.logged ≡ h.stored
+  pub done : h.inside ≡ true → h.failed ≡ false
+  pub stored : h.inside ≡ true → h.known ≡ true → h.block.logged ≡ h.stored
 
 -- the grid of views and frames, with what is known of the block that a frame's tag names
 abbrev pub home_shape : Shape
@@ -64,5 +65,5 @@ pub record IsFlushedCell (origin : ℕ → Option Page) (log : Log) (flushed tag
   -- the position up to which the block's entries are in its page is flushed
   pub based : log.base ≤ h.stored_upto
   pub within : h.stored_upto ≤ flushed
-  -- where the lane's contents are known, and the block's last write didn't fail, its page is the block's after the entries up to there
-  pub is_cell : h.known ≡ true → h.failed ≡ false → h.stored ≡ cell origin (cut h.stored_upto log.entries) tag
+  -- if the block is there, where the lane's contents are known, and the block's last write didn't fail, its page is the block's after the entries up to there
+  pub is_cell : h.inside ≡ true → h.known ≡ true → h.failed ≡ false → h.stored ≡ cell origin (cut h.stored_upto log.entries) tag

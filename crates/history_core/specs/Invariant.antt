@@ -5,11 +5,12 @@ use lib.ListN.{get_elem?}
 use Rattle.pin_core.specs.declared.view.Call.{Call}
 use Rattle.pin_core.specs.declared.view.JoinedCheckpoint.{JoinedCheckpoint}
 use Rattle.pin_core.specs.declared.view.View.{View}
-use Rattle.pin_core.specs.State.{Page, no_tag}
+use Rattle.pin_core.specs.State.{Page, no_tag, is_block}
 use Rattle.page_core.specs.Invariant as pages
 use Rattle.std.specs.Option.{is_some}
 use Rattle.history_core.specs.Log.{Entry, Log, LogLaw, IsEntryOf, HasImage, log_end, head_size, log_bytes, end_of, cell, cut, IsLegal, place_of, backend_of, writes_in, writes_at, HasPlace, AreInOrder}
 use Rattle.history_core.specs.State.{State, last_position}
+use Rattle.history_core.specs.Sizes.{sizes_after}
 use Rattle.history_core.specs.Lanes.{lane_shape, lane_part}
 use Rattle.history_core.specs.Device.{Written, log_shape, log_part}
 use Rattle.history_core.specs.Homes.{home_of, home_shape, home_part, IsClean, IsUnframed, IsFlushedCell}
@@ -64,8 +65,11 @@ pub record HistoryInvariant (s : State) : Type 0 where
   pub pool : pages.PageInvariant s.pool
   -- the page of a block after the log is what its entries make of the one that its lane held at the start, where the lane's contents are known
   pub logged : (tag : ℕ) → s.known tag ≡ true → s.pool.logged tag ≡ cell s.origin s.log.entries tag
-  -- there is one of each block of the relations
-  pub there : (tag : ℕ) → s.pool.core.is_block tag ≡ true → s.known tag ≡ true → is_some (cell s.origin s.log.entries tag) ≡ true
+  -- the size of a fork by the log is what the entries make of the one that it had at the start; forks don't grow or shrink yet
+  pub sizes : (fork : ℕ) → (s.pool.core.size fork).logged ≡ sizes_after s.log.entries s.opened_sizes fork
+  pub quiet : s.pool.core.resizes ≡ false
+  -- there is a page of each block of the relations
+  pub there : (tag : ℕ) → is_block s.pool.core tag ≡ true → s.known tag ≡ true → is_some (cell s.origin s.log.entries tag) ≡ true
   -- after an entry a block's page is one with content, whose position is the entry's end
   pub pages : (k tag : ℕ) (e : Entry) → IsEntryOf s.log.entries tag k e → s.known tag ≡ true → HasImage (end_of e) (cell s.origin (cut (end_of e) s.log.entries) tag)
   pub known : (tag : ℕ) → (s.lane (s.lane_of tag)).known ≡ s.known tag

@@ -10,7 +10,9 @@ pub record IsSameOpening (s t : State) : Type 0 where
   pub backends : t.pool.core.backends ≡ s.pool.core.backends
   pub partitions : t.pool.core.partitions ≡ s.pool.core.partitions
   pub partition_of : t.pool.core.partition_of ≡ s.pool.core.partition_of
-  pub is_block : t.pool.core.is_block ≡ s.pool.core.is_block
+  pub is_fork : t.pool.core.is_fork ≡ s.pool.core.is_fork
+  pub resizes : t.pool.core.resizes ≡ s.pool.core.resizes
+  pub opened_sizes : t.opened_sizes ≡ s.opened_sizes
   pub lanes : t.lanes ≡ s.lanes
   pub lane_of : t.lane_of ≡ s.lane_of
   pub known : t.known ≡ s.known

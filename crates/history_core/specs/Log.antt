@@ -9,7 +9,8 @@ use Rattle.pin_core.specs.declared.view.Call.{Call}
 use Rattle.pin_core.specs.declared.view.Call.TheVariants.{Read, Write}
 use Rattle.pin_core.specs.declared.view.ImageTest.{ImageTest}
 use Rattle.pin_core.specs.declared.view.WriteRecord.{WriteRecord}
-use Rattle.pin_core.specs.State.{Page}
+use Rattle.pin_core.specs.State.{Page, tag_fork, tag_block, first_block}
+use Rattle.page_core.specs.State.{zero_page}
 use Rattle.grid.specs.Shape.{total}
 
 -- Bytes of a page that are replaced: where they stand in the page, and what they are
@@ -140,16 +141,6 @@ span_bytes (s ∷ ss) = s.bytes ++ span_bytes ss
 abbrev pub ranges_bytes : List Span → List ℕ
 ranges_bytes spans = little_bytes 4 (length spans) ++ (span_places spans ++ (span_bytes spans ++ replicate (rounded (36 + spans_size spans) - (36 + spans_size spans)) 0))
 
--- a tag's fork, and its block there; the tag of a fork's first block
-unfoldable pub tag_fork : ℕ → ℕ
-tag_fork tag = tag / 4294967296
-
-unfoldable pub tag_block : ℕ → ℕ
-tag_block tag = tag % 4294967296
-
-abbrev pub first_block : ℕ → ℕ
-first_block fork = fork * 4294967296
-
 -- the bytes of an entry: its kind, its block, its position, and what is changed; of a resize the fork, as in the name of its blocks, and its new size in place of a block; `names` is how the log names a block, in 20 bytes
 abbrev pub change_bytes : (ℕ → List ℕ) → ℕ → Change → List ℕ
 change_bytes names start (image tag page) = little_bytes 4 1 ++ (names tag ++ (little_bytes 8 start ++ page))
@@ -183,10 +174,6 @@ cut p (e ∷ es) = if nat_le (end_of e) p then e ∷ cut p es else cut p es
 unfoldable pub with_spans : List Span → Page → Page
 with_spans [] p = p
 with_spans (s ∷ ss) p = with_spans ss (take s.place p ++ (s.bytes ++ drop (s.place + length s.bytes) p))
-
--- a page whose bytes are all 0
-abbrev pub zero_page : Page
-zero_page = replicate 8192 0
 
 -- the page of block n of a fork that gets another size: none where it is cut away, and a page of zeros where it is the one that is added
 abbrev pub resized : ℕ → ℕ → ℕ → Option Page → Option Page

@@ -12,7 +12,7 @@ use Rattle.history_core.specs.Words.{load_end, load_flushed, raise_flushed}
 
 -- one frame, one partition, one lane, and room for two backends
 abbrev pub sample_config : Config
-sample_config = record { frames = 1; partitions = 1; partition_of = λ _. 0; is_block = λ _. true; lanes = 1; backends = 2; base = 0 }
+sample_config = record { frames = 1; partitions = 1; partition_of = λ _. 0; is_fork = λ _. true; sizes = λ _. 8; resizes = false; lanes = 1; backends = 2; base = 0 }
 
 -- the lane holds a page of three bytes for each block; nothing of the log's head is durable
 abbrev pub short_page : Page

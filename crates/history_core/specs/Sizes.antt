@@ -1,7 +1,8 @@
 -- How many blocks each fork has after entries, and which blocks are there by that.
 use Rattle.std.specs.Prelude.{◌≡◌, ◌⊎◌, ℕ, ◌+◌, ◌<◌, List, [], ◌∷◌, Option, is_some, nat_eq, nat_lt, if◌then◌else◌}
 use Rattle.pin_core.specs.State.{Page}
-use Rattle.history_core.specs.Log.{Change, image, ranges, resize, Entry, Log, LogLaw, cell, cut, tag_fork, tag_block}
+use Rattle.history_core.specs.Log.{Change, image, ranges, resize, Entry, Log, LogLaw, cell, cut}
+use Rattle.pin_core.specs.State.{tag_fork, tag_block}
 
 -- the size of each fork after a change
 abbrev pub resized_fork : Change → (ℕ → ℕ) → ℕ → ℕ

@@ -1,7 +1,7 @@
 -- The buffer pool with the lanes that hold its blocks, and the log.
 use Rattle.std.specs.Prelude.{◌≡◌, ℕ, ◌+◌, ◌<◌, ◌≤◌, Bool, true, false, List, [], length, nat_eq, Option, None, if◌then◌else◌}
 use Rattle.std.specs.Option.{is_some}
-use Rattle.pin_core.specs.State.{Page, Config}
+use Rattle.pin_core.specs.State.{Page, Config, is_below}
 use Rattle.page_core.specs.State as page
 use Rattle.history_core.specs.Log.{Log, head_bytes}
 
@@ -67,7 +67,8 @@ pub record State : Type 0 where
   pub lane : ℕ → Lane
   -- whether the contents of a block's lane are known, by the block's tag
   pub known : ℕ → Bool
-  -- the pages that the lanes held at the start, where their contents are known
+  -- how many blocks each fork had at the start, and the pages that the lanes held of them then, where their contents are known
+  pub opened_sizes : ℕ → ℕ
   pub origin : ℕ → Option Page
   -- the blocks that had been written since their lanes' last sync at the start
   pub unsynced_at_start : ℕ → Bool
@@ -126,13 +127,14 @@ pub record Store : Type 0 where
   pub head_synced : ℕ
   pub log_faults : ℕ
 
--- each tag has a lane, the log begins at a position, and it names a block in 20 bytes; each lane whose contents are known holds its blocks of the relations
+-- each tag has a lane, the log begins at a position, and it names a block in 20 bytes; each lane whose contents are known holds its blocks of the relations, and maybe others; forks don't grow or shrink yet
 pub record CanStore (c : Config) (store : Store) : Type 0 where
+  pub quiet : c.resizes ≡ false
   pub placed : (tag : ℕ) → store.lane_of tag < c.lanes
   pub based : c.base ≤ last_position
   pub named : (tag : ℕ) → length (store.names tag) ≡ 20
   pub synced : store.head_synced ≤ length (head_bytes c.base)
-  pub there : (tag : ℕ) → c.is_block tag ≡ true → store.known (store.lane_of tag) ≡ true → is_some (store.origin tag) ≡ true
+  pub there : (tag : ℕ) → is_below c.sizes tag ≡ true → store.known (store.lane_of tag) ≡ true → is_some (store.origin tag) ≡ true
 
 -- the lane n at the start, over a log that begins at `base`: no block's last write has failed
 abbrev pub fresh_lane : ℕ → Store → ℕ → Lane
@@ -170,7 +172,8 @@ opening c store p = record {
   lane_of = store.lane_of;
   lane = fresh_lane c.base store;
   known = is_known store;
-  origin = store.origin;
+  opened_sizes = c.sizes;
+  origin = page.below_sizes c.sizes store.origin;
   unsynced_at_start = store.unsynced;
   log = record { base = c.base; entries = [] };
   names = store.names;

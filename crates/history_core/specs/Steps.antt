@@ -118,12 +118,13 @@ MayWriteLane (write_block g tag p) s n f h l = (g ≡ f) × CanWrite s n f tag p
 MayWriteLane (fail_write g tag p m) s n f h l = (g ≡ f) × CanWrite s n f tag (s.pool.core.frame f).page h l
 MayWriteLane _ s n f h l = ⊥
 
--- the page that was read is of the frame's block; the backend has the input right there, and isn't just putting an earlier read into the frame
+-- the page that was read is of the frame's block, which isn't one by which the fork is to grow; the backend has the input right there, and isn't just putting an earlier read into the frame
 pub record CanNoteLaneRead (s : State) (n f : ℕ) (p : Page) (h : LaneHold) (l : Link) : Type 0 where
   pub was_read : h.change ≡ lane_change.Read (s.pool.core.frame f).tag p
   pub lane : s.lane_of (s.pool.core.frame f).tag ≡ n
   pub right : l.io ≡ Input
   pub fresh : l.overwritten ≡ None
+  pub unnoted : l.noted ≡ false
 
 -- the page that was written is the frame's, and the backend has the output right still
 pub record CanNoteLaneWrite (s : State) (n f : ℕ) (p : Page) (h : LaneHold) (l : Link) : Type 0 where
@@ -188,7 +189,7 @@ pub record CanLog (s : State) (f tag : ℕ) (p : Page) (c : Change) (v : View) :
   pub inside : f < s.pool.core.frames
   pub tagged : (s.pool.core.frame f).tag ≡ tag
   pub right : pages.Allowed (make_entry p) (block_of s.pool.logged (s.pool.core.frame f).tag) (s.pool.core.frame f) (link v f)
-  pub around : page_steps.AllowedAround (make_entry p) v f
+  pub around : page_steps.AllowedAround (make_entry p) s.pool v f
   pub full : length p ≡ 8192
   pub ends : lsn_of p ≡ s.end + change_size c
   pub room : s.end + change_size c ≤ last_position
@@ -209,7 +210,7 @@ AppendsRecord _ s v = Unit {0}
 -- The page is a whole page that the content lock lets the backend enter, and has the position of the entry's end, which is at most the last one; under the log's latch the entry's bytes are appended
 pub record CanEnter (s : State) (f : ℕ) (p : Page) (c : Change) (v : View) : Type 0 where
   pub right : pages.Allowed (make_entry p) (block_of s.pool.logged (s.pool.core.frame f).tag) (s.pool.core.frame f) (link v f)
-  pub around : page_steps.AllowedAround (make_entry p) v f
+  pub around : page_steps.AllowedAround (make_entry p) s.pool v f
   pub full : length p ≡ 8192
   pub ends : lsn_of p ≡ s.end + change_size c
   pub room : s.end + change_size c ≤ last_position

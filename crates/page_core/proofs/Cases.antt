@@ -4,7 +4,7 @@ use Rattle.state_word.specs.declared.word.StateWord.{StateWord}
 use Rattle.state_word.specs.declared.word.IoEnd.TheVariants.{ReadOk, WriteOk, Bad}
 use Rattle.pin_core.specs.declared.view.Content.TheVariants.{Exclusive}
 use Rattle.pin_core.specs.declared.view.Link.{Link}
-use Rattle.pin_core.specs.State.{Frame}
+use Rattle.pin_core.specs.State.{Frame, Page}
 use Rattle.pin_core.specs.Kinds as pin_kinds
 use Rattle.page_core.specs.State.{Block}
 use Rattle.page_core.specs.Invariant.{page_part, pin_part}
@@ -120,6 +120,57 @@ role_kept (set_waiter number) b fr l = refl
 role_kept clear_waiter b fr l = refl
 role_kept need_checkpoint b fr l = refl
 
+-- nor what is noted or was seen of its fork's size
+pub noted_kept : (k : Kind) (b : Block) (fr : Frame) (l : Link) → (link_after k b fr l).noted ≡ l.noted
+noted_kept load_content b fr l = refl
+noted_kept mark_dirty b fr l = refl
+noted_kept share b fr l = refl
+noted_kept exclude b fr l = refl
+noted_kept unshare b fr l = refl
+noted_kept unexclude b fr l = refl
+noted_kept take_copy b fr l = refl
+noted_kept leave_copy b fr l = refl
+noted_kept page_out b fr l = refl
+noted_kept overwrite_logged b fr l = refl
+noted_kept (overwrite_read p) b fr l = refl
+noted_kept page_back b fr l = refl
+noted_kept (note_read p) b fr l = refl
+noted_kept begin_write b fr l = refl
+noted_kept (note_write done) b fr l = refl
+noted_kept (make_entry p) b fr l = refl
+noted_kept start_input b fr l = refl
+noted_kept start_output b fr l = refl
+noted_kept clear_just_dirtied b fr l = refl
+noted_kept (end_io end) b fr l = refl
+noted_kept (set_waiter number) b fr l = refl
+noted_kept clear_waiter b fr l = refl
+noted_kept need_checkpoint b fr l = refl
+
+pub inside_kept : (k : Kind) (b : Block) (fr : Frame) (l : Link) → (link_after k b fr l).inside ≡ l.inside
+inside_kept load_content b fr l = refl
+inside_kept mark_dirty b fr l = refl
+inside_kept share b fr l = refl
+inside_kept exclude b fr l = refl
+inside_kept unshare b fr l = refl
+inside_kept unexclude b fr l = refl
+inside_kept take_copy b fr l = refl
+inside_kept leave_copy b fr l = refl
+inside_kept page_out b fr l = refl
+inside_kept overwrite_logged b fr l = refl
+inside_kept (overwrite_read p) b fr l = refl
+inside_kept page_back b fr l = refl
+inside_kept (note_read p) b fr l = refl
+inside_kept begin_write b fr l = refl
+inside_kept (note_write done) b fr l = refl
+inside_kept (make_entry p) b fr l = refl
+inside_kept start_input b fr l = refl
+inside_kept start_output b fr l = refl
+inside_kept clear_just_dirtied b fr l = refl
+inside_kept (end_io end) b fr l = refl
+inside_kept (set_waiter number) b fr l = refl
+inside_kept clear_waiter b fr l = refl
+inside_kept need_checkpoint b fr l = refl
+
 -- a kind leaves where the view waits, but for the one that begins a wait
 pub wait_kept : (k : Kind) (b : Block) (fr : Frame) (l : Link) → ((number : ℕ) × (k ≡ set_waiter number)) ⊎ ((link_after k b fr l).waits ≡ l.waits)
 wait_kept (set_waiter number) b fr l = inl (number, refl)
@@ -159,6 +210,7 @@ wait_below pin_kinds.unpin fr l number e = e
 wait_below pin_kinds.lock_header fr l number e = e
 wait_below pin_kinds.unlock_header fr l number e = e
 wait_below (pin_kinds.store_tag tag) fr l number e = e
+wait_below (pin_kinds.store_new_tag tag) fr l number e = e
 wait_below pin_kinds.erase_tag fr l number e = e
 wait_below pin_kinds.load_tag fr l number e = e
 wait_below pin_kinds.pin_victim fr l number e = e
@@ -171,6 +223,10 @@ pub block_kept : (k : Kind) (b : Block) (fr : Frame) (l : Link) → Allowed k b 
 block_kept (make_entry p) b fr l a = inr a.right
 block_kept _ b fr l a = inl refl
 
+pub entry_or : (k : Kind) (b : Block) → (block_after k b ≡ b) ⊎ ((p : Page) × (k ≡ make_entry p))
+entry_or (make_entry p) b = inr (p, refl)
+entry_or _ b = inl refl
+
 -- A kind of `pin_core` leaves the block that the frame names, but for a store of the tag word
 pub below_kept : (k : pin_kinds.Kind) (b b' : Block) (fr : Frame) (l : Link) → pin_kinds.Allowed k fr l → ((pin_kinds.frame_after k fr).tag ≡ fr.tag → b' ≡ b) → Keeps_by_pins k b b' fr l
 below_kept pin_kinds.load_state b b' fr l a e = subst (λ (x : Block). Keeps_by_pins pin_kinds.load_state b x fr l) (sym (e refl)) (below.load_state_keeps b fr l a)
@@ -180,6 +236,7 @@ below_kept pin_kinds.unpin b b' fr l a e = subst (λ (x : Block). Keeps_by_pins 
 below_kept pin_kinds.lock_header b b' fr l a e = subst (λ (x : Block). Keeps_by_pins pin_kinds.lock_header b x fr l) (sym (e refl)) (below.lock_header_keeps b fr l a)
 below_kept pin_kinds.unlock_header b b' fr l a e = subst (λ (x : Block). Keeps_by_pins pin_kinds.unlock_header b x fr l) (sym (e refl)) (below.unlock_header_keeps b fr l a)
 below_kept (pin_kinds.store_tag tag) b b' fr l a e = below.store_tag_keeps b fr l tag b' a
+below_kept (pin_kinds.store_new_tag tag) b b' fr l a e = below.store_new_tag_keeps b fr l tag b' a
 below_kept pin_kinds.erase_tag b b' fr l a e = below.erase_tag_keeps b fr l b' a
 below_kept pin_kinds.load_tag b b' fr l a e = subst (λ (x : Block). Keeps_by_pins pin_kinds.load_tag b x fr l) (sym (e refl)) (below.load_tag_keeps b fr l a)
 below_kept pin_kinds.pin_victim b b' fr l a e = subst (λ (x : Block). Keeps_by_pins pin_kinds.pin_victim b x fr l) (sym (e refl)) (below.pin_victim_keeps b fr l a)

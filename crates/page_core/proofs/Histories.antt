@@ -17,7 +17,7 @@ use Rattle.pin_core.specs.Tallies as pins
 use Rattle.page_core.specs.State.{Block, State, block_of}
 use Rattle.page_core.specs.Tallies.{Tally, pin, sharers, applied_locks, unapplied_locks, copies, works, outs, weigh, share_weight, exclusive_weight, work_weight, page_shape}
 use Rattle.page_core.specs.Invariant.{PageLink, PageInvariant}
-use Rattle.page_core.specs.Histories.{IsReached, HasNoUnpin, PinnedTagsStay, is_shared, is_exclusive, is_working, shares, excludes, works_on, ContentLocks, SharersAreFew, OneIo, copies_at, CopyLatches, DirtiedFramesAreDirty, RightsNeedPins, OnePageOut, PagesAreHome, ImagesAreLogged, FramesHoldPages, ValidPagesAreSound, CopiesArePages, IsAwaitedBy, WaitersAreNamed, BackendsWaitOnce, CleanupIsAlone}
+use Rattle.page_core.specs.Histories.{IsReached, HasNoUnpin, PinnedTagsStay, is_shared, is_exclusive, is_working, shares, excludes, works_on, ContentLocks, SharersAreFew, OneIo, copies_at, CopyLatches, DirtiedFramesAreDirty, RightsNeedPins, OnePageOut, PagesAreHome, ImagesAreLogged, FramesHoldPages, ValidPagesAreSound, CopiesArePages, IsAwaitedBy, WaitersAreNamed, BackendsWaitOnce, CleanupIsAlone, NewBlocksAreZero}
 use Rattle.grid.specs.Shape.{tallies, total}
 use Rattle.grid.proofs.Sums.{total-count, total-few, total-add, total-same, total-none, term_le, terms_le}
 use Rattle.grid.proofs.Grids.{Relinks}
@@ -33,7 +33,7 @@ use Rattle.page_core.proofs.Cases.{tag_kept, role_kept}
 use Rattle.page_core.proofs.Others.{takes_alone, others_absent, others_unlocked}
 use Rattle.page_core.proofs.Waits.{waiter}
 use Rattle.page_core.proofs.Opening.{opens}
-use Rattle.page_core.proofs.Stepping.{relinked, step_keeps, run_keeps}
+use Rattle.page_core.proofs.Stepping.{relinked, noted_outside, step_keeps, run_keeps}
 
 pub reached : (s : State) → IsReached s → PageInvariant s
 reached s r = run_keeps r.run (opens r.config r.origin r.page r.opens)
@@ -106,6 +106,14 @@ copying_takes b fr l h home e = let right = h.copying e in record { page_home = 
 
 input_takes : (b : Block) (fr : Frame) (l : Link) → PageLink b fr l → l.out ≡ None → l.io ≡ Input → CanTakePage fr l
 input_takes b fr l h home e = let invalid = (h.input e).1 in record { page_home = home; shared = λ x. (let valid = (h.content (λ z. absurd (cc))).1 in absurd (cc)); unlocked = λ x. e }
+
+pub new_blocks : (s : State) → PageInvariant s → NewBlocksAreZero s
+new_blocks s h = record {
+  outside = noted_outside s h;
+  page = λ i f v there below noted. (h.noted i f v there below noted).page.valid;
+  read = λ i f v p there below noted. (h.noted i f v there below noted).page.read p;
+  alone = λ i j f v u there here below noted e. dite (ℕ_discrete j i) (λ same. same) (λ o. absurd ((h.noted i f v there below noted).alone j u o here e));
+}
 
 module _ (s : State) (h : PageInvariant s) where
   pub locks : (f : ℕ) → f < s.core.frames → ContentLocks s f

@@ -60,6 +60,13 @@ module _ (b : Block) (fr : Frame) (l : Link) where
     others = λ t n m q c le d. absent_link b b' fr (kinds.frame_after (kinds.store_tag tag) fr) m (others_absent fr l m t q.0 (le (pin pins.pins)) a.alone.single (λ e. let x = a.alone.victim in absurd (cc))) d.1;
   }
 
+  pub store_new_tag_keeps : (tag : ℕ) → (b' : Block) → Allowed (kinds.store_new_tag tag) fr l → Keeps_by_pins (kinds.store_new_tag tag) b b' fr l
+  store_new_tag_keeps tag b' a = record {
+    column = λ t t' q c sums le _. grind (arith, q, c, a, sums sharers, sums applied_locks, sums unapplied_locks, sums copies, sums works, sums outs, sums (waits_as fr.word.waiter));
+    cell = λ t q le c. grind (arith, q, c, a);
+    others = λ t n m q c le d. absent_link b b' fr (kinds.frame_after (kinds.store_new_tag tag) fr) m (others_absent fr l m t q.0 (le (pin pins.pins)) a.alone.single (λ e. let x = a.alone.victim in absurd (cc))) d.1;
+  }
+
   pub erase_tag_keeps : (b' : Block) → Allowed kinds.erase_tag fr l → Keeps_by_pins kinds.erase_tag b b' fr l
   erase_tag_keeps b' a = record {
     column = λ t t' q c sums le _. grind (arith, q, c, a, sums sharers, sums applied_locks, sums unapplied_locks, sums copies, sums works, sums outs, sums (waits_as fr.word.waiter));

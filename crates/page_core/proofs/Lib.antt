@@ -4,6 +4,7 @@ pub mod KeepingPins
 pub mod KeepingBelow
 pub mod Cases
 pub mod Waits
+pub mod Noting
 pub mod Stepping
 pub mod Opening
 pub mod Histories

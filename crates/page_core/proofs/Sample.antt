@@ -1,5 +1,5 @@
 -- The sample's events are steps.
-use Rattle.std.proofs.Common.{◌≡◌, ◌≢◌, ℕ, zero, suc, true, false, [], ◌∷◌, ◌++◌, List, slice_index_or, Some, None, Bool, Option, cond, nat_eq, lit<, refl, sym, subst}
+use Rattle.std.proofs.Common.{◌≡◌, ◌≢◌, ℕ, zero, suc, true, false, [], ◌∷◌, ◌++◌, List, slice_index_or, Some, None, Bool, Option, cond, nat_eq, lit<, refl, ap, ◌∙◌, sym, subst}
 use Rattle.state_word.specs.declared.word.IoEnd.TheVariants.{ReadOk}
 use Rattle.pin_core.specs.declared.view.Role.TheVariants.{Victim}
 use Rattle.pin_core.specs.declared.view.Io.TheVariants.{Quiet}
@@ -11,7 +11,7 @@ use Rattle.pin_core.specs.State.{Page, link, idle, emptied_view, split_state}
 use Rattle.pin_core.specs.Kinds as pins
 use Rattle.pin_core.specs.Turns.{TurnKind, take_turn, leave_turn, map_out, change_map, map_back, found, map_after}
 use Rattle.pin_core.specs.Steps as pin_steps
-use Rattle.pin_core.proofs.Sample.{at_partition, no_entries, one_entry, named, packed}
+use Rattle.pin_core.proofs.Sample.{at_partition, no_entries, one_entry, named, packed, in_fork, never}
 use Rattle.page_layout.specs.Fields.{header_of, lsn_of}
 use Rattle.page_layout.specs.Soundness.{is_new_page, is_sound_page}
 use Rattle.page_core.specs.State.{State}
@@ -181,15 +181,15 @@ read_in = goes (cores (pin_steps.turns 0 0 take_turn (view_of sample_start) refl
     (goes (cores (pin_steps.touches 0 0 pins.lock_header (view_of s1) refl refl (lit< tt) (record { unlocked = refl }) (at_frame (λ (l : Link). l.header ≡ None) (view_of s1) _ refl refl refl)))
     (goes (cores (pin_steps.touches 0 0 pins.pin_victim (view_of s2) refl refl (lit< tt) (record { held = refl; absent = refl; room = λ e. refl }) (at_frame (λ (l : Link). l.role ≢ Victim) (view_of s2) _ refl (λ e. cc) (λ e. cc))))
     (goes (cores (pin_steps.touches 0 0 pins.lock_header (view_of s3) refl refl (lit< tt) (record { unlocked = refl }) (at_frame (λ (l : Link). l.header ≡ None) (view_of s3) _ refl refl refl)))
-    (goes (cores (pin_steps.touches 0 0 (pins.store_tag 7) (view_of s4) refl refl (lit< tt) (record { alone = record { held = refl; settled = refl; single = refl; victim = refl; no_content = refl; no_io = refl }; named = named; packed = packed; untagged = refl }) (record { naming = record { held = refl; unchanged = refl; no_change = (at_partition (λ (h : PartitionHold). h.change ≡ Stable) (view_of s4) _ refl refl refl) }; block = refl; lacking = refl })))
+    (goes (cores (pin_steps.touches 0 0 (pins.store_tag 7) (view_of s4) refl refl (lit< tt) (record { alone = record { held = refl; settled = refl; single = refl; victim = refl; no_content = refl; no_io = refl }; named = named; packed = packed; untagged = refl }) (record { naming = record { held = refl; unchanged = refl; no_change = (at_partition (λ (h : PartitionHold). h.change ≡ Stable) (view_of s4) _ refl refl refl) }; block = in_fork; room = λ e. never e; lacking = refl })))
     (goes (cores (pin_steps.touches 0 0 pins.assign (view_of s5) refl refl (lit< tt) (record { held = refl; stored = refl; named = named }) tt))
     (goes (cores (pin_steps.turns 0 0 (map_out []) (view_of s6) refl refl (lit< tt) (record { held = refl; home = refl; entries_are = no_entries })))
     (goes (cores (pin_steps.turns 0 0 change_map (view_of s7) refl refl (lit< tt) (record { out = λ e. cc; unchanged = refl; named = λ e. cc })))
     (goes (cores (pin_steps.turns 0 0 (map_back (sample_entry ∷ [])) (view_of s8) refl refl (lit< tt) (record { out = λ e. cc; entries_are = one_entry })))
     (goes (cores (pin_steps.turns 0 0 leave_turn (view_of s9) refl refl (lit< tt) (record { held = refl; home = refl; no_change = refl })))
     (goes (cores (pin_steps.touches 0 0 pins.lock_header (view_of s10) refl refl (lit< tt) (record { unlocked = refl }) (at_frame (λ (l : Link). l.header ≡ None) (view_of s10) _ refl refl refl)))
-    (goes (touches 0 0 start_input (view_of s11) refl refl (lit< tt) (record { held = refl; settled = refl; pinned = λ e. cc; clear = refl; tagged = refl; invalid = refl }) (at_frame (λ (l : Link). l.io ≡ Quiet) (view_of s11) _ refl refl refl))
-    (goes (touches 0 0 (note_read example_page) (view_of s12) refl refl (lit< tt) (record { right = refl; fresh = refl; given = same_page example_page }) tt)
+    (goes (touches 0 0 start_input (view_of s11) refl refl (lit< tt) (record { held = refl; settled = refl; pinned = λ e. cc; clear = refl; tagged = refl; invalid = refl }) (record { block = λ _. in_fork; none = at_frame (λ (l : Link). l.io ≡ Quiet) (view_of s11) _ refl refl refl }))
+    (goes (touches 0 0 (note_read example_page) (view_of s12) refl refl (lit< tt) (record { right = refl; fresh = refl; given = λ q e. same_page example_page q (sym (ap (λ (b : Bool). cond b (Some example_page) None) in_fork) ∙ e); zero = λ e. never e }) tt)
     (goes (touches 0 0 page_out (view_of s13) refl refl (lit< tt) (record { page_home = refl; shared = λ e. absurd (cc); unlocked = λ e. refl }) tt)
     (goes (touches 0 0 (overwrite_read example_page) (view_of s14) refl refl (lit< tt) (record { out = λ e. cc; once = refl; right = refl; read = refl }) tt)
     (goes (touches 0 0 page_back (view_of s15) refl refl (lit< tt) (record { out = λ e. cc }) tt)
@@ -211,18 +211,18 @@ sample = (
         rests))))),
     record { tag = refl; word = refl; held = refl; shared = refl; noted = (view_of s24, refl, refl, refl) },
     (goes (touches 0 0 unshare (view_of s24) refl refl (lit< tt) (record { right = refl; no_copy = refl; no_output = λ e. cc; page_home = refl }) tt)
-        (goes (cores (pin_steps.touches 0 0 pins.unpin (view_of s25) refl refl (lit< tt) (record { unlocked = refl; pinned = λ e. cc; no_content = refl; no_io = refl; no_wait = refl }) tt))
+        (goes (cores (pin_steps.touches 0 0 pins.unpin (view_of s25) refl refl (lit< tt) (record { unlocked = refl; pinned = λ e. cc; no_content = refl; no_io = refl; no_wait = refl; unnoted = refl }) tt))
         (goes (cores (pin_steps.touches 0 0 pins.lock_header (view_of s26) refl refl (lit< tt) (record { unlocked = refl }) (at_frame (λ (l : Link). l.header ≡ None) (view_of s26) _ refl refl refl)))
         (goes (cores (pin_steps.touches 0 0 pins.pin_victim (view_of s27) refl refl (lit< tt) (record { held = refl; absent = refl; room = λ e. refl }) (at_frame (λ (l : Link). l.role ≢ Victim) (view_of s27) _ refl (λ e. cc) (λ e. cc))))
         (goes (cores (pin_steps.turns 0 0 take_turn (view_of s28) refl refl (lit< tt) (record { free = refl })))
         (goes (cores (pin_steps.touches 0 0 pins.lock_header (view_of s29) refl refl (lit< tt) (record { unlocked = refl }) (at_frame (λ (l : Link). l.header ≡ None) (view_of s29) _ refl refl refl)))
-        (goes (cores (pin_steps.touches 0 0 pins.erase_tag (view_of s30) refl refl (lit< tt) (record { alone = record { held = refl; settled = refl; single = refl; victim = refl; no_content = refl; no_io = refl }; named = named; clean = refl }) (record { held = refl; unchanged = refl; no_change = (at_partition (λ (h : PartitionHold). h.change ≡ Stable) (view_of s30) _ refl refl refl) })))
+        (goes (cores (pin_steps.touches 0 0 pins.erase_tag (view_of s30) refl refl (lit< tt) (record { alone = record { held = refl; settled = refl; single = refl; victim = refl; no_content = refl; no_io = refl }; named = named; clean = λ _. refl }) (record { held = refl; unchanged = refl; no_change = (at_partition (λ (h : PartitionHold). h.change ≡ Stable) (view_of s30) _ refl refl refl) })))
         (goes (cores (pin_steps.touches 0 0 pins.clear (view_of s31) refl refl (lit< tt) (record { held = refl; erased = refl; unnamed = refl }) tt))
         (goes (cores (pin_steps.turns 0 0 (map_out (sample_entry ∷ [])) (view_of s32) refl refl (lit< tt) (record { held = refl; home = refl; entries_are = one_entry })))
         (goes (cores (pin_steps.turns 0 0 change_map (view_of s33) refl refl (lit< tt) (record { out = λ e. cc; unchanged = refl; named = λ e. cc })))
         (goes (cores (pin_steps.turns 0 0 (map_back []) (view_of s34) refl refl (lit< tt) (record { out = λ e. cc; entries_are = left_out })))
         (goes (cores (pin_steps.turns 0 0 leave_turn (view_of s35) refl refl (lit< tt) (record { held = refl; home = refl; no_change = refl })))
-        (goes (cores (pin_steps.touches 0 0 pins.unpin (view_of s36) refl refl (lit< tt) (record { unlocked = refl; pinned = λ e. cc; no_content = refl; no_io = refl; no_wait = refl }) tt))
+        (goes (cores (pin_steps.touches 0 0 pins.unpin (view_of s36) refl refl (lit< tt) (record { unlocked = refl; pinned = λ e. cc; no_content = refl; no_io = refl; no_wait = refl; unnoted = refl }) tt))
         rests))))))))))))),
     record { tag = refl; word = refl; shared = refl; mapped = refl; taken = refl },
   ),
@@ -300,7 +300,7 @@ cleanup = (
       (goes (touches 1 0 unexclude (second_of w8) refl refl (lit< tt) (record { right = refl; applied = refl; page_home = refl }) tt)
       rests))))))))),
   record { word = refl; free = refl; waits = (second_of w9, refl, refl) },
-  goes (cores (pin_steps.touches 0 0 pins.unpin (view_of w9) refl refl (lit< tt) (record { unlocked = refl; pinned = λ e. cc; no_content = refl; no_io = refl; no_wait = refl }) tt))
+  goes (cores (pin_steps.touches 0 0 pins.unpin (view_of w9) refl refl (lit< tt) (record { unlocked = refl; pinned = λ e. cc; no_content = refl; no_io = refl; no_wait = refl; unnoted = refl }) tt))
       (goes (cores (pin_steps.touches 0 0 pins.lock_header (view_of w10) refl refl (lit< tt) (record { unlocked = refl }) (at_frame (λ (l : Link). l.header ≡ None) (view_of w10) _ refl refl refl)))
       (goes (touches 0 0 clear_waiter (view_of w11) refl refl (lit< tt) (record { held = refl; settled = refl; awaited = refl; single = refl }) tt)
       (goes (cores (pin_steps.touches 1 0 pins.load_state (second_of w12) refl refl (lit< tt) tt tt))

@@ -8,13 +8,13 @@ use Rattle.pin_core.specs.declared.view.Io.{Io}
 use Rattle.pin_core.specs.declared.view.Io.TheVariants.{Quiet, Input, Output}
 use Rattle.pin_core.specs.declared.view.Role.TheVariants.{Absent}
 use Rattle.pin_core.specs.declared.view.View.{View}
-use Rattle.pin_core.specs.State.{Page, Config, CanOpen, link}
+use Rattle.pin_core.specs.State.{Page, Config, CanOpen, link, is_block}
 use Rattle.pin_core.specs.Invariant.{HasTag}
 use Rattle.pin_core.specs.Kinds.{unpin}
 use Rattle.pin_core.specs.Steps as pin_steps
 use Rattle.pin_core.specs.Schedules.{IsHandedOut, KeepsTag}
 use Rattle.page_layout.specs.Soundness.{is_sound_page}
-use Rattle.page_core.specs.State.{State, opening}
+use Rattle.page_core.specs.State.{State, zero_page, opening}
 use Rattle.page_core.specs.Steps.{Event, pins_and_maps, Run}
 
 -- none of the events is the unpin of the frame f by backend i
@@ -122,6 +122,14 @@ FramesHoldPages s = (f : ℕ) (p : Page) → f < s.core.frames → HasTag (s.cor
 -- the page of a valid frame is sound
 abbrev pub ValidPagesAreSound : State → Type 0
 ValidPagesAreSound s = (f : ℕ) → f < s.core.frames → (s.core.frame f).word.valid ≡ true → is_sound_page (s.core.frame f).page ≡ true
+
+-- A block by which a view is about to let its fork grow isn't there yet, and has no page; the frame's page, once that is valid, and a page that was noted as read there, are all zero; no other view has an input right there
+pub record NewBlocksAreZero (s : State) : Type 0 where
+  pub outside : (i f : ℕ) (v : View) → get_elem? s.core.views i ≡ some v → f < s.core.frames → (link v f).noted ≡ true → is_block s.core (s.core.frame f).tag ≡ false
+  pub page : (i f : ℕ) (v : View) → get_elem? s.core.views i ≡ some v → f < s.core.frames → (link v f).noted ≡ true → (s.core.frame f).word.valid ≡ true → (s.core.frame f).page ≡ zero_page
+  pub read : (i f : ℕ) (v : View) (p : Page) → get_elem? s.core.views i ≡ some v → f < s.core.frames → (link v f).noted ≡ true → (link v f).read ≡ Some p → p ≡ zero_page
+  pub alone : (i j f : ℕ) (v u : View) → get_elem? s.core.views i ≡ some v → get_elem? s.core.views j ≡ some u → f < s.core.frames → (link v f).noted ≡ true → (link u f).io ≡ Input → j ≡ i
+
 
 -- A page that a view has copied under its content lock is the block's page after the log, where that is known, and so is one that the lane gave under its input right
 pub record CopiesArePages (s : State) : Type 0 where

@@ -8,12 +8,13 @@ use Rattle.pin_core.specs.declared.view.Io.TheVariants.{Quiet, Input, Output}
 use Rattle.pin_core.specs.declared.view.LastWrite.TheVariants.{Unwritten}
 use Rattle.pin_core.specs.declared.view.Link.{Link}
 use Rattle.pin_core.specs.declared.view.View.{View}
-use Rattle.pin_core.specs.State.{Frame, Page, no_tag, link}
+use Rattle.pin_core.specs.State.{Frame, Page, no_tag, link, is_block}
+use Rattle.pin_core.specs.Sizes.{SizesLaw}
 use Rattle.pin_core.specs.Tallies.{flag_weight}
 use Rattle.pin_core.specs.Invariant.{HasTag, FrameLaw, LinkLaw}
 use Rattle.pin_core.specs.Invariant as pins
 use Rattle.page_layout.specs.Soundness.{is_sound_page}
-use Rattle.page_core.specs.State.{Block, State, block_of}
+use Rattle.page_core.specs.State.{Block, State, block_of, zero_page}
 use Rattle.page_core.specs.Tallies.{Tally, pin, sharers, applied_locks, unapplied_locks, copies, works, outs, waits_as, page_shape}
 use Rattle.grid.specs.Shape.{Part, Grid}
 
@@ -138,8 +139,30 @@ pub record WaitsOnce (v : View) : Type 0 where
 abbrev pub WaitsLaw : List View → Type 0
 WaitsLaw views = (i : ℕ) (v : View) → get_elem? views i ≡ some v → WaitsOnce v
 
--- What holds of pins, headers, tags and maps, and of content locks, pages, input and output, and waits
+-- What holds at a frame whose block a view notes as one by which the fork is to grow
+pub record NotedPage (fr : Frame) (l : Link) : Type 0 where
+  -- its page is all zero, once it is valid
+  pub valid : fr.word.valid ≡ true → fr.page ≡ zero_page
+  -- and so is the page that the view notes as read
+  pub read : (p : Page) → l.read ≡ Some p → p ≡ zero_page
+
+-- and no other view has an input right there
+pub record NotedLaw (s : State) (i f : ℕ) (v : View) : Type 0 where
+  pub page : NotedPage (s.core.frame f) (link v f)
+  pub alone : (j : ℕ) (u : View) → j ≢ i → get_elem? s.core.views j ≡ some u → (link u f).io ≢ Input
+
+abbrev pub NotedPages : State → Type 0
+NotedPages s = (i f : ℕ) (v : View) → get_elem? s.core.views i ≡ some v → f < s.core.frames → (link v f).noted ≡ true → NotedLaw s i f v
+
+-- a block that isn't there has no page
+abbrev pub OthersHaveNoPage : State → Type 0
+OthersHaveNoPage s = (tag : ℕ) → is_block s.core tag ≡ false → s.logged tag ≡ None
+
+-- What holds of pins, headers, tags and maps, of the sizes of forks, and of content locks, pages, input and output, and waits
 pub record PageInvariant (s : State) : Type 0 where
   pub core : pins.PinInvariant s.core
+  pub sizes : SizesLaw s.core
   pub pages : Grid page_shape page_part s.core.frames s.core.frame (block_of s.logged) s.core.views
   pub waits : WaitsLaw s.core.views
+  pub noted : NotedPages s
+  pub gone : OthersHaveNoPage s

@@ -20,7 +20,7 @@ use Rattle.pin_core.specs.Kinds.{released, load_of, changed, sighted}
 use Rattle.pin_core.specs.declared.view.WordChange.{WordChange}
 use Rattle.pin_core.specs.declared.view.Resident.{Resident}
 use Rattle.page_layout.specs.Soundness.{is_new_page, is_sound_page}
-use Rattle.page_core.specs.State.{Block}
+use Rattle.page_core.specs.State.{Block, zero_page}
 
 pub data Kind : Type 0 where
   -- a load of the content word
@@ -125,16 +125,17 @@ pub record CanOverwriteRead (p : Page) (fr : Frame) (l : Link) : Type 0 where
 pub record CanReturnPage (fr : Frame) (l : Link) : Type 0 where
   pub out : l.out ≢ None
 
--- the page is the block's page after the log, where that is known, and no earlier read is just being put into the frame
+-- the page is the block's page after the log, where that is known, and no earlier read is just being put into the frame; the page of a block by which the fork is to grow is all zero
 pub record CanNoteRead (p : Page) (b : Block) (fr : Frame) (l : Link) : Type 0 where
   pub right : l.io ≡ Input
   pub fresh : l.overwritten ≡ None
   pub given : (q : Page) → b.logged ≡ Some q → q ≡ p
+  pub zero : l.noted ≡ true → p ≡ zero_page
 
 pub record CanNoteWrite (fr : Frame) (l : Link) : Type 0 where
   pub right : l.io ≡ Output
 
--- the entry's page is sound and not new (`PageIsVerifiedExtended`, `PageIsNew`), and no entry of the view is unapplied at another frame (`AllowedAround`)
+-- the entry's page is sound and not new (`PageIsVerifiedExtended`, `PageIsNew`); the block is there, and no entry of the view is unapplied at another frame (`AllowedAround`)
 pub record CanMakeEntry (p : Page) (fr : Frame) (l : Link) : Type 0 where
   pub right : l.content ≡ Exclusive
   pub dirtied : l.dirtied ≡ true
@@ -142,7 +143,7 @@ pub record CanMakeEntry (p : Page) (fr : Frame) (l : Link) : Type 0 where
   pub sound : is_sound_page p ≡ true
   pub used : is_new_page p ≡ false
 
--- the header, and the view has no input or output right, here or elsewhere (`AllowedAround`)
+-- the header; the view has no input or output right, here or elsewhere, and the block is there, unless the view notes it (`AllowedAround`)
 pub record CanStartInput (fr : Frame) (l : Link) : Type 0 where
   pub held : l.header ≡ Some fr.word
   pub settled : l.pending ≡ false

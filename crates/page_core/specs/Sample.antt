@@ -17,7 +17,7 @@ use Rattle.page_core.specs.Steps.{Event, pins_and_maps, at, Run}
 
 -- one frame, one partition, and room for two backends
 abbrev pub sample_config : Config
-sample_config = record { frames = 1; partitions = 1; partition_of = λ _. 0; is_block = λ _. true; lanes = 0; backends = 2; base = 0 }
+sample_config = record { frames = 1; partitions = 1; partition_of = λ _. 0; is_fork = λ _. true; sizes = λ _. 8; resizes = false; lanes = 0; backends = 2; base = 0 }
 
 -- the page that the lane holds for each block, as far as its header goes: no flags, the line pointers end at 24, and items and special space begin at 8192
 abbrev pub example_page : Page

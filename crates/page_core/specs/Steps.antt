@@ -1,15 +1,16 @@
 -- One step, and lists of steps.
-use Rattle.std.specs.Prelude.{◌≡◌, ◌≢◌, ℕ, ◌<◌, false, List, [], ◌∷◌, Option, None}
+use Rattle.std.specs.Prelude.{◌≡◌, ◌≢◌, ℕ, ◌<◌, true, false, List, [], ◌∷◌, Option, Some, None, if◌then◌else◌}
 use mathlib.Core.Option.{some}
 use lib.ListN.{get_elem?}
 use Rattle.pin_core.specs.declared.view.Io.TheVariants.{Quiet}
 use Rattle.pin_core.specs.declared.view.LaneChange.{LaneChange}
 use Rattle.pin_core.specs.declared.view.LaneChange.TheVariants.{Written, WriteFailed}
 use Rattle.pin_core.specs.declared.view.View.{View}
-use Rattle.pin_core.specs.State.{link, lane_hold, local}
+use Rattle.pin_core.specs.State.{link, lane_hold, local, is_block, is_cut}
 use Rattle.pin_core.specs.State as pins
+use Rattle.pin_core.specs.Sizes.{SizeKind, enter_extension, enter_cut}
 use Rattle.pin_core.specs.Steps as pin_steps
-use Rattle.page_core.specs.State.{State, block_of}
+use Rattle.page_core.specs.State.{State, block_of, zero_page}
 use Rattle.page_core.specs.Kinds.{Kind, make_entry, start_input, start_output, end_io, set_waiter, Allowed, frame_after, block_after, view_after}
 use Rattle.grid.specs.Shape.{put}
 
@@ -36,14 +37,24 @@ pub record MayWait (number : ℕ) (v : View) : Type 0 where
   pub own : number ≡ v.number
   pub nowhere : (f : ℕ) → (link v f).waits ≡ None
 
--- What a kind at the frame f asks of the whole view, beyond the frame
-abbrev pub AllowedAround : Kind → View → ℕ → Type 0
-AllowedAround (make_entry p) v f = HasNoneUnapplied v
-AllowedAround start_input v f = HasNoIo v
-AllowedAround start_output v f = HasNoIo v
-AllowedAround (end_io end) v f = HasNoWriteOut v f
-AllowedAround (set_waiter number) v f = MayWait number v
-AllowedAround _ v f = Unit {0}
+-- the block of the frame's tag is there, and no entry of the view is unapplied
+pub record MayMakeEntry (s : State) (v : View) (f : ℕ) : Type 0 where
+  pub block : is_block s.core (s.core.frame f).tag ≡ true
+  pub none : HasNoneUnapplied v
+
+-- the view has no input or output right; the block of the frame's tag is there, or is one that the view notes
+pub record MayStartInput (s : State) (v : View) (f : ℕ) : Type 0 where
+  pub block : (link v f).noted ≡ false → is_block s.core (s.core.frame f).tag ≡ true
+  pub none : HasNoIo v
+
+-- What a kind at the frame f asks of the whole state and view, beyond the frame
+abbrev pub AllowedAround : Kind → State → View → ℕ → Type 0
+AllowedAround (make_entry p) s v f = MayMakeEntry s v f
+AllowedAround start_input s v f = MayStartInput s v f
+AllowedAround start_output s v f = HasNoIo v
+AllowedAround (end_io end) s v f = HasNoWriteOut v f
+AllowedAround (set_waiter number) s v f = MayWait number v
+AllowedAround _ s v f = Unit {0}
 
 -- What happens: what happens to pins, headers, tags and maps, or a step of this crate's kinds at a frame
 pub data Event : Type 0 where
@@ -61,11 +72,21 @@ state_after k s i f v = let fr = s.core.frame f in let b = block_of s.logged fr.
   logged = logged_after k s.logged fr.tag;
 }
 
+-- the pages of the blocks, where the size of a fork changes by the log: a block that is added is all zero, and the ones that are cut away have no page
+abbrev pub logged_sized : SizeKind → ℕ → State → ℕ → Option pins.Page
+logged_sized (enter_extension f end) fork s = put s.logged (s.core.frame f).tag (Some zero_page)
+logged_sized (enter_cut n end) fork s = λ tag. if is_cut fork n tag then None else s.logged tag
+logged_sized _ fork s = s.logged
+
+abbrev pub logged_by : pin_steps.Event → State → ℕ → Option pins.Page
+logged_by (pin_steps.size_at i fork k) s = logged_sized k fork s
+logged_by _ s = s.logged
+
 pub data Step : Event → State → State → Type 0 where
   -- a step of `pin_core`
-  cores : {s : State} {e : pin_steps.Event} {core' : pins.State} → pin_steps.Step e s.core core' → Step (pins_and_maps e) s (record s { core = core' })
+  cores : {s : State} {e : pin_steps.Event} {core' : pins.State} → pin_steps.Step e s.core core' → Step (pins_and_maps e) s (record s { core = core'; logged = logged_by e s })
   -- a step of the kind k at the frame f by backend i, whose view is v
-  touches : {s : State} (i f : ℕ) (k : Kind) (v : View) → get_elem? s.core.views i ≡ some v → v.emptied ≡ false → f < s.core.frames → Allowed k (block_of s.logged (s.core.frame f).tag) (s.core.frame f) (link v f) → AllowedAround k v f
+  touches : {s : State} (i f : ℕ) (k : Kind) (v : View) → get_elem? s.core.views i ≡ some v → v.emptied ≡ false → f < s.core.frames → Allowed k (block_of s.logged (s.core.frame f).tag) (s.core.frame f) (link v f) → AllowedAround k s v f
       → Step (at i f k) s (state_after k s i f v)
 
 -- the events lead from one state to the other

@@ -7,12 +7,12 @@
 
 ghost use Rattle.std.specs.Prelude.{ℕ, ◌<◌, List, Option};
 ghost use Rattle.pin_core.specs.State.{CanOpen, Config, Page};
-ghost use Rattle.pin_core.specs.Schedules.{UsagesAreLow, TagWordsAreTags, TagWordsAreBlocks, UntaggedFramesHaveOnePin, FlagsMatchTags, SeenFramesAreValid, TagsAreUnique, PinsAreCounted, PinnedFramesHavePins, PinsAreFew, HeadersAreHeld, HoldersHaveTheWord, PinsRemember, MapsAreExact, TurnsAreHeld, MapsAreAsSeen, MapsAreHome};
+ghost use Rattle.pin_core.specs.Schedules.{UsagesAreLow, TagWordsAreTags, TagWordsAreBlocks, SizeRights, SizesAreLogged, SeenBlocksStay, UntaggedFramesHaveOnePin, FlagsMatchTags, SeenFramesAreValid, TagsAreUnique, PinsAreCounted, PinnedFramesHavePins, PinsAreFew, HeadersAreHeld, HoldersHaveTheWord, PinsRemember, MapsAreExact, TurnsAreHeld, MapsAreAsSeen, MapsAreHome};
 ghost use Rattle.pin_core.specs.Invariant.{AllAccounted};
 ghost use Rattle.page_core.specs.State.{State, opening};
-ghost use Rattle.page_core.specs.Invariant.{PageInvariant};
+ghost use Rattle.page_core.specs.Invariant.{OthersHaveNoPage, PageInvariant};
 ghost use Rattle.page_core.specs.Steps.{Event, Run};
-ghost use Rattle.page_core.specs.Histories.{IsReached, PinnedTagsStay, ContentLocks, SharersAreFew, OneIo, RightsNeedPins, CopyLatches, DirtiedFramesAreDirty, OnePageOut, PagesAreHome, ImagesAreLogged, FramesHoldPages, ValidPagesAreSound, CopiesArePages, WaitersAreNamed, BackendsWaitOnce, CleanupIsAlone};
+ghost use Rattle.page_core.specs.Histories.{IsReached, PinnedTagsStay, ContentLocks, SharersAreFew, OneIo, RightsNeedPins, CopyLatches, DirtiedFramesAreDirty, OnePageOut, PagesAreHome, ImagesAreLogged, FramesHoldPages, ValidPagesAreSound, NewBlocksAreZero, CopiesArePages, WaitersAreNamed, BackendsWaitOnce, CleanupIsAlone};
 ghost use Rattle.page_core.specs.Sample.{SampleRuns, CleanupRuns};
 
 /// What every list of events keeps, whatever the backends do and in whatever order.
@@ -35,6 +35,11 @@ pub fn all_histories()
     ensures usages { (s : State) → PageInvariant s → UsagesAreLow s.core }
     ensures packed { (s : State) → PageInvariant s → TagWordsAreTags s.core }
     ensures blocks { (s : State) → PageInvariant s → TagWordsAreBlocks s.core }
+    ensures size_rights { (s : State) (fork : ℕ) → PageInvariant s → SizeRights s.core fork }
+    ensures sizes_logged { (s : State) (fork : ℕ) → PageInvariant s → SizesAreLogged s.core fork }
+    ensures seen_blocks { (s : State) → PageInvariant s → SeenBlocksStay s.core }
+    ensures new_blocks { (s : State) → PageInvariant s → NewBlocksAreZero s }
+    ensures others { (s : State) → PageInvariant s → OthersHaveNoPage s }
     ensures untagged { (s : State) → PageInvariant s → UntaggedFramesHaveOnePin s.core }
     ensures flags { (s : State) → PageInvariant s → FlagsMatchTags s.core }
     ensures seen { (s : State) → PageInvariant s → SeenFramesAreValid s.core }

@@ -2,7 +2,7 @@
 use Rattle.std.proofs.Common.{◌≡◌, ◌≢◌}
 use Rattle.pin_core.specs.declared.view.Link.{Link}
 use Rattle.pin_core.specs.State.{Frame, no_tag}
-use Rattle.pin_core.specs.Kinds.{Kind, load_state, pin, pin_mapped, unpin, lock_header, unlock_header, store_tag, erase_tag, load_tag, pin_victim, lower_usage, assign, clear, Allowed}
+use Rattle.pin_core.specs.Kinds.{Kind, load_state, pin, pin_mapped, unpin, lock_header, unlock_header, store_tag, store_new_tag, erase_tag, load_tag, pin_victim, lower_usage, assign, clear, Allowed}
 use Rattle.pin_core.proofs.Keeping as keeping
 use Rattle.pin_core.proofs.Keeping.{KindKeeps}
 
@@ -19,6 +19,7 @@ kind_keeps unpin fr l a e = keeping.unpin_keeps fr l a
 kind_keeps lock_header fr l a e = keeping.lock_header_keeps fr l a
 kind_keeps unlock_header fr l a e = keeping.unlock_header_keeps fr l a
 kind_keeps (store_tag tag) fr l a e = keeping.store_tag_keeps fr l tag a
+kind_keeps (store_new_tag tag) fr l a e = keeping.store_new_tag_keeps fr l tag a
 kind_keeps erase_tag fr l a e = keeping.erase_tag_keeps fr l a
 kind_keeps load_tag fr l a e = keeping.load_tag_keeps fr l a
 kind_keeps pin_victim fr l a e = keeping.pin_victim_keeps fr l a

@@ -63,6 +63,13 @@ module _ (fr : Frame) (l : Link) where
     others = λ t n m q c le d. grind (arith, q, c, d, a);
   }
 
+  pub store_new_tag_keeps : (tag : ℕ) → Allowed (kinds.store_new_tag tag) fr l → KindKeeps (kinds.store_new_tag tag) fr l
+  store_new_tag_keeps tag a = record {
+    column = λ t t' q c sums le _. grind (arith, q, c, a, sums pins, sums headers, sums pendings, sums settled_pins, sums settled_headers);
+    cell = λ t q le c. grind (arith, q, c, a);
+    others = λ t n m q c le d. grind (arith, q, c, d, a);
+  }
+
   pub erase_tag_keeps : Allowed kinds.erase_tag fr l → KindKeeps kinds.erase_tag fr l
   erase_tag_keeps a = record {
     column = λ t t' q c sums le _. grind (arith, q, c, a, sums pins, sums headers, sums pendings, sums settled_pins, sums settled_headers);

@@ -4,6 +4,9 @@ pub mod Keeping
 pub mod Cases
 pub mod Turning
 pub mod Stepping
+pub mod Sizing
+pub mod SizeSteps
 pub mod Opening
 pub mod Schedules
+pub mod SizeSchedules
 pub mod Sample

@@ -44,7 +44,6 @@ opens c page can = let base = c.base in let n = c.frames in let p = c.partitions
     cells = λ i v q there below. subst (λ (x : View). PartitionHoldLaw empty_partition (hold x q)) (at_only w v i there).0 (new_hold 0 base n p m q empty_partition);
   };
   apart = λ f g x y named same. absurd (named refl);
-  blocks = λ f below named. absurd (named refl);
   maps = record { pairs = λ tag f named below. empty_pair tag f named; mapped = λ q tag f e. absurd (cc); changing = λ q. tt };
   placed = can.placed;
   accounted = λ v e. one_backend base n p m v (at_only w v 0 e).0;

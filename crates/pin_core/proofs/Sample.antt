@@ -1,11 +1,11 @@
 -- The sample's events are steps.
-use Rattle.std.proofs.Common.{◌≡◌, ◌≢◌, ℕ, zero, suc, true, false, [], ◌∷◌, List, slice_index_or, None, lit<, refl, sym, subst, arith}
+use Rattle.std.proofs.Common.{◌≡◌, ◌≢◌, ℕ, zero, suc, true, false, [], ◌∷◌, List, slice_index_or, nat_lt, None, lit<, refl, sym, subst, arith}
 use Rattle.pin_core.specs.declared.view.Role.TheVariants.{Victim}
 use Rattle.pin_core.specs.declared.view.MapChange.TheVariants.{Stable, Entering}
 use Rattle.pin_core.specs.declared.view.PartitionHold.{PartitionHold}
 use Rattle.pin_core.specs.declared.view.Link.{Link}
 use Rattle.pin_core.specs.declared.view.View.{View}
-use Rattle.pin_core.specs.State.{State, link, idle, hold, no_partition, no_tag, is_tag, emptied_view, split_state}
+use Rattle.pin_core.specs.State.{State, link, idle, hold, no_partition, no_tag, tag_block, is_tag, emptied_view, split_state}
 use Rattle.pin_core.specs.Kinds.{Kind, pin_mapped, unpin, lock_header, pin_victim, store_tag, assign}
 use Rattle.pin_core.specs.Turns.{TurnKind, take_turn, leave_turn, map_out, change_map, map_back, found, map_after}
 use Rattle.pin_core.specs.Steps.{state_after, state_turned, rests, goes, touches, turns, splits}
@@ -91,9 +91,16 @@ pub one_entry : found (sample_entry ∷ []) ≡ map_after (Entering 7 0) (λ _. 
 unfolding found
 one_entry = refl
 
+pub in_fork : nat_lt (tag_block 7) 8 ≡ true
+unfolding tag_block
+in_fork = refl
+
 pub packed : is_tag 7 ≡ true
 unfolding is_tag unpacked_tag
 packed = refl
+
+pub never : {A : Type 0} → false ≡ true → A
+never e = absurd (cc)
 
 pub named : 7 ≢ no_tag
 named e = absurd (omega arith)
@@ -107,7 +114,7 @@ sample = (
         (goes (touches 0 0 lock_header (view_at s1 0) refl refl (lit< tt) (record { unlocked = refl }) (at_two (λ (l : Link). l.header ≡ None) (view_at s1 0) _ _ refl refl refl refl))
         (goes (touches 0 0 pin_victim (view_at s2 0) refl refl (lit< tt) (record { held = refl; absent = refl; room = λ _. refl }) (at_two (λ (l : Link). l.role ≢ Victim) (view_at s2 0) _ _ refl (λ e. cc) (λ e. cc) (λ e. cc)))
         (goes (touches 0 0 lock_header (view_at s3 0) refl refl (lit< tt) (record { unlocked = refl }) (at_two (λ (l : Link). l.header ≡ None) (view_at s3 0) _ _ refl refl refl refl))
-        (goes (touches 0 0 (store_tag 7) (view_at s4 0) refl refl (lit< tt) (record { alone = record { held = refl; settled = refl; single = refl; victim = refl; no_content = refl; no_io = refl }; named = named; packed = packed; untagged = refl }) (record { naming = record { held = refl; unchanged = refl; no_change = at_partition (λ (h : PartitionHold). h.change ≡ Stable) (view_at s4 0) _ refl refl refl }; block = refl; lacking = refl }))
+        (goes (touches 0 0 (store_tag 7) (view_at s4 0) refl refl (lit< tt) (record { alone = record { held = refl; settled = refl; single = refl; victim = refl; no_content = refl; no_io = refl }; named = named; packed = packed; untagged = refl }) (record { naming = record { held = refl; unchanged = refl; no_change = at_partition (λ (h : PartitionHold). h.change ≡ Stable) (view_at s4 0) _ refl refl refl }; block = in_fork; room = λ e. never e; lacking = refl }))
         (goes (touches 0 0 assign (view_at s5 0) refl refl (lit< tt) (record { held = refl; stored = refl; named = named }) tt)
         (goes (turns 0 0 (map_out []) (view_at s6 0) refl refl (lit< tt) (record { held = refl; home = refl; entries_are = no_entries }))
         (goes (turns 0 0 change_map (view_at s7 0) refl refl (lit< tt) (record { out = λ e. cc; unchanged = refl; named = λ e. cc }))
@@ -117,7 +124,7 @@ sample = (
         (goes (turns 1 0 take_turn (view_at s11 1) refl refl (lit< tt) (record { free = refl }))
         (goes (touches 1 0 (pin_mapped 7 false) (view_at s12 1) refl refl (lit< tt) (record { unlocked = refl; absent = refl }) (record { held = refl; no_change = refl; given = refl }))
         (goes (turns 1 0 leave_turn (view_at s13 1) refl refl (lit< tt) (record { held = refl; home = refl; no_change = refl }))
-        (goes (touches 0 0 unpin (view_at s14 0) refl refl (lit< tt) (record { unlocked = refl; pinned = λ e. cc; no_content = refl; no_io = refl; no_wait = refl }) tt)
+        (goes (touches 0 0 unpin (view_at s14 0) refl refl (lit< tt) (record { unlocked = refl; pinned = λ e. cc; no_content = refl; no_io = refl; no_wait = refl; unnoted = refl }) tt)
         rests))))))))))))))),
     record { tag = refl; word = refl; mapped = (refl, refl); hit = (view_at s15 1, refl, refl, refl); other = (refl, refl) },
   ),

@@ -1,5 +1,5 @@
 -- What the law says in the field's words.
-use Rattle.std.proofs.Common.{◌≡◌, ◌≢◌, ℕ, ◌+◌, ◌<◌, ◌≤◌, Bool, true, false, cond, List, [], ◌∷◌, Option, Some, None, set, length, sym, refl, ap, ◌∙◌, subst, arith}
+use Rattle.std.proofs.Common.{◌≡◌, ◌≢◌, ℕ, ◌+◌, ◌<◌, ◌≤◌, Bool, true, false, cond, List, [], ◌∷◌, Option, Some, None, set, length, get_or-set_same, get_or-set_other, sym, refl, ap, ◌∙◌, subst, arith}
 use Rattle.std.specs.Prelude.{◌↔◌, if◌then◌else◌}
 use mathlib.Core.Logic.{dite}
 use mathlib.Core.Option.{some, some-injective}
@@ -11,17 +11,18 @@ use Rattle.pin_core.specs.declared.view.Role.TheVariants.{Absent, HandedOut, Vic
 use Rattle.pin_core.specs.declared.view.Link.{Link}
 use Rattle.pin_core.specs.declared.view.PartitionHold.{PartitionHold}
 use Rattle.pin_core.specs.declared.view.View.{View}
-use Rattle.pin_core.specs.State.{Frame, Partition, State, no_tag, link, hold, is_pin, pins_frame, new_view, joined_view, emptied_view}
+use Rattle.pin_core.specs.State.{Frame, Partition, State, no_tag, idle, link, hold, is_pin, pins_frame, new_view, joined_view, emptied_view}
 use Rattle.pin_core.specs.Tallies.{Tally, pins, headers, weigh, pin_weight, some_weight, flag_weight, frame_shape}
-use Rattle.pin_core.specs.Invariant.{FrameLaw, HasTag, TagsAgree, PinInvariant}
-use Rattle.pin_core.specs.Kinds.{Kind, load_state, pin, pin_mapped, unpin, lock_header, unlock_header, store_tag, erase_tag, load_tag, pin_victim, lower_usage, assign, clear, Allowed, frame_after, link_after, view_after}
-use Rattle.pin_core.specs.Steps.{HoldsNothing, state_after, Event, at, Step, touches, turns, splits, joins, Run, rests, goes}
+use Rattle.pin_core.specs.Invariant.{FrameLaw, LinkLaw, HasTag, TagsAgree, PinInvariant}
+use Rattle.pin_core.specs.Kinds.{Kind, load_state, pin, pin_mapped, unpin, lock_header, unlock_header, store_tag, store_new_tag, erase_tag, load_tag, pin_victim, lower_usage, assign, clear, Allowed, frame_after, link_after, view_after}
+use Rattle.pin_core.specs.Steps.{HoldsNothing, state_after, Event, at, Step, touches, turns, sized, splits, joins, Run, rests, goes}
 use Rattle.pin_core.specs.Turns.{TurnTally, view_turned, TurnLaw, PartitionHoldLaw, turn_shape}
 use Rattle.pin_core.specs.Turns.{holders as turn_holders}
+use Rattle.pin_core.specs.Sizes.{SizeKind, load_size, share_size, exclude_size, unshare_size, unexclude_size, pass_frame, store_size, enter_extension, enter_cut, SizeAllowed, extended_link, view_sized, state_sized}
 use Rattle.pin_core.specs.Maps.{PairLaw}
 use Rattle.pin_core.specs.declared.view.MapChange.{MapChange}
 use Rattle.pin_core.specs.declared.view.MapChange.TheVariants.{Entering, Leaving}
-use Rattle.pin_core.specs.Schedules.{IsReached, UsagesAreLow, TagWordsAreTags, TagWordsAreBlocks, UntaggedFramesHaveOnePin, FlagsMatchTags, SeenFramesAreValid, TagsAreUnique, PinnedFramesHavePins, PinsAreFew, PinsAreCounted, HeadersAreHeld, is_held, holds_header, holds_turn, HoldersHaveTheWord, PinsRemember, MapsAreExact, TurnsAreHeld, MapsAreAsSeen, MapsAreHome, IsHandedOut, HasNoUnpin, PinnedTagsStay}
+use Rattle.pin_core.specs.Schedules.{IsReached, UsagesAreLow, TagWordsAreTags, UntaggedFramesHaveOnePin, FlagsMatchTags, SeenFramesAreValid, TagsAreUnique, PinnedFramesHavePins, PinsAreFew, PinsAreCounted, HeadersAreHeld, is_held, holds_header, holds_turn, HoldersHaveTheWord, PinsRemember, MapsAreExact, TurnsAreHeld, MapsAreAsSeen, MapsAreHome, IsHandedOut, HasNoUnpin, PinnedTagsStay}
 use Rattle.grid.specs.Shape.{tallies}
 use Rattle.grid.proofs.Lists.{set_here, set_else, at_longer, put_at, put_else}
 use Rattle.grid.proofs.Sums.{total-count, total-few, term_le, terms_le}
@@ -88,9 +89,6 @@ module _ (s : State) (h : PinInvariant s) where
   pub packed : TagWordsAreTags s
   packed f below = (h.grid.columns f below).packed
 
-  pub blocks : TagWordsAreBlocks s
-  blocks = h.blocks
-
   pub untagged : UntaggedFramesHaveOnePin s
   untagged f below = (h.grid.columns f below).untagged_few
 
@@ -144,6 +142,7 @@ module _ (s : State) (h : PinInvariant s) where
 -- a step of the holder's own leaves the tag word, and but for an unpin the pin
 own_tag : (k : Kind) (fr : Frame) (l : Link) → Allowed k fr l → l.role ≡ HandedOut → (frame_after k fr).tag ≡ fr.tag
 own_tag (store_tag tag) fr l a e = grind (arith, a, e)
+own_tag (store_new_tag tag) fr l a e = grind (arith, a, e)
 own_tag erase_tag fr l a e = grind (arith, a, e)
 own_tag load_state fr l a e = refl
 own_tag (pin ring) fr l a e = refl
@@ -157,24 +156,26 @@ own_tag lower_usage fr l a e = refl
 own_tag assign fr l a e = refl
 own_tag clear fr l a e = refl
 
-own_pin : (k : Kind) (fr : Frame) (l : Link) → k ≢ unpin → Allowed k fr l → l.role ≡ HandedOut → (link_after k fr l).role ≡ HandedOut
-own_pin unpin fr l other a e = absurd (other refl)
-own_pin pin_victim fr l other a e = grind (arith, a, e)
-own_pin (pin ring) fr l other a e = refl
-own_pin (pin_mapped tag ring) fr l other a e = refl
-own_pin assign fr l other a e = refl
-own_pin load_state fr l other a e = e
-own_pin lock_header fr l other a e = e
-own_pin unlock_header fr l other a e = e
-own_pin (store_tag tag) fr l other a e = e
-own_pin erase_tag fr l other a e = e
-own_pin load_tag fr l other a e = e
-own_pin lower_usage fr l other a e = e
-own_pin clear fr l other a e = e
+own_pin : (k : Kind) (fr : Frame) (l : Link) → LinkLaw fr l → k ≢ unpin → Allowed k fr l → l.role ≡ HandedOut → (link_after k fr l).role ≡ HandedOut
+own_pin unpin fr l c other a e = absurd (other refl)
+own_pin pin_victim fr l c other a e = grind (arith, a, e)
+own_pin (pin ring) fr l c other a e = refl
+own_pin (pin_mapped tag ring) fr l c other a e = refl
+own_pin assign fr l c other a e = grind (arith, a, c, e)
+own_pin load_state fr l c other a e = e
+own_pin lock_header fr l c other a e = e
+own_pin unlock_header fr l c other a e = e
+own_pin (store_tag tag) fr l c other a e = e
+own_pin (store_new_tag tag) fr l c other a e = e
+own_pin erase_tag fr l c other a e = e
+own_pin load_tag fr l c other a e = e
+own_pin lower_usage fr l c other a e = e
+own_pin clear fr l c other a e = e
 
 -- a step of another leaves the tag word
 others_tag : (k : Kind) (fr : Frame) (l m : Link) (t : Tally → ℕ) → Allowed k fr l → FrameLaw fr t → weigh pins l + weigh pins m ≤ t pins → m.role ≡ HandedOut → (frame_after k fr).tag ≡ fr.tag
 others_tag (store_tag tag) fr l m t a c le e = grind (arith, a, c, le, e)
+others_tag (store_new_tag tag) fr l m t a c le e = grind (arith, a, c, le, e)
 others_tag erase_tag fr l m t a c le e = grind (arith, a, c, le, e)
 others_tag load_state fr l m t a c le e = refl
 others_tag (pin ring) fr l m t a c le e = refl
@@ -213,7 +214,7 @@ module _ (s : State) (h : PinInvariant s) (i f : ℕ) (v : View) (there : get_el
         subst (λ (z : ℕ). get_elem? (set s.views j moved) z ≡ some moved) (sym e) (set_here s.views j u moved here),
         below,
         dite (ℕ_discrete f g)
-            (λ same. subst (λ (z : ℕ). (link moved z).role ≡ HandedOut) (sym same) (ap (λ (x : Link). x.role) relinked_here.here ∙ own_pin k (s.frame g) (link u g)
+            (λ same. subst (λ (z : ℕ). (link moved z).role ≡ HandedOut) (sym same) (ap (λ (x : Link). x.role) relinked_here.here ∙ own_pin k (s.frame g) (link u g) (h.grid.cells j u g here inside)
             (λ is. other (λ n. at (sym e n) (sym same n) (is n))) a (subst (λ (z : ℕ). (link u z).role ≡ HandedOut) same (pinned_at e))))
             (λ o. ap (λ (x : Link). x.role) (relinked_here.else f o) ∙ pinned_at e),
       ))
@@ -244,6 +245,35 @@ view_stays views i j f v u w there pinned here same = dite (ℕ_discrete i j)
     ))
     (λ o. (v, set_else views j i w o ∙ there, pinned))
 
+-- and so does a step at the size of a fork
+sized_role : (s : State) (h : PinInvariant s) (j fork : ℕ) (k : SizeKind) (u : View) → get_elem? s.views j ≡ some u → u.emptied ≡ false → SizeAllowed k s u fork → (f : ℕ) → (link u f).role ≡ HandedOut → (link (view_sized k fork s u) f).role ≡ HandedOut
+sized_role s h j fork (enter_extension g end) u here live a f pinned = dite (ℕ_discrete f g)
+    (λ same. subst (λ (z : ℕ). (link (view_sized (enter_extension g end) fork s u) z).role ≡ HandedOut) (sym same)
+    (ap (λ (x : Link). x.role) (get_or-set_same u.links g (extended_link (link u g)) idle (subst (λ (n : ℕ). g < n) (sym (h.views.wide j u here live).0) a.inside))))
+    (λ o. ap (λ (x : Link). x.role) (get_or-set_other u.links g f (extended_link (link u g)) idle o) ∙ pinned)
+sized_role s h j fork (unshare_size (Some g)) u here live a f pinned = let l : Link = record (link u g) { inside = true } in dite (ℕ_discrete f g)
+    (λ same. subst (λ (z : ℕ). (link (view_sized (unshare_size (Some g)) fork s u) z).role ≡ HandedOut) (sym same)
+    (ap (λ (x : Link). x.role) (get_or-set_same u.links g l idle (subst (λ (n : ℕ). g < n) (sym (h.views.wide j u here live).0) a.sees.inside)) ∙ subst (λ (z : ℕ). (link u z).role ≡ HandedOut) same pinned))
+    (λ o. ap (λ (x : Link). x.role) (get_or-set_other u.links g f l idle o) ∙ pinned)
+sized_role s h j fork (unshare_size None) u here live a f pinned = pinned
+sized_role s h j fork load_size u here live a f pinned = pinned
+sized_role s h j fork share_size u here live a f pinned = pinned
+sized_role s h j fork exclude_size u here live a f pinned = pinned
+sized_role s h j fork unexclude_size u here live a f pinned = pinned
+sized_role s h j fork (pass_frame g n) u here live a f pinned = pinned
+sized_role s h j fork store_size u here live a f pinned = pinned
+sized_role s h j fork (enter_cut n end) u here live a f pinned = pinned
+
+sized_stays : (s : State) (h : PinInvariant s) (i f : ℕ) → IsHandedOut s i f → (j fork : ℕ) (k : SizeKind) (u : View) → get_elem? s.views j ≡ some u → u.emptied ≡ false → SizeAllowed k s u fork → IsHandedOut (state_sized k s j fork u) i f
+sized_stays s h i f out j fork k u here live a = let w : View = view_sized k fork s u in dite (ℕ_discrete i j)
+    (λ e. (
+      w,
+      subst (λ (z : ℕ). get_elem? (set s.views j w) z ≡ some w) (sym e) (set_here s.views j u w here),
+      out.2,
+      sized_role s h j fork k u here live a f (subst (λ (x : View). (link x f).role ≡ HandedOut) (some-injective out.0 u (sym out.1 ∙ ap (λ (z : ℕ). get_elem? s.views z) e ∙ here)) out.3),
+    ))
+    (λ o. (out.0, set_else s.views j i w o ∙ out.1, out.2, out.3))
+
 -- a backend that holds nothing has no handed-out pin
 not_joined : (views : List View) (i j f : ℕ) (v u : View) → get_elem? views i ≡ some v → (link v f).role ≡ HandedOut → get_elem? views j ≡ some u → HoldsNothing u → i ≢ j
 not_joined views i j f v u there pinned here free e = let same : v ≡ u = some-injective v u (sym there ∙ ap (λ (z : ℕ). get_elem? views z) e ∙ here) in let r : (link u f).role ≡ HandedOut = subst (λ (x : View). (link x f).role ≡ HandedOut) same pinned in let n = (free.frames f).no_pin in cc
@@ -251,6 +281,7 @@ not_joined views i j f v u there pinned here free e = let same : v ≡ u = some-
 pub step_stays : {e : Event} {s t : State} (i f : ℕ) → Step e s t → PinInvariant s → IsHandedOut s i f → e ≢ at i f unpin → PinStays s t i f
 step_stays i f (touches {s = s} j g k u here live inside a around) h out other = (pin_stays s h i f out.0 out.1 out.2 out.3 j g k u here live inside a other, tag_stays s h i f out.0 out.1 out.2 out.3 j g k u here live inside a)
 step_stays i f (turns {s = s} j p k u here live below a) h out other = let x = view_stays s.views i j f out.0 u (view_turned k p (hold u p) u) out.1 out.3 here refl in ((x.0, x.1, out.2, x.2), refl)
+step_stays i f (sized {s = s} j fork k u here live a) h out other = (sized_stays s h i f out j fork k u here live a, refl)
 step_stays i f (splits {s = s} v here room) h out other = let w : View = record v { next = v.next + 1 } in let b : View = new_view v.next s.base (length v.links) (length v.partitions) (length v.lanes) in let x = view_stays s.views i 0 f out.0 v w out.1 out.3 here refl in
     ((x.0, at_longer (set s.views 0 w) (b ∷ []) i x.0 x.1, out.2, x.2), refl)
 step_stays i f (joins {s = s} j v u first nonzero here live free) h out other = let x = view_stays s.views i 0 f out.0 v (joined_view v u) out.1 out.3 first refl in

@@ -1,5 +1,5 @@
 -- Each step keeps the law, and so does each list of steps.
-use Rattle.std.proofs.Common.{◌≡◌, ◌≢◌, ℕ, ◌+◌, ◌<◌, ◌≤◌, Bool, true, false, List, Option, Some, length, set, length-set, get_or-set_same, get_or-set_other, sym, refl, ap, ◌∙◌, subst, arith}
+use Rattle.std.proofs.Common.{◌≡◌, ◌≢◌, ℕ, ◌+◌, ◌<◌, ◌≤◌, Bool, true, false, List, Option, Some, None, length, set, slice_set, slice_index_or, length-set, get_or-set_same, get_or-set_other, sym, refl, ap, ◌∙◌, subst, arith}
 use mathlib.Core.Logic.{dite}
 use mathlib.Core.Option.{some}
 use native.Mathlib.Decide.{ℕ_discrete}
@@ -11,15 +11,16 @@ use Rattle.pin_core.specs.declared.view.MapChange.TheVariants.{Stable, Entering,
 use Rattle.pin_core.specs.declared.view.View.{View}
 use Rattle.pin_core.specs.State.{Frame, Partition, State, no_tag, idle, link, no_partition, hold, local, new_view, emptied_view, joined_view, split_state, joined_state}
 use Rattle.pin_core.specs.Tallies.{Tally, pins, headers, pendings, settled_pins, settled_headers, weigh, flag_weight, frame_shape}
-use Rattle.pin_core.specs.Invariant.{FrameLaw, LinkLaw, TagsAreBlocks, pin_part, PinInvariant}
+use Rattle.pin_core.specs.Invariant.{HasTag, FrameLaw, LinkLaw, pin_part, PinInvariant}
 use Rattle.pin_core.specs.Maps.{PairLaw, MapLaw}
 use Rattle.pin_core.specs.Turns.{TurnKind, change_map, take_turn, leave_turn, map_out, map_back, TurnAllowed, partition_after, hold_after, view_turned, PartitionHoldLaw, turn_shape, turn_part}
-use Rattle.pin_core.specs.Kinds.{Kind, store_tag, erase_tag, pin_mapped, CanStoreTag, Allowed, frame_after, link_after, view_after}
-use Rattle.pin_core.specs.Steps.{AllowedAround, Event, HoldsNothingAt, HoldsNothing, state_after, state_turned, Step, touches, turns, splits, joins, Run, rests, goes}
+use Rattle.pin_core.specs.Kinds.{Kind, store_tag, store_new_tag, erase_tag, pin_mapped, CanStoreTag, Allowed, frame_after, link_after, view_after}
+use Rattle.pin_core.specs.Steps.{AllowedAround, Event, HoldsNothingAt, HoldsNothing, state_after, state_turned, Step, touches, turns, sized, splits, joins, Run, rests, goes}
+use Rattle.pin_core.specs.Sizes.{SizeKind, load_size, share_size, exclude_size, unshare_size, unexclude_size, pass_frame, store_size, enter_extension, enter_cut, MaySee, CanEnterExtension, SizeAllowed, links_seen, extended_link, links_after, view_sized, state_sized}
 use Rattle.grid.specs.Shape.{Grid, put, tallies}
 use Rattle.grid.proofs.Lists.{set_else, puts}
 use Rattle.grid.proofs.Sums.{term_le}
-use Rattle.grid.proofs.Grids.{Keeps, Relinks, touch, sweep, steady, grows}
+use Rattle.grid.proofs.Grids.{Keeps, Relinks, touch, sweep, steady, steady_alike, grows}
 use Rattle.pin_core.proofs.Maps.{maps_same, maps_entering, maps_leaving, maps_changed, maps_apart}
 use Rattle.pin_core.proofs.Turning.{turn_keeps, naming_keeps, turn_forgets}
 use Rattle.pin_core.proofs.Cases.{TagKnown, kind_keeps}
@@ -29,12 +30,6 @@ use Rattle.pin_core.proofs.Views.{SameBackend, views_set, views_emptied, views_s
 pub tags_stay : (frame : ℕ → Frame) (f : ℕ) (fr : Frame) → fr.tag ≡ (frame f).tag → (g : ℕ) → (put frame f fr g).tag ≡ (frame g).tag
 tags_stay frame f fr e g = dite (ℕ_discrete g f) (λ same. ap (λ (x : Frame). x.tag) ((puts frame f fr g).same same) ∙ e ∙ ap (λ (z : ℕ). (frame z).tag) (sym same)) (λ o. ap (λ (x : Frame). x.tag) ((puts frame f fr g).other o))
 
--- a frame that stays a block's, or is given no tag
-blocks_put : (is_block : ℕ → Bool) (n : ℕ) (frame : ℕ → Frame) (f : ℕ) (fr : Frame) → TagsAreBlocks is_block n frame → (fr.tag ≢ no_tag → is_block fr.tag ≡ true) → TagsAreBlocks is_block n (put frame f fr)
-blocks_put is_block n frame f fr h here g below = dite (ℕ_discrete g f)
-    (λ same. subst (λ (x : Frame). x.tag ≢ no_tag → is_block x.tag ≡ true) (sym ((puts frame f fr g).same same)) here)
-    (λ o. subst (λ (x : Frame). x.tag ≢ no_tag → is_block x.tag ≡ true) (sym ((puts frame f fr g).other o)) (h g below))
-
 -- One frame and one view change, and no tag word: what a crate above has to show of a kind of its own
 pub local_keeps : (s : State) (i f : ℕ) (v w : View) (fr : Frame) → PinInvariant s → get_elem? s.views i ≡ some v → SameBackend v w → w.joined ≡ v.joined → w.partitions ≡ v.partitions → fr.tag ≡ (s.frame f).tag
     → Grid frame_shape pin_part s.frames (put s.frame f fr) (λ _. tt) (set s.views i w) → PinInvariant (local s i f fr w)
@@ -42,7 +37,6 @@ local_keeps s i f v w fr h there same joined holds tag grid = let maps = maps_sa
   grid = grid;
   turns = steady turn_shape turn_part s.partitions s.partition (λ _. tt) s.views h.turns i v w there refl (λ p. ap (λ (x : List PartitionHold). hold (record w { partitions = x }) p) holds);
   apart = maps_apart s.frames s.partition_of (λ p. (s.partition p).map) (λ p. (s.partition p).owed) (λ g. (put s.frame f fr g).tag) maps;
-  blocks = λ g below. subst (λ (x : ℕ). x ≢ no_tag → s.is_block x ≡ true) (sym (tags_stay s.frame f fr tag g)) (h.blocks g below);
   maps = maps;
   placed = h.placed;
   views = views_set s.frames s.partitions s.backends s.views h.views i v w there same;
@@ -107,15 +101,13 @@ module _ (s : State) (h : PinInvariant s) (i f : ℕ) (v : View) (there : get_el
   -- a kind that names the pair c of the partition p, after which the maps are exact
   naming : (k : Kind) (p : ℕ) (c : MapChange) → Allowed k (s.frame f) (link v f) → TagKnown k (s.frame f) → p < s.partitions → (hold v p).held ≡ true → (hold v p).changed ≡ false → (hold v p).change ≡ Stable → (after k s f v).partitions ≡ set v.partitions p (record (hold v p) { change = c })
       → MapLaw s.frames s.partition_of gives (λ q. (put s.partition p (record (s.partition p) { owed = c }) q).owed) (λ g. (put s.frame f (frame_after k (s.frame f)) g).tag)
-      → ((frame_after k (s.frame f)).tag ≢ no_tag → s.is_block (frame_after k (s.frame f)).tag ≡ true)
       → PinInvariant (record s { frame = put s.frame f (frame_after k (s.frame f)); partition = put s.partition p (record (s.partition p) { owed = c }); views = set s.views i (after k s f v) })
-  naming k p c a known below held unchanged no_change names maps block = let part : ℕ → Partition = put s.partition p (record (s.partition p) { owed = c }) in let tag_words : ℕ → ℕ = λ g. (put s.frame f (frame_after k (s.frame f)) g).tag in
+  naming k p c a known below held unchanged no_change names maps = let part : ℕ → Partition = put s.partition p (record (s.partition p) { owed = c }) in let tag_words : ℕ → ℕ = λ g. (put s.frame f (frame_after k (s.frame f)) g).tag in
       let exact : MapLaw s.frames s.partition_of (λ q. (part q).map) (λ q. (part q).owed) tag_words = maps_same s.frames s.partition_of gives (λ q. (part q).owed) tag_words maps (λ q. (part q).map) (λ q. (part q).owed) tag_words
       (λ q. dite (ℕ_discrete q p) (λ e. ap (λ (x : Partition). x.map) ((puts s.partition p (record (s.partition p) { owed = c }) q).same e) ∙ ap gives (sym e)) (λ o. ap (λ (x : Partition). x.map) ((puts s.partition p (record (s.partition p) { owed = c }) q).other o))) (λ q. refl) (λ g. refl) in record {
         grid = grid_after k a known;
         turns = turns_after k p c below held unchanged no_change names;
         apart = maps_apart s.frames s.partition_of (λ q. (part q).map) (λ q. (part q).owed) tag_words exact;
-        blocks = blocks_put s.is_block s.frames s.frame f (frame_after k (s.frame f)) h.blocks block;
         maps = exact;
         placed = h.placed;
         views = views_set s.frames s.partitions s.backends s.views h.views i v (after k s f v) there (named_backend k p c below held unchanged no_change names);
@@ -123,7 +115,7 @@ module _ (s : State) (h : PinInvariant s) (i f : ℕ) (v : View) (there : get_el
       }
 
 -- a frame that may be given a tag has none
-untagged : (tag : ℕ) (fr : Frame) (l : Link) (t : Tally → ℕ) → FrameLaw fr t → LinkLaw fr l → ((k : Tally) → weigh k l ≤ t k) → CanStoreTag tag fr l → fr.tag ≡ no_tag
+pub untagged : (tag : ℕ) (fr : Frame) (l : Link) (t : Tally → ℕ) → FrameLaw fr t → LinkLaw fr l → ((k : Tally) → weigh k l ≤ t k) → CanStoreTag tag fr l → fr.tag ≡ no_tag
 untagged tag fr l t c x le a = grind (arith, c, x, a, le pins, le settled_pins)
 
 -- the frame that a map gives for a tag has it, where no pair is in change
@@ -138,14 +130,19 @@ kind_step_keeps s i f (store_tag tag) v h there live inside a around = let p = s
     (maps_entering s.frames s.partition_of (λ q. (s.partition q).map) (λ q. (s.partition q).owed) (λ g. (s.frame g).tag) h.maps tag f (λ q. (put s.partition p x q).owed) (λ g. (put s.frame f fr g).tag) a.named inside free around.lacking bare
     (λ q e. ap (λ (y : Partition). y.owed) ((puts s.partition p x q).same e)) (λ q o. ap (λ (y : Partition). y.owed) ((puts s.partition p x q).other o))
     (λ g e. ap (λ (y : Frame). y.tag) ((puts s.frame f fr g).same e)) (λ g o. ap (λ (y : Frame). y.tag) ((puts s.frame f fr g).other o)))
-    (λ _. around.block)
+kind_step_keeps s i f (store_new_tag tag) v h there live inside a around = let p = s.partition_of tag in let m = around.naming in let c : MapChange = Entering tag f in let x : Partition = record (s.partition p) { owed = c } in let fr : Frame = record (s.frame f) { tag = tag } in
+    let free = unowed s h i f v there live inside p (h.placed tag) m.held (m.no_change p) in
+    let bare = untagged tag (s.frame f) (link v f) (tallies frame_shape s.views f) (h.grid.columns f inside) (h.grid.cells i v f there inside) (λ y. term_le (λ (u : View). weigh y (link u f)) s.views i v there) a in
+    naming s h i f v there live inside (store_new_tag tag) p c a tt (h.placed tag) m.held m.unchanged (m.no_change p) refl
+    (maps_entering s.frames s.partition_of (λ q. (s.partition q).map) (λ q. (s.partition q).owed) (λ g. (s.frame g).tag) h.maps tag f (λ q. (put s.partition p x q).owed) (λ g. (put s.frame f fr g).tag) a.named inside free around.lacking bare
+    (λ q e. ap (λ (y : Partition). y.owed) ((puts s.partition p x q).same e)) (λ q o. ap (λ (y : Partition). y.owed) ((puts s.partition p x q).other o))
+    (λ g e. ap (λ (y : Frame). y.tag) ((puts s.frame f fr g).same e)) (λ g o. ap (λ (y : Frame). y.tag) ((puts s.frame f fr g).other o)))
 kind_step_keeps s i f erase_tag v h there live inside a m = let tag = (s.frame f).tag in let p = s.partition_of tag in let c : MapChange = Leaving tag f in let x : Partition = record (s.partition p) { owed = c } in let fr : Frame = record (s.frame f) { tag = no_tag } in
     let free = unowed s h i f v there live inside p (h.placed tag) m.held (m.no_change p) in
     naming s h i f v there live inside erase_tag p c a tt (h.placed tag) m.held m.unchanged (m.no_change p) refl
     (maps_leaving s.frames s.partition_of (λ q. (s.partition q).map) (λ q. (s.partition q).owed) (λ g. (s.frame g).tag) h.maps tag f (λ q. (put s.partition p x q).owed) (λ g. (put s.frame f fr g).tag) a.named inside free refl
     (λ q e. ap (λ (y : Partition). y.owed) ((puts s.partition p x q).same e)) (λ q o. ap (λ (y : Partition). y.owed) ((puts s.partition p x q).other o))
     (λ g e. ap (λ (y : Frame). y.tag) ((puts s.frame f fr g).same e)) (λ g o. ap (λ (y : Frame). y.tag) ((puts s.frame f fr g).other o)))
-    (λ named. absurd (named refl))
 kind_step_keeps s i f (pin_mapped tag ring) v h there live inside a m = let p = s.partition_of tag in let pair = h.maps.mapped p tag f m.given in
     plain s h i f v there live inside (pin_mapped tag ring) a (has_tag ((s.partition p).map tag) (s.partition p).owed (s.frame f).tag tag f (h.maps.pairs tag f pair.named inside) m.given (unowed s h i f v there live inside p (h.placed tag) m.held m.no_change), pair.named) refl refl
 kind_step_keeps s i f k v h there live inside a around = plain s h i f v there live inside k a tt refl refl
@@ -180,10 +177,93 @@ module _ (s : State) (h : PinInvariant s) (i p : ℕ) (v : View) (there : get_el
     turns = touch turn_shape turn_part turn_part s.partitions s.partition (λ _. tt) (λ _. tt) s.views i p v w (partition_after k (s.partition p) (hold v p)) y h.turns h.turns there below
         (record { own = refl; here = get_or-set_same v.partitions p y no_partition (subst (λ (n : ℕ). p < n) (sym (h.views.wide i v there live).1) below); else = λ q other. get_or-set_other v.partitions p q y no_partition other }) (λ g _ other. refl) (turn_keeps k (s.partition p) (hold v p) a);
     apart = h.apart;
-    blocks = h.blocks;
-    maps = maps_after k a;
+      maps = maps_after k a;
     placed = h.placed;
     views = views_set s.frames s.partitions s.backends s.views h.views i v w there (record { emptied = refl; number = refl; next = refl; links = refl; partitions = length-set v.partitions p y });
+    accounted = accounted_set s.views i v w h.accounted there refl refl;
+  }
+
+-- a pin that was seen below its fork's size, and one under which a fork grew
+seen_link : (fr : Frame) (l : Link) → l.tag ≢ None → LinkLaw fr l → LinkLaw fr (record l { inside = true })
+seen_link fr l known h = grind (arith, known, h)
+
+pub remembered : (fr : Frame) (o : Option ℕ) → ((tag : ℕ) → o ≡ Some tag → HasTag fr × (fr.tag ≡ tag)) → o ≢ None → HasTag fr
+remembered fr None h known = absurd (known refl)
+remembered fr (Some tag) h known = (h tag refl).0
+
+extended_law : (fr : Frame) (l : Link) → l.noted ≡ true → l.pending ≡ false → LinkLaw fr l → LinkLaw fr (extended_link l)
+extended_law fr l noted settled h = let tagged = remembered fr l.tag h.remembers ((h.noted noted).known settled) in grind (arith, noted, settled, h, tagged)
+
+extended_weight : (fr : Frame) (l : Link) → l.noted ≡ true → LinkLaw fr l → (k : Tally) → weigh k (extended_link l) ≡ weigh k l
+extended_weight fr l noted h pins = grind (arith, noted, h)
+extended_weight fr l noted h headers = refl
+extended_weight fr l noted h pendings = refl
+extended_weight fr l noted h settled_pins = grind (arith, noted, h)
+extended_weight fr l noted h settled_headers = refl
+
+-- The link weighs what it weighed, and keeps its law
+pub record IsAlike (l m : Link) : Type 0 where
+  pub weighs : (k : Tally) → weigh k m ≡ weigh k l
+  pub keeps : (fr : Frame) → LinkLaw fr l → LinkLaw fr m
+
+seen_weight : (l : Link) (k : Tally) → weigh k (record l { inside = true }) ≡ weigh k l
+seen_weight l pins = refl
+seen_weight l headers = refl
+seen_weight l pendings = refl
+seen_weight l settled_pins = refl
+seen_weight l settled_headers = refl
+
+-- Backend i, whose view is v, makes a step at the size of a fork
+module _ (s : State) (h : PinInvariant s) (i fork : ℕ) (v : View) (there : get_elem? s.views i ≡ some v) (live : v.emptied ≡ false) where
+  -- what holds of a link and itself, of one that was seen inside, and of one under which a fork grew, holds of each link before and after the step
+  pub sized_links : (Q : Link → Link → Type 0) (k : SizeKind) → SizeAllowed k s v fork → ((l : Link) → Q l l) → ((l : Link) → l.tag ≢ None → Q l (record l { inside = true })) → ((f end : ℕ) → CanEnterExtension f s v fork → k ≡ enter_extension f end → Q (link v f) (extended_link (link v f)))
+      → (g : ℕ) → Q (link v g) (link (view_sized k fork s v) g)
+  sized_links Q k a same seen grown = by_kind k a grown
+    where
+      put_link : (f : ℕ) (l : Link) → f < s.frames → Q (link v f) l → (g : ℕ) → Q (link v g) (slice_index_or (slice_set v.links f l) g idle)
+      put_link f l below q g = dite (ℕ_discrete g f)
+          (λ e. subst (λ (z : ℕ). Q (link v z) (slice_index_or (slice_set v.links f l) z idle)) (sym e) (subst (λ (x : Link). Q (link v f) x) (sym (get_or-set_same v.links f l idle (subst (λ (n : ℕ). f < n) (sym (h.views.wide i v there live).0) below))) q))
+          (λ o. subst (λ (x : Link). Q (link v g) x) (sym (get_or-set_other v.links f g l idle o)) (same (link v g)))
+
+      by_seen : (o : Option ℕ) → MaySee o s v fork → (g : ℕ) → Q (link v g) (slice_index_or (links_seen o v) g idle)
+      by_seen None a g = same (link v g)
+      by_seen (Some f) a g = put_link f (record (link v f) { inside = true }) a.inside (seen (link v f) (λ e. let r = a.remembered in cc)) g
+
+      by_kind : (k : SizeKind) → SizeAllowed k s v fork → ((f end : ℕ) → CanEnterExtension f s v fork → k ≡ enter_extension f end → Q (link v f) (extended_link (link v f))) → (g : ℕ) → Q (link v g) (link (view_sized k fork s v) g)
+      by_kind load_size a grown g = same (link v g)
+      by_kind share_size a grown g = same (link v g)
+      by_kind exclude_size a grown g = same (link v g)
+      by_kind (unshare_size seen) a grown g = by_seen seen a.sees g
+      by_kind unexclude_size a grown g = same (link v g)
+      by_kind (pass_frame f n) a grown g = same (link v g)
+      by_kind store_size a grown g = same (link v g)
+      by_kind (enter_extension f end) a grown g = put_link f (extended_link (link v f)) a.inside (grown f end a refl) g
+      by_kind (enter_cut n end) a grown g = same (link v g)
+
+  pub sized_alike : (k : SizeKind) → SizeAllowed k s v fork → (g : ℕ) → IsAlike (link v g) (link (view_sized k fork s v) g)
+  sized_alike k a g = sized_links IsAlike k a (λ l. record { weighs = λ k. refl; keeps = λ fr x. x }) (λ l known. record { weighs = seen_weight l; keeps = λ fr x. seen_link fr l known x })
+      (λ f end b e. record { weighs = extended_weight (s.frame f) (link v f) b.noted (h.grid.cells i v f there b.inside); keeps = λ fr x. extended_law fr (link v f) b.noted b.settled x }) g
+
+  sized_width : (k : SizeKind) → length (links_after k v) ≡ length v.links
+  sized_width load_size = refl
+  sized_width share_size = refl
+  sized_width exclude_size = refl
+  sized_width (unshare_size None) = refl
+  sized_width (unshare_size (Some f)) = length-set v.links f (record (link v f) { inside = true })
+  sized_width unexclude_size = refl
+  sized_width (pass_frame f n) = refl
+  sized_width store_size = refl
+  sized_width (enter_extension f end) = length-set v.links f (extended_link (link v f))
+  sized_width (enter_cut n end) = refl
+
+  pub size_step_keeps : (k : SizeKind) → SizeAllowed k s v fork → PinInvariant (state_sized k s i fork v)
+  size_step_keeps k a = let w : View = view_sized k fork s v in record {
+    grid = steady_alike frame_shape pin_part s.frames s.frame (λ _. tt) s.views h.grid i v w there refl (λ g. (sized_alike k a g).weighs) (λ g b c o x. (sized_alike k a g).keeps c x);
+    turns = steady turn_shape turn_part s.partitions s.partition (λ _. tt) s.views h.turns i v w there refl (λ p. refl);
+    apart = h.apart;
+    maps = h.maps;
+    placed = h.placed;
+    views = views_set s.frames s.partitions s.backends s.views h.views i v w there (record { emptied = refl; number = refl; next = refl; links = sized_width k; partitions = refl });
     accounted = accounted_set s.views i v w h.accounted there refl refl;
   }
 
@@ -225,7 +305,6 @@ split_keeps s v h there room = let w : View = record v { next = v.next + 1 } in 
   grid = grows frame_shape pin_part s.frames s.frame (λ _. tt) (set s.views 0 w) (steady frame_shape pin_part s.frames s.frame (λ _. tt) s.views h.grid 0 v w there refl (λ g. refl)) (new_view v.next s.base n p m) (new_none v.next s.base n p m) (λ g below. new_link v.next s.base n p m g (s.frame g));
   turns = grows turn_shape turn_part s.partitions s.partition (λ _. tt) (set s.views 0 w) (steady turn_shape turn_part s.partitions s.partition (λ _. tt) s.views h.turns 0 v w there refl (λ g. refl)) (new_view v.next s.base n p m) (λ q _. new_unheld v.next s.base n p m q) (λ q below. new_hold v.next s.base n p m q (s.partition q));
   apart = h.apart;
-  blocks = h.blocks;
   maps = h.maps;
   placed = h.placed;
   views = views_split s.frames s.partitions s.backends s.views h.views s.base v there room;
@@ -239,7 +318,6 @@ join_keeps s j v u h there other here live free = let w : View = joined_view v u
   turns = sweep turn_shape turn_part turn_part s.partitions s.partition s.partition (λ _. tt) (λ _. tt) vs j u emptied_view (steady turn_shape turn_part s.partitions s.partition (λ _. tt) s.views h.turns 0 v w there refl (λ g. refl)) (set_else s.views 0 j w other ∙ here)
       (λ q below. turn_forgets (s.partition q) (hold u q) no_partition (free.partitions q) refl refl refl refl refl);
   apart = h.apart;
-  blocks = h.blocks;
   maps = h.maps;
   placed = h.placed;
   views = views_emptied s.frames s.partitions s.backends vs (views_set s.frames s.partitions s.backends s.views h.views 0 v w there (joined_same v u)) j other;
@@ -249,6 +327,7 @@ join_keeps s j v u h there other here live free = let w : View = joined_view v u
 pub step_keeps : {e : Event} {s t : State} → Step e s t → PinInvariant s → PinInvariant t
 step_keeps (touches {s = s} i f k v there live inside a around) h = kind_step_keeps s i f k v h there live inside a around
 step_keeps (turns {s = s} i p k v there live below a) h = turn_step_keeps s h i p v there live below k a
+step_keeps (sized {s = s} i fork k v there live a) h = size_step_keeps s h i fork v there live k a
 step_keeps (splits {s = s} v there room) h = split_keeps s v h there room
 step_keeps (joins {s = s} j v u there other here live free) h = join_keeps s j v u h there other here live free
 

@@ -30,8 +30,8 @@ pub record PendingFrame (fr : Frame) : Type 0 where
   pub entering : fr.tag ≢ no_tag → fr.word.tag_valid ≡ false
   -- where all ones was stored, BM_TAG_VALID stands
   pub leaving : fr.tag ≡ no_tag → fr.word.tag_valid ≡ true
-  -- the frame isn't dirty
-  pub clean : fr.word.dirty ≡ false
+  -- a frame that is given a tag isn't dirty
+  pub clean : fr.tag ≢ no_tag → fr.word.dirty ≡ false
 
 -- What holds of a frame and of the sums over the views there
 pub record FrameLaw (fr : Frame) (t : Tally → ℕ) : Type 0 where
@@ -67,6 +67,15 @@ pub record PendingLink (l : Link) : Type 0 where
   pub unread : l.tag ≡ None
   pub unseen : l.seen_valid ≡ false
 
+-- What a view has there that notes the frame's block as one by which the fork is to grow
+pub record NotedLink (fr : Frame) (l : Link) : Type 0 where
+  -- the frame's tag word isn't all ones
+  pub named : fr.tag ≢ no_tag
+  -- its pin there is its victim pin
+  pub victim : l.role ≡ Victim
+  -- which remembers the tag, once the frame is assigned
+  pub known : l.pending ≡ false → l.tag ≢ None
+
 -- What holds of a frame and of what a view has there
 pub record LinkLaw (fr : Frame) (l : Link) : Type 0 where
   -- the state word is the word of the view that holds the header
@@ -81,6 +90,10 @@ pub record LinkLaw (fr : Frame) (l : Link) : Type 0 where
   pub unpinned : l.role ≡ Absent → (l.tag ≡ None) × (l.seen_valid ≡ false)
   -- a view that has stored the tag word holds the header, and its victim pin knows neither the tag nor BM_VALID
   pub pending : l.pending ≡ true → PendingLink l
+  -- a view that notes the frame's block as one by which the fork is to grow keeps its victim pin there
+  pub noted : l.noted ≡ true → NotedLink fr l
+  -- a pin whose block was seen below its fork's size remembers the tag
+  pub inside : l.inside ≡ true → l.tag ≢ None
 
 abbrev pub pin_part : Part frame_shape
 pin_part = record { column = λ _ fr t. FrameLaw fr t; cell = λ _ fr _ l. LinkLaw fr l }
@@ -109,16 +122,11 @@ AllAccounted views = (v : View) → get_elem? views 0 ≡ some v → total (λ (
 abbrev pub TagsApart : ℕ → (ℕ → Frame) → Type 0
 TagsApart frames frame = (f g : ℕ) → f < frames → g < frames → (frame f).tag ≢ no_tag → (frame f).tag ≡ (frame g).tag → f ≡ g
 
--- a tag word that isn't all ones is a block of the relations
-abbrev pub TagsAreBlocks : (ℕ → Bool) → ℕ → (ℕ → Frame) → Type 0
-TagsAreBlocks is_block frames frame = (f : ℕ) → f < frames → (frame f).tag ≢ no_tag → is_block (frame f).tag ≡ true
-
 -- What holds of pins, headers, tags and maps
 pub record PinInvariant (s : State) : Type 0 where
   pub grid : Grid frame_shape pin_part s.frames s.frame (λ _. tt) s.views
   pub turns : Grid turn_shape turn_part s.partitions s.partition (λ _. tt) s.views
   pub apart : TagsApart s.frames s.frame
-  pub blocks : TagsAreBlocks s.is_block s.frames s.frame
   pub maps : MapLaw s.frames s.partition_of (λ p. (s.partition p).map) (λ p. (s.partition p).owed) (λ f. (s.frame f).tag)
   -- each tag has a partition
   pub placed : (tag : ℕ) → s.partition_of tag < s.partitions

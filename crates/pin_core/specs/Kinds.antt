@@ -34,6 +34,8 @@ pub data Kind : Type 0 where
   unlock_header : Kind
   -- under the header a frame without a tag is given one (`BufferAlloc`)
   store_tag : ℕ → Kind
+  -- likewise, with the tag of the block at its fork's size, by which the fork is to grow (`ExtendBufferedRelShared`)
+  store_new_tag : ℕ → Kind
   -- under the header a frame's tag is taken away (`InvalidateVictimBuffer`: `ClearBufferTag`)
   erase_tag : Kind
   -- a load of the tag word
@@ -82,6 +84,7 @@ pub record CanUnpin (fr : Frame) (l : Link) : Type 0 where
   pub no_content : l.content ≡ Unlocked
   pub no_io : l.io ≡ Quiet
   pub no_wait : l.waits ≡ None
+  pub unnoted : l.noted ≡ false
 
 -- the view holds no header at all, besides (`AllowedAround`)
 pub record CanLockHeader (fr : Frame) (l : Link) : Type 0 where
@@ -108,11 +111,11 @@ pub record CanStoreTag (tag : ℕ) (fr : Frame) (l : Link) : Type 0 where
   pub packed : is_tag tag ≡ true
   pub untagged : fr.word.tag_valid ≡ false
 
--- the view has the latch of its partition, besides (`AllowedAround`)
+-- the frame isn't dirty, unless its block is one by which the fork didn't grow after all; the view has the latch of its partition, besides (`AllowedAround`)
 pub record CanEraseTag (fr : Frame) (l : Link) : Type 0 where
   pub alone : IsAlone fr l
   pub named : fr.tag ≢ no_tag
-  pub clean : fr.word.dirty ≡ false
+  pub clean : l.noted ≡ false → fr.word.dirty ≡ false
 
 -- a pin, or the header
 abbrev pub CanLoadTag : Role → Option StateWord → Type 0
@@ -150,6 +153,7 @@ Allowed unpin fr l = CanUnpin fr l
 Allowed lock_header fr l = CanLockHeader fr l
 Allowed unlock_header fr l = CanUnlockHeader fr l
 Allowed (store_tag tag) fr l = CanStoreTag tag fr l
+Allowed (store_new_tag tag) fr l = CanStoreTag tag fr l
 Allowed erase_tag fr l = CanEraseTag fr l
 Allowed load_tag fr l = CanLoadTag l.role l.header
 Allowed pin_victim fr l = CanPinVictim fr l
@@ -170,12 +174,18 @@ frame_after unpin fr = record fr { word = unpinned_fields fr.word }
 frame_after lock_header fr = record fr { word = locked_fields fr.word }
 frame_after unlock_header fr = released fr.word fr
 frame_after (store_tag tag) fr = record fr { tag = tag }
+frame_after (store_new_tag tag) fr = record fr { tag = tag }
 frame_after erase_tag fr = record fr { tag = no_tag }
 frame_after load_tag fr = fr
 frame_after pin_victim fr = released (record fr.word { pins = fr.word.pins + 1 }) fr
 frame_after lower_usage fr = released (usage_down_fields fr.word) fr
 frame_after assign fr = released (assigned_fields fr.word) fr
 frame_after clear fr = released (cleared_fields fr.word) fr
+
+-- a pin under which a fork is to grow stays a victim's: it is handed out once the growth is in the log
+abbrev pub assigned_role : Bool → Role
+assigned_role true = Victim
+assigned_role false = HandedOut
 
 -- What a kind makes of what the view has there
 abbrev pub link_after : Kind → Frame → Link → Link
@@ -187,15 +197,16 @@ link_after load_state fr l = record l {
 }
 link_after (pin ring) fr l = record l { role = HandedOut; ring = ring }
 link_after (pin_mapped tag ring) fr l = record l { role = HandedOut; tag = Some tag; ring = ring }
-link_after unpin fr l = record l { role = Absent; tag = None; seen_valid = false; ring = false }
+link_after unpin fr l = record l { role = Absent; tag = None; seen_valid = false; ring = false; inside = false }
 link_after lock_header fr l = record l { header = Some (locked_fields fr.word) }
 link_after unlock_header fr l = record l { header = None }
-link_after (store_tag tag) fr l = record l { tag = None; seen_valid = false; pending = true }
-link_after erase_tag fr l = record l { tag = None; seen_valid = false; pending = true }
+link_after (store_tag tag) fr l = record l { tag = None; seen_valid = false; pending = true; inside = false }
+link_after (store_new_tag tag) fr l = record l { tag = None; seen_valid = false; pending = true; noted = true; inside = false }
+link_after erase_tag fr l = record l { tag = None; seen_valid = false; pending = true; noted = false; inside = false }
 link_after load_tag fr l = record l { tag = tag_after l.pending l.role fr.tag l.tag }
 link_after pin_victim fr l = record l { role = Victim; ring = false; header = None }
 link_after lower_usage fr l = record l { header = None }
-link_after assign fr l = record l { role = HandedOut; tag = Some fr.tag; header = None; pending = false }
+link_after assign fr l = record l { role = assigned_role l.noted; tag = Some fr.tag; header = None; pending = false }
 link_after clear fr l = record l { header = None; pending = false }
 
 -- what a load saw
@@ -212,6 +223,7 @@ changed f fr left changes = changes ++ record { frame = f; found = fr.word; left
 abbrev pub changes_after : Kind → ℕ → Frame → List WordChange → List WordChange
 changes_after load_state f fr changes = changes
 changes_after (store_tag tag) f fr changes = changes
+changes_after (store_new_tag tag) f fr changes = changes
 changes_after erase_tag f fr changes = changes
 changes_after load_tag f fr changes = changes
 changes_after k f fr changes = changed f fr (frame_after k fr).word changes
@@ -250,6 +262,7 @@ load_of v what = record { loaded_word = what; pins = map (λ (l : Link). is_pin 
 -- the pair that a kind at the frame f names in change
 abbrev pub named_by : Kind → ℕ → Frame → MapChange
 named_by (store_tag tag) f fr = Entering tag f
+named_by (store_new_tag tag) f fr = Entering tag f
 named_by erase_tag f fr = Leaving fr.tag f
 named_by _ f fr = Stable
 

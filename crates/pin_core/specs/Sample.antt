@@ -12,7 +12,7 @@ use Rattle.pin_core.specs.Steps.{Event, at, turn, split, Run}
 
 -- two frames, one partition, and room for two backends
 abbrev pub sample_config : Config
-sample_config = record { frames = 2; partitions = 1; partition_of = λ _. 0; is_block = λ _. true; lanes = 0; backends = 2; base = 0 }
+sample_config = record { frames = 2; partitions = 1; partition_of = λ _. 0; is_fork = λ _. true; sizes = λ _. 8; resizes = false; lanes = 0; backends = 2; base = 0 }
 
 abbrev pub sample_start : State
 sample_start = opening sample_config []

@@ -1,5 +1,5 @@
 -- What every list of events keeps, in the field's words.
-use Rattle.std.specs.Prelude.{◌≡◌, ◌≢◌, ℕ, ◌<◌, ◌≤◌, Bool, true, false, List, [], ◌∷◌, Option, Some, None, ◌↔◌, count_by, if◌then◌else◌}
+use Rattle.std.specs.Prelude.{◌≡◌, ◌≢◌, ◌⊎◌, ℕ, ◌<◌, ◌≤◌, Bool, true, false, List, [], ◌∷◌, Option, Some, None, ◌↔◌, count_by, if◌then◌else◌}
 use mathlib.Core.Option.{some}
 use lib.ListN.{get_elem?}
 use Rattle.state_word.specs.declared.word.StateWord.{StateWord}
@@ -7,10 +7,13 @@ use Rattle.pin_core.specs.declared.view.Role.TheVariants.{Absent, HandedOut}
 use Rattle.pin_core.specs.declared.view.MapChange.TheVariants.{Stable, Entering, Leaving}
 use Rattle.pin_core.specs.declared.view.MapEntry.{MapEntry}
 use Rattle.pin_core.specs.declared.view.View.{View}
-use Rattle.pin_core.specs.State.{Page, State, Config, CanOpen, no_tag, is_tag, link, hold, pins_frame, opening}
+use Rattle.pin_core.specs.declared.view.SizeRight.{SizeRight}
+use Rattle.pin_core.specs.declared.view.SizeRight.TheVariants as size_right
+use Rattle.pin_core.specs.State.{Page, State, Config, CanOpen, no_tag, is_tag, is_block, link, hold, size_hold, pins_frame, opening}
 use Rattle.pin_core.specs.Invariant.{HasTag}
 use Rattle.pin_core.specs.Maps.{IsPair}
 use Rattle.pin_core.specs.Turns.{found}
+use Rattle.pin_core.specs.Sizes.{IsNoted}
 use Rattle.pin_core.specs.Kinds.{unpin}
 use Rattle.pin_core.specs.Steps.{Event, at, Run}
 
@@ -89,9 +92,43 @@ UntaggedFramesHaveOnePin s = (f : ℕ) → f < s.frames → (s.frame f).tag ≡ 
 abbrev pub TagWordsAreTags : State → Type 0
 TagWordsAreTags s = (f : ℕ) → f < s.frames → (s.frame f).tag ≢ no_tag → is_tag (s.frame f).tag ≡ true
 
--- and is a block of the relations
-abbrev pub TagWordsAreBlocks : State → Type 0
-TagWordsAreBlocks s = (f : ℕ) → f < s.frames → (s.frame f).tag ≢ no_tag → s.is_block (s.frame f).tag ≡ true
+-- and is a block of the relations; but where forks may grow, it may be the block at its fork's size, noted by the backend that has the exclusive right on that
+pub record TagWordsAreBlocks (s : State) : Type 0 where
+  pub noted : (f : ℕ) → f < s.frames → (s.frame f).tag ≢ no_tag → (is_block s (s.frame f).tag ≡ true) ⊎ IsNoted s f
+  pub quiet : s.resizes ≡ false → (f : ℕ) → f < s.frames → (s.frame f).tag ≢ no_tag → is_block s (s.frame f).tag ≡ true
+
+abbrev pub is_shared : SizeRight → Bool
+is_shared size_right.Unheld = false
+is_shared size_right.Shared = true
+is_shared size_right.Exclusive = false
+
+abbrev pub is_exclusive : SizeRight → Bool
+is_exclusive size_right.Unheld = false
+is_exclusive size_right.Shared = false
+is_exclusive size_right.Exclusive = true
+
+-- whether the view has the shared right on the fork's size, or the exclusive one
+abbrev pub shares_size : ℕ → View → Bool
+shares_size fork v = is_shared (size_hold v fork).right
+
+abbrev pub excludes_size : ℕ → View → Bool
+excludes_size fork v = is_exclusive (size_hold v fork).right
+
+-- A size word counts the backends with the shared right, and its bit stands where one has the exclusive right, which excludes the others
+pub record SizeRights (s : State) (fork : ℕ) : Type 0 where
+  pub sharers : (s.size fork).sharers ≡ count_by (shares_size fork) s.views
+  pub exclusive : count_by (excludes_size fork) s.views ≡ (if (s.size fork).exclusive then 1 else 0)
+  pub apart : (s.size fork).exclusive ≡ true → (s.size fork).sharers ≡ 0
+
+-- Without an exclusive right, or under one under which no change was made yet, a size word is the fork's size by the log; and it is what a backend found that has a right
+pub record SizesAreLogged (s : State) (fork : ℕ) : Type 0 where
+  pub free : (s.size fork).exclusive ≡ false → (s.size fork).blocks ≡ (s.size fork).logged
+  pub unmade : (i : ℕ) (v : View) → get_elem? s.views i ≡ some v → (size_hold v fork).right ≡ size_right.Exclusive → (size_hold v fork).made ≡ None → (s.size fork).blocks ≡ (s.size fork).logged
+  pub found : (i : ℕ) (v : View) → get_elem? s.views i ≡ some v → (size_hold v fork).right ≢ size_right.Unheld → (size_hold v fork).made ≡ None → ((size_hold v fork).blocks ≡ (s.size fork).blocks) × ((size_hold v fork).blocks ≡ (s.size fork).logged)
+
+-- a pin whose block was seen below its fork's size is of a block that is there still
+abbrev pub SeenBlocksStay : State → Type 0
+SeenBlocksStay s = (i f : ℕ) (v : View) → get_elem? s.views i ≡ some v → f < s.frames → (link v f).inside ≡ true → HasTag (s.frame f) × (is_block s (s.frame f).tag ≡ true)
 
 -- where the header isn't locked BM_TAG_VALID stands exactly where the tag word isn't all ones
 abbrev pub FlagsMatchTags : State → Type 0

@@ -1,5 +1,5 @@
 -- The frames of the buffer pool, and what each backend knows.
-use Rattle.std.specs.Prelude.{ℕ, ◌+◌, ◌<◌, Bool, true, false, List, [], ◌∷◌, ◌++◌, replicate, length, map, max, slice_index_or, slice_set, ◌||◌, Option, None}
+use Rattle.std.specs.Prelude.{◌≡◌, ℕ, ◌+◌, ◌*◌, ◌/◌, ◌%◌, ◌<◌, Bool, true, false, List, [], ◌∷◌, ◌++◌, replicate, length, map, max, nat_eq, nat_lt, nat_le, slice_index_or, slice_set, ◌&&◌, ◌||◌, Option, None, if◌then◌else◌}
 use Rattle.state_word.specs.declared.word.StateWord.{StateWord}
 use Rattle.pin_core.specs.declared.view.Role.{Role}
 use Rattle.pin_core.specs.declared.view.Role.TheVariants.{Absent, HandedOut, Victim}
@@ -14,6 +14,8 @@ use Rattle.pin_core.specs.declared.view.Link.{Link}
 use Rattle.pin_core.specs.declared.view.PartitionHold.{PartitionHold}
 use Rattle.pin_core.specs.declared.view.LaneHold.{LaneHold}
 use Rattle.pin_core.specs.declared.view.LogHold.{LogHold}
+use Rattle.pin_core.specs.declared.view.SizeRight.TheVariants as size_right
+use Rattle.pin_core.specs.declared.view.SizeHold.{SizeHold}
 use Rattle.pin_core.specs.declared.view.FailedCalls.{FailedCalls}
 use Rattle.pin_core.specs.declared.view.JoinedCheckpoint.{JoinedCheckpoint}
 use Rattle.pin_core.specs.declared.view.View.{View}
@@ -46,6 +48,15 @@ pub record Partition : Type 0 where
   -- the pair that the holder of the latch has named, and not yet entered or left out
   pub owed : MapChange
 
+-- The size of a fork
+pub record SizeWord : Type 0 where
+  -- the word: how many blocks the fork has, how many backends have the shared right on that, and whether one has the exclusive right
+  pub blocks : ℕ
+  pub sharers : ℕ
+  pub exclusive : Bool
+  -- how many blocks it has by the log
+  pub logged : ℕ
+
 -- The buffer pool, and what each backend knows
 pub record State : Type 0 where
   -- how many frames there are, and how many backends there may be
@@ -56,15 +67,40 @@ pub record State : Type 0 where
   -- how many partitions there are, and the partition of each tag (`BufTableHashPartition`)
   pub partitions : ℕ
   pub partition_of : ℕ → ℕ
-  -- whether a tag word is a block of the relations
-  pub is_block : ℕ → Bool
+  -- whether a number is that of a fork of the relations, and whether forks may grow and shrink
+  pub is_fork : ℕ → Bool
+  pub resizes : Bool
   pub frame : ℕ → Frame
   pub partition : ℕ → Partition
+  -- the size of each fork, by its number
+  pub size : ℕ → SizeWord
   pub views : List View
 
 -- the tag word of a frame without a tag: all ones
 abbrev pub no_tag : ℕ
 no_tag = 18446744073709551615
+
+-- a tag's fork, and its block there; the tag of a fork's first block
+unfoldable pub tag_fork : ℕ → ℕ
+tag_fork tag = tag / 4294967296
+
+unfoldable pub tag_block : ℕ → ℕ
+tag_block tag = tag % 4294967296
+
+abbrev pub first_block : ℕ → ℕ
+first_block fork = fork * 4294967296
+
+-- whether a tag word is a block below its fork's size
+abbrev pub is_below : (ℕ → ℕ) → ℕ → Bool
+is_below sizes tag = nat_lt (tag_block tag) (sizes (tag_fork tag))
+
+-- whether it is a block of the relations: below its fork's size by the log
+abbrev pub is_block : State → ℕ → Bool
+is_block s tag = nat_lt (tag_block tag) (s.size (tag_fork tag)).logged
+
+-- whether a cut of a fork to n blocks takes the block of a tag word away
+abbrev pub is_cut : ℕ → ℕ → ℕ → Bool
+is_cut fork n tag = nat_eq (tag_fork tag) fork && nat_le n (tag_block tag)
 
 -- whether a tag word is a packed buffer tag
 unfoldable pub is_tag : ℕ → Bool
@@ -95,6 +131,8 @@ idle = record {
   waits = None;
   visited = false;
   left_to_write = false;
+  noted = false;
+  inside = false;
 }
 
 abbrev pub no_partition : PartitionHold
@@ -105,6 +143,24 @@ no_lane = record { held = false; out = None; change = lane_change.Untouched; flu
 
 abbrev pub no_log : LogHold
 no_log = record { held = false; out = None; change = log_change.Untouched; appended = None; synced = false; end = None; redo = None }
+
+-- a backend has no right on a fork's size
+abbrev pub no_size : SizeHold
+no_size = record { fork = 0; right = size_right.Unheld; blocks = 0; cut_to = None; passed = []; made = None; stored = false }
+
+-- what is held of a fork's size
+unfoldable pub size_in : List SizeHold → ℕ → SizeHold
+size_in [] fork = no_size
+size_in (h ∷ hs) fork = if nat_eq fork h.fork then h else size_in hs fork
+
+-- what is held of the other forks' sizes
+unfoldable pub without_size : ℕ → List SizeHold → List SizeHold
+without_size fork [] = []
+without_size fork (h ∷ hs) = if nat_eq fork h.fork then without_size fork hs else h ∷ without_size fork hs
+
+-- what a view has of a fork's size
+abbrev pub size_hold : View → ℕ → SizeHold
+size_hold v fork = size_in v.sizes fork
 
 -- what a view has of the latch of the partition p
 abbrev pub hold : View → ℕ → PartitionHold
@@ -138,6 +194,7 @@ new_view number base frames partitions lanes = record {
   links = replicate frames idle;
   partitions = replicate partitions no_partition;
   lanes = replicate lanes no_lane;
+  sizes = [];
   log = no_log;
   flushed = base;
   raised_to = base;
@@ -231,13 +288,19 @@ empty_frame p = record { word = zero_word; tag = no_tag; sharers = 0; exclusive 
 abbrev pub empty_partition : Partition
 empty_partition = record { taken = false; map = λ _. None; owed = Stable }
 
+-- a fork at the start: it has n blocks, and nobody has a right on that
+abbrev pub opened_size : ℕ → SizeWord
+opened_size n = record { blocks = n; sharers = 0; exclusive = false; logged = n }
+
 -- what a buffer pool is made of
 pub record Config : Type 0 where
   pub frames : ℕ
   pub partitions : ℕ
   pub partition_of : ℕ → ℕ
-  -- whether a tag word is a block of the relations
-  pub is_block : ℕ → Bool
+  -- whether a number is that of a fork of the relations, how many blocks each fork has, and whether forks may grow and shrink
+  pub is_fork : ℕ → Bool
+  pub sizes : ℕ → ℕ
+  pub resizes : Bool
   pub lanes : ℕ
   pub backends : ℕ
   -- where the log begins
@@ -256,8 +319,10 @@ opening c page = record {
   base = c.base;
   partitions = c.partitions;
   partition_of = c.partition_of;
-  is_block = c.is_block;
+  is_fork = c.is_fork;
+  resizes = c.resizes;
   frame = λ _. empty_frame page;
   partition = λ _. empty_partition;
+  size = λ fork. opened_size (c.sizes fork);
   views = first_view c.base c.frames c.partitions c.lanes ∷ [];
 }

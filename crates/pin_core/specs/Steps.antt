@@ -8,10 +8,12 @@ use Rattle.pin_core.specs.declared.view.Io.TheVariants.{Quiet}
 use Rattle.pin_core.specs.declared.view.Link.{Link}
 use Rattle.pin_core.specs.declared.view.View.{View}
 use Rattle.pin_core.specs.declared.view.MapChange.TheVariants.{Stable}
-use Rattle.pin_core.specs.State.{State, link, hold, lane_hold, split_state, joined_state}
+use Rattle.pin_core.specs.declared.view.SizeRight.TheVariants as size_right
+use Rattle.pin_core.specs.State.{State, link, hold, lane_hold, size_hold, tag_fork, tag_block, is_block, split_state, joined_state}
 use Rattle.grid.specs.Shape.{put}
-use Rattle.pin_core.specs.Kinds.{Kind, lock_header, store_tag, erase_tag, pin_mapped, pin_victim, Allowed, frame_after, named_by, partitions_owing, view_after}
+use Rattle.pin_core.specs.Kinds.{Kind, lock_header, store_tag, store_new_tag, erase_tag, pin_mapped, pin_victim, Allowed, frame_after, named_by, partitions_owing, view_after}
 use Rattle.pin_core.specs.Turns.{TurnKind, TurnAllowed, partition_after, view_turned}
+use Rattle.pin_core.specs.Sizes.{SizeKind, MayResize, SizeAllowed, state_sized}
 
 -- the view holds no header
 abbrev pub HoldsNoHeader : View → Type 0
@@ -27,10 +29,24 @@ pub record MayName (s : State) (v : View) (tag : ℕ) : Type 0 where
   pub unchanged : (hold v (s.partition_of tag)).changed ≡ false
   pub no_change : (p : ℕ) → (hold v p).change ≡ Stable
 
--- and the map lacks the tag, which is a block's
+-- the view has the shared right on the size of the tag's fork, and found the block below it
+pub record HasRoom (v : View) (tag : ℕ) : Type 0 where
+  pub right : (size_hold v (tag_fork tag)).right ≡ size_right.Shared
+  pub below : tag_block tag < (size_hold v (tag_fork tag)).blocks
+
+-- and the map lacks the tag, which is a block's; if forks may grow and shrink the view has a right that keeps the block there
 pub record MayEnter (s : State) (v : View) (tag : ℕ) : Type 0 where
   pub naming : MayName s v tag
-  pub block : s.is_block tag ≡ true
+  pub block : is_block s tag ≡ true
+  pub room : s.resizes ≡ true → HasRoom v tag
+  pub lacking : (s.partition (s.partition_of tag)).map tag ≡ None
+
+-- likewise of the block at the size of its fork, on which the view has the exclusive right, with no frame passed for a cut
+pub record MayEnterNew (s : State) (v : View) (tag : ℕ) : Type 0 where
+  pub naming : MayName s v tag
+  pub may : MayResize s v (tag_fork tag)
+  pub unpassed : (size_hold v (tag_fork tag)).cut_to ≡ None
+  pub at : tag_block tag ≡ (size_hold v (tag_fork tag)).blocks
   pub lacking : (s.partition (s.partition_of tag)).map tag ≡ None
 
 -- the view has the latch of the tag's partition, whose map gives the frame, and names no pair in change there
@@ -44,14 +60,16 @@ abbrev pub AllowedAround : Kind → State → View → ℕ → Type 0
 AllowedAround lock_header s v f = HoldsNoHeader v
 AllowedAround pin_victim s v f = HasNoVictim v
 AllowedAround (store_tag tag) s v f = MayEnter s v tag
+AllowedAround (store_new_tag tag) s v f = MayEnterNew s v tag
 AllowedAround erase_tag s v f = MayName s v (s.frame f).tag
 AllowedAround (pin_mapped tag ring) s v f = IsMapped s v tag f
 AllowedAround _ s v f = Unit {0}
 
--- What happens: a backend's step at a frame, or at a partition's latch, a new backend, or the end of one
+-- What happens: a backend's step at a frame, at a partition's latch, or at the size of a fork, a new backend, or the end of one
 pub data Event : Type 0 where
   at : ℕ → ℕ → Kind → Event
   turn : ℕ → ℕ → TurnKind → Event
+  size_at : ℕ → ℕ → SizeKind → Event
   split : Event
   join : ℕ → Event
 
@@ -69,6 +87,7 @@ pub record HoldsNothing (v : View) : Type 0 where
   pub frames : (f : ℕ) → HoldsNothingAt (link v f)
   pub partitions : (p : ℕ) → (hold v p).held ≡ false
   pub lanes : (n : ℕ) → (lane_hold v n).held ≡ false
+  pub sizes : v.sizes ≡ []
   pub log : v.log.held ≡ false
 
 -- the state after a step of the kind k at the frame f by backend i, whose view is v
@@ -91,6 +110,8 @@ pub data Step : Event → State → State → Type 0 where
   touches : {s : State} (i f : ℕ) (k : Kind) (v : View) → get_elem? s.views i ≡ some v → v.emptied ≡ false → f < s.frames → Allowed k (s.frame f) (link v f) → AllowedAround k s v f → Step (at i f k) s (state_after k s i f v)
   -- a step of the kind k at the partition p, likewise
   turns : {s : State} (i p : ℕ) (k : TurnKind) (v : View) → get_elem? s.views i ≡ some v → v.emptied ≡ false → p < s.partitions → TurnAllowed k (s.partition p) (hold v p) → Step (turn i p k) s (state_turned k s i p v)
+  -- a step of the kind k at the size of a fork, likewise
+  sized : {s : State} (i fork : ℕ) (k : SizeKind) (v : View) → get_elem? s.views i ≡ some v → v.emptied ≡ false → SizeAllowed k s v fork → Step (size_at i fork k) s (state_sized k s i fork v)
   -- a new backend starts, with the first one's next number
   splits : {s : State} (v : View) → get_elem? s.views 0 ≡ some v → v.next < s.backends → Step split s (split_state s v)
   -- backend j, which holds nothing, is joined into the first

@@ -1,4 +1,4 @@
-//! Pins, buffer headers, buffer tags, and the partitions of the mapping table with their maps, as plain data: what a
+//! Pins, buffer headers, buffer tags, the partitions of the mapping table with their maps, and the sizes of forks, as plain data: what a
 //! step may be, and what every list of steps keeps.
 //!
 //! Nothing here runs. The types are what a backend knows ([`View`]); the kinds of step, the invariant that they keep
@@ -6,19 +6,20 @@
 //! [`all_schedules`], whose clauses are the promises.
 #![tactic(auto)]
 
-ghost use Rattle.std.specs.Prelude.{List};
+ghost use Rattle.std.specs.Prelude.{ℕ, List};
 ghost use Rattle.pin_core.specs.State.{CanOpen, Config, Page, State, opening};
 ghost use Rattle.pin_core.specs.Invariant.{AllAccounted, PinInvariant};
+ghost use Rattle.pin_core.specs.Sizes.{SizesLaw};
 ghost use Rattle.pin_core.specs.Steps.{Event, Run};
 ghost use Rattle.pin_core.specs.Sample.{SampleRuns};
-ghost use Rattle.pin_core.specs.Schedules.{IsReached, UsagesAreLow, TagWordsAreTags, TagWordsAreBlocks, UntaggedFramesHaveOnePin, FlagsMatchTags, SeenFramesAreValid, TagsAreUnique, PinsAreCounted, PinnedFramesHavePins, PinsAreFew, HeadersAreHeld, HoldersHaveTheWord, PinsRemember, PinnedTagsStay, MapsAreExact, TurnsAreHeld, MapsAreAsSeen, MapsAreHome};
+ghost use Rattle.pin_core.specs.Schedules.{IsReached, UsagesAreLow, TagWordsAreTags, TagWordsAreBlocks, SizeRights, SizesAreLogged, SeenBlocksStay, UntaggedFramesHaveOnePin, FlagsMatchTags, SeenFramesAreValid, TagsAreUnique, PinsAreCounted, PinnedFramesHavePins, PinsAreFew, HeadersAreHeld, HoldersHaveTheWord, PinsRemember, PinnedTagsStay, MapsAreExact, TurnsAreHeld, MapsAreAsSeen, MapsAreHome};
 
 mod view;
 
 pub use view::{
     BlockPage, Call, Content, DeviceCall, FailedCalls, Io, JoinedCheckpoint, LaneChange, LaneHold,
     LastWrite, Link, Load, LoadedWord, LogChange, LogHold, MapChange, MapEntry, PartitionHold,
-    Role, View,
+    Resize, Role, SizeHold, SizeRight, View,
 };
 
 /// What every list of events keeps, whatever the backends do and in whatever order.
@@ -27,6 +28,10 @@ pub fn all_schedules()
     ensures kept { (es : List Event) (s : State) (t : State) → PinInvariant s → Run es s t → PinInvariant t }
     ensures opens { (config : Config) (page : Page) → CanOpen config → PinInvariant (opening config page) }
     ensures reached { (s : State) → IsReached s → PinInvariant s }
+    // So does what holds of the sizes of forks.
+    ensures sizes_kept { (es : List Event) (s : State) (t : State) → PinInvariant s → SizesLaw s → Run es s t → SizesLaw t }
+    ensures sizes_open { (config : Config) (page : Page) → SizesLaw (opening config page) }
+    ensures sizes_reached { (s : State) → IsReached s → SizesLaw s }
 
     // And where it holds:
     ensures unique { (s : State) → PinInvariant s → TagsAreUnique s }
@@ -39,7 +44,6 @@ pub fn all_schedules()
     ensures holders { (s : State) → PinInvariant s → HoldersHaveTheWord s }
     ensures usages { (s : State) → PinInvariant s → UsagesAreLow s }
     ensures packed { (s : State) → PinInvariant s → TagWordsAreTags s }
-    ensures blocks { (s : State) → PinInvariant s → TagWordsAreBlocks s }
     ensures untagged { (s : State) → PinInvariant s → UntaggedFramesHaveOnePin s }
     ensures flags { (s : State) → PinInvariant s → FlagsMatchTags s }
     ensures seen { (s : State) → PinInvariant s → SeenFramesAreValid s }
@@ -48,6 +52,12 @@ pub fn all_schedules()
     ensures taken { (s : State) → PinInvariant s → TurnsAreHeld s }
     ensures maps_seen { (s : State) → PinInvariant s → MapsAreAsSeen s }
     ensures maps_home { (s : State) → PinInvariant s → MapsAreHome s }
+
+    // and of the sizes of forks:
+    ensures blocks { (s : State) → SizesLaw s → TagWordsAreBlocks s }
+    ensures size_rights { (s : State) (fork : ℕ) → SizesLaw s → SizeRights s fork }
+    ensures sizes_logged { (s : State) (fork : ℕ) → SizesLaw s → SizesAreLogged s fork }
+    ensures seen_blocks { (s : State) → PinInvariant s → SizesLaw s → SeenBlocksStay s }
 {}
 
 /// An example: a backend misses a block and gives it a frame, another one hits it there, and the first one's pin goes.

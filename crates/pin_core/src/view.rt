@@ -74,6 +74,10 @@ pub struct Link {
     pub visited: bool,
     /// The frame is one that the backend's checkpoint has still to write.
     pub left_to_write: bool,
+    /// The backend stored the tag of the block at its fork's size, by which the fork is to grow, and the log hasn't the growth yet.
+    pub noted: bool,
+    /// The pin knows its tag, and the backend saw that block below its fork's size.
+    pub inside: bool,
 }
 
 /// A tag and the frame that has it.
@@ -190,6 +194,42 @@ pub struct LogHold {
     pub redo: Option<u64>,
 }
 
+/// A backend's right on the size of a fork.
+pub enum SizeRight {
+    Unheld,
+    /// The fork keeps its size.
+    Shared,
+    /// The backend alone may change it (as under `LockRelationForExtension`, or `AccessExclusiveLock` for a cut).
+    Exclusive,
+}
+
+/// A change of a fork's size that is in the log.
+pub struct Resize {
+    /// The new size.
+    pub blocks: u64,
+    /// Where its record ends.
+    pub end: u64,
+    /// The fork lost blocks.
+    pub cut: bool,
+}
+
+/// What a backend has of a fork's size.
+pub struct SizeHold {
+    /// The fork, by its number.
+    pub fork: u64,
+    pub right: SizeRight,
+    /// The size that the backend found as it got the right.
+    pub blocks: u64,
+    /// The size to which the backend is to cut the fork, once it has passed a frame for that.
+    pub cut_to: Option<u64>,
+    /// The frames that it has passed: each with no tag of a block that the cut takes away.
+    pub passed: [u64; 0],
+    /// The change that it made under this right.
+    pub made: Option<Resize>,
+    /// The new size is in the fork's size word.
+    pub stored: bool,
+}
+
 /// What decided whether a record has its page whole, or ranges of the page's bytes (`needs_backup` in `XLogRecordAssemble`).
 pub struct ImageTest {
     /// The redo position, as the backend had loaded it under the log's latch.
@@ -255,6 +295,11 @@ pub enum LoadedWord {
     Count {
         count: u64,
         value: u64,
+    },
+    /// A fork's size word.
+    Size {
+        fork: u64,
+        blocks: u64,
     },
     Hint {
         number: u64,
@@ -365,6 +410,8 @@ pub struct View {
     pub partitions: [PartitionHold; 0],
     /// One for each lane.
     pub lanes: [LaneHold; 0],
+    /// One for each fork on whose size the backend has a right.
+    pub sizes: [SizeHold; 0],
     pub log: LogHold,
     /// The flushed position as last loaded; where the log begins, before the first load.
     pub flushed: u64,

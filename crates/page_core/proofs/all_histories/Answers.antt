@@ -1,7 +1,8 @@
 use Rattle.pin_core.proofs.Schedules as pins
+use Rattle.pin_core.proofs.SizeSchedules as sized
 use Rattle.page_core.proofs.Opening.{opens}
 use Rattle.page_core.proofs.Stepping.{run_keeps}
-use Rattle.page_core.proofs.Histories.{reached, stay, copy_latches, dirtied, locks, sharers_few, one_io, rights, one_out, pages_home, applies, frames_hold, sound, copies_are, waiters, wait_once, cleanup_alone}
+use Rattle.page_core.proofs.Histories.{reached, stay, copy_latches, dirtied, locks, sharers_few, one_io, rights, one_out, pages_home, applies, frames_hold, sound, new_blocks, copies_are, waiters, wait_once, cleanup_alone}
 use Rattle.page_core.proofs.all_histories.Goals as goal
 
 pub returns-clause-kept : goal.returns-clause-kept
@@ -98,7 +99,7 @@ pub returns-clause-pinned : goal.returns-clause-pinned
 returns-clause-pinned c = λ s h. pins.own_pins s.core h.core
 
 pub returns-clause-blocks : goal.returns-clause-blocks
-returns-clause-blocks c = λ s h. pins.blocks s.core h.core
+returns-clause-blocks c = λ s h. sized.tag_words s.core h.sizes
 
 pub returns-clause-maps_seen : goal.returns-clause-maps_seen
 returns-clause-maps_seen c = λ s h. pins.maps_seen s.core h.core
@@ -114,3 +115,18 @@ returns-clause-pages_home c = pages_home
 
 pub returns-clause-applies : goal.returns-clause-applies
 returns-clause-applies c = applies
+
+pub returns-clause-size_rights : goal.returns-clause-size_rights
+returns-clause-size_rights c = λ s fork h. sized.rights s.core fork h.sizes
+
+pub returns-clause-sizes_logged : goal.returns-clause-sizes_logged
+returns-clause-sizes_logged c = λ s fork h. sized.logged s.core fork h.sizes
+
+pub returns-clause-seen_blocks : goal.returns-clause-seen_blocks
+returns-clause-seen_blocks c = λ s h. sized.seen_blocks s.core h.core h.sizes
+
+pub returns-clause-new_blocks : goal.returns-clause-new_blocks
+returns-clause-new_blocks c = new_blocks
+
+pub returns-clause-others : goal.returns-clause-others
+returns-clause-others c = λ s h. h.gone

@@ -1,6 +1,8 @@
 use Rattle.pin_core.proofs.Opening.{opens}
 use Rattle.pin_core.proofs.Stepping.{run_keeps}
-use Rattle.pin_core.proofs.Schedules.{reached, usages, packed, blocks, untagged, flags, seen, unique, own_pins, few, counted, held, holders, exact, taken, maps_seen, maps_home, remembers, stay}
+use Rattle.pin_core.proofs.Schedules.{reached, usages, packed, untagged, flags, seen, unique, own_pins, few, counted, held, holders, exact, taken, maps_seen, maps_home, remembers, stay}
+use Rattle.pin_core.proofs.SizeSteps.{run_keeps_law, sizes_open}
+use Rattle.pin_core.proofs.SizeSchedules.{sizes_reached, tag_words, rights, logged, seen_blocks}
 use Rattle.pin_core.proofs.all_schedules.Goals as goal
 
 pub returns-clause-kept : goal.returns-clause-kept
@@ -60,11 +62,29 @@ returns-clause-reached c = reached
 pub returns-clause-pinned : goal.returns-clause-pinned
 returns-clause-pinned c = own_pins
 
-pub returns-clause-blocks : goal.returns-clause-blocks
-returns-clause-blocks c = blocks
-
 pub returns-clause-maps_seen : goal.returns-clause-maps_seen
 returns-clause-maps_seen c = maps_seen
 
 pub returns-clause-maps_home : goal.returns-clause-maps_home
 returns-clause-maps_home c = maps_home
+
+pub returns-clause-sizes_kept : goal.returns-clause-sizes_kept
+returns-clause-sizes_kept c = λ es s t h x r. run_keeps_law r h x
+
+pub returns-clause-sizes_open : goal.returns-clause-sizes_open
+returns-clause-sizes_open c = sizes_open
+
+pub returns-clause-sizes_reached : goal.returns-clause-sizes_reached
+returns-clause-sizes_reached c = sizes_reached
+
+pub returns-clause-blocks : goal.returns-clause-blocks
+returns-clause-blocks c = tag_words
+
+pub returns-clause-size_rights : goal.returns-clause-size_rights
+returns-clause-size_rights c = rights
+
+pub returns-clause-sizes_logged : goal.returns-clause-sizes_logged
+returns-clause-sizes_logged c = logged
+
+pub returns-clause-seen_blocks : goal.returns-clause-seen_blocks
+returns-clause-seen_blocks c = seen_blocks

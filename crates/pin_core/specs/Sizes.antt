@@ -1,0 +1,292 @@
+-- The sizes of forks: the kinds of step at one, and what holds of them.
+use Rattle.std.specs.Prelude.{◌≡◌, ◌≢◌, ◌⊎◌, ℕ, ◌+◌, ◌-◌, ◌<◌, ◌≤◌, Bool, true, false, List, [], ◌∷◌, ◌++◌, map, slice_set, Contains, Option, Some, None, if◌then◌else◌}
+use mathlib.Core.Option.{some}
+use lib.ListN.{get_elem?}
+use Rattle.pin_core.specs.declared.view.Role.TheVariants.{HandedOut}
+use Rattle.pin_core.specs.declared.view.Content.{Content}
+use Rattle.pin_core.specs.declared.view.Content.TheVariants.{Unlocked, Shared, Exclusive}
+use Rattle.pin_core.specs.declared.view.SizeRight.{SizeRight}
+use Rattle.pin_core.specs.declared.view.SizeRight.TheVariants as size_right
+use Rattle.pin_core.specs.declared.view.Resize.{Resize}
+use Rattle.pin_core.specs.declared.view.SizeHold.{SizeHold}
+use Rattle.pin_core.specs.declared.view.LoadedWord.{LoadedWord}
+use Rattle.pin_core.specs.declared.view.LoadedWord.TheVariants as seen
+use Rattle.pin_core.specs.declared.view.Link.{Link}
+use Rattle.pin_core.specs.declared.view.View.{View}
+use Rattle.pin_core.specs.State.{Frame, State, SizeWord, no_tag, no_size, without_size, size_hold, link, tag_fork, tag_block, is_block, is_cut}
+use Rattle.pin_core.specs.Kinds.{load_of}
+use Rattle.pin_core.specs.Tallies.{flag_weight}
+use Rattle.grid.specs.Shape.{Shape, Part, Grid, put}
+
+pub data SizeKind : Type 0 where
+  -- a load of the size word
+  load_size : SizeKind
+  -- the fork is kept at its size
+  share_size : SizeKind
+  -- the fork's size becomes one backend's to change (`LockRelationForExtension`)
+  exclude_size : SizeKind
+  -- a shared right is given up; with a frame: the backend saw its block below the size
+  unshare_size : Option ℕ → SizeKind
+  -- an exclusive right is given up (`UnlockRelationForExtension`)
+  unexclude_size : SizeKind
+  -- before a cut to a number of blocks a frame is seen to have none of those that it takes away (`DropRelationBuffers`)
+  pass_frame : ℕ → ℕ → SizeKind
+  -- the size word is stored
+  store_size : SizeKind
+  -- the growth of the fork by the frame's block is in the log, by a record that ends at a position
+  enter_extension : ℕ → ℕ → SizeKind
+  -- the cut of the fork to a number of blocks is, likewise
+  enter_cut : ℕ → ℕ → SizeKind
+
+-- A fork's number, and no right of the view on its size
+pub record IsFree (s : State) (v : View) (fork : ℕ) : Type 0 where
+  pub is_fork : s.is_fork fork ≡ true
+  pub unheld : (size_hold v fork).right ≡ size_right.Unheld
+  pub free : (s.size fork).exclusive ≡ false
+
+-- neither a sharer nor an exclusive right
+pub record CanExclude (s : State) (v : View) (fork : ℕ) : Type 0 where
+  pub free : IsFree s v fork
+  pub alone : (s.size fork).sharers ≡ 0
+  pub allowed : s.resizes ≡ true
+
+-- the pin of the frame remembers a tag of the fork, of a block below the size that the view has found
+pub record SeesBlock (s : State) (v : View) (fork f : ℕ) : Type 0 where
+  pub inside : f < s.frames
+  pub tag : ℕ
+  pub remembered : (link v f).tag ≡ Some tag
+  pub of : tag_fork tag ≡ fork
+  pub below : tag_block tag < (size_hold v fork).blocks
+
+abbrev pub MaySee : Option ℕ → State → View → ℕ → Type 0
+MaySee None s v fork = Unit {0}
+MaySee (Some f) s v fork = SeesBlock s v fork f
+
+pub record CanUnshare (seen : Option ℕ) (s : State) (v : View) (fork : ℕ) : Type 0 where
+  pub right : (size_hold v fork).right ≡ size_right.Shared
+  pub sees : MaySee seen s v fork
+
+-- the word has the fork's size by the log; no frame of the view is noted for the fork's growth; a cut's record is flushed, as far as the view knows, or the view has seen the log down
+pub record CanUnexclude (s : State) (v : View) (fork : ℕ) : Type 0 where
+  pub right : (size_hold v fork).right ≡ size_right.Exclusive
+  pub stored : (s.size fork).blocks ≡ (s.size fork).logged
+  pub unnoted : (f : ℕ) → f < s.frames → (link v f).noted ≡ true → tag_fork (s.frame f).tag ≢ fork
+  pub flushed : (r : Resize) → (size_hold v fork).made ≡ Some r → r.cut ≡ true → (r.end ≤ v.flushed) ⊎ (v.saw_down ≡ true)
+
+-- the exclusive right, under which no change was made yet
+pub record MayResize (s : State) (v : View) (fork : ℕ) : Type 0 where
+  pub right : (size_hold v fork).right ≡ size_right.Exclusive
+  pub unmade : (size_hold v fork).made ≡ None
+
+-- the new size is below the size, and the same for all frames; the frame's tag word is loaded, and isn't of a block that the cut takes away
+pub record CanPass (f n : ℕ) (s : State) (v : View) (fork : ℕ) : Type 0 where
+  pub may : MayResize s v fork
+  pub inside : f < s.frames
+  pub shorter : n < (size_hold v fork).blocks
+  pub same : (m : ℕ) → (size_hold v fork).cut_to ≡ Some m → m ≡ n
+  pub kept : (s.frame f).tag ≢ no_tag → is_cut fork n (s.frame f).tag ≡ false
+
+pub record CanStoreSize (s : State) (v : View) (fork : ℕ) : Type 0 where
+  pub right : (size_hold v fork).right ≡ size_right.Exclusive
+  pub made : (size_hold v fork).made ≢ None
+
+-- the frame of the new block is valid and dirty; the view notes it, and its pin remembers the tag
+pub record CanEnterExtension (f : ℕ) (s : State) (v : View) (fork : ℕ) : Type 0 where
+  pub may : MayResize s v fork
+  pub inside : f < s.frames
+  pub of : tag_fork (s.frame f).tag ≡ fork
+  pub noted : (link v f).noted ≡ true
+  pub settled : (link v f).pending ≡ false
+  pub valid : (s.frame f).word.valid ≡ true
+  pub dirty : (s.frame f).word.dirty ≡ true
+
+-- all frames are passed for the new size
+pub record CanEnterCut (n : ℕ) (s : State) (v : View) (fork : ℕ) : Type 0 where
+  pub may : MayResize s v fork
+  pub cut_to : (size_hold v fork).cut_to ≡ Some n
+  pub passed : (f : ℕ) → f < s.frames → Contains (size_hold v fork).passed f
+
+abbrev pub SizeAllowed : SizeKind → State → View → ℕ → Type 0
+SizeAllowed load_size s v fork = Unit {0}
+SizeAllowed share_size s v fork = IsFree s v fork
+SizeAllowed exclude_size s v fork = CanExclude s v fork
+SizeAllowed (unshare_size seen) s v fork = CanUnshare seen s v fork
+SizeAllowed unexclude_size s v fork = CanUnexclude s v fork
+SizeAllowed (pass_frame f n) s v fork = CanPass f n s v fork
+SizeAllowed store_size s v fork = CanStoreSize s v fork
+SizeAllowed (enter_extension f end) s v fork = CanEnterExtension f s v fork
+SizeAllowed (enter_cut n end) s v fork = CanEnterCut n s v fork
+
+-- What a kind makes of the size
+abbrev pub size_after : SizeKind → SizeWord → SizeWord
+size_after load_size w = w
+size_after share_size w = record w { sharers = w.sharers + 1 }
+size_after exclude_size w = record w { exclusive = true }
+size_after (unshare_size seen) w = record w { sharers = w.sharers - 1 }
+size_after unexclude_size w = record w { exclusive = false }
+size_after (pass_frame f n) w = w
+size_after store_size w = record w { blocks = w.logged }
+size_after (enter_extension f end) w = record w { logged = w.logged + 1 }
+size_after (enter_cut n end) w = record w { logged = n }
+
+-- What a kind makes of what the view has of it, where the fork has this size
+abbrev pub size_hold_after : SizeKind → ℕ → SizeWord → SizeHold → SizeHold
+size_hold_after load_size fork w h = h
+size_hold_after share_size fork w h = record no_size { fork = fork; right = size_right.Shared; blocks = w.blocks }
+size_hold_after exclude_size fork w h = record no_size { fork = fork; right = size_right.Exclusive; blocks = w.blocks }
+size_hold_after (unshare_size seen) fork w h = no_size
+size_hold_after unexclude_size fork w h = no_size
+size_hold_after (pass_frame f n) fork w h = record h { fork = fork; cut_to = Some n; passed = f ∷ h.passed }
+size_hold_after store_size fork w h = record h { fork = fork; stored = true }
+size_hold_after (enter_extension f end) fork w h = record h { fork = fork; made = Some (record { blocks = w.logged + 1; end = end; cut = false }) }
+size_hold_after (enter_cut n end) fork w h = record h { fork = fork; made = Some (record { blocks = n; end = end; cut = true }) }
+
+-- what the view has of the sizes of all forks
+abbrev pub sizes_after : SizeKind → ℕ → SizeWord → View → List SizeHold
+sizes_after load_size fork w v = v.sizes
+sizes_after (unshare_size seen) fork w v = without_size fork v.sizes
+sizes_after unexclude_size fork w v = without_size fork v.sizes
+sizes_after k fork w v = size_hold_after k fork w (size_hold v fork) ∷ without_size fork v.sizes
+
+-- under an exclusive content lock the growth is an entry that was made
+abbrev pub entered_under : Content → Bool → Bool
+entered_under Unlocked entered = entered
+entered_under Shared entered = entered
+entered_under Exclusive entered = true
+
+-- What a kind makes of what the view has at frames
+abbrev pub links_seen : Option ℕ → View → List Link
+links_seen None v = v.links
+links_seen (Some f) v = slice_set v.links f (record (link v f) { inside = true })
+
+-- the pin under which the fork grew is handed out
+abbrev pub extended_link : Link → Link
+extended_link l = record l { role = HandedOut; noted = false; inside = true; entered = entered_under l.content l.entered }
+
+abbrev pub links_after : SizeKind → View → List Link
+links_after (unshare_size seen) v = links_seen seen v
+links_after (enter_extension f end) v = slice_set v.links f (extended_link (link v f))
+links_after _ v = v.links
+
+-- what was loaded
+abbrev pub sizes_seen : SizeKind → ℕ → State → List LoadedWord
+sizes_seen load_size fork s = seen.Size fork (s.size fork).blocks ∷ []
+sizes_seen share_size fork s = seen.Size fork (s.size fork).blocks ∷ []
+sizes_seen exclude_size fork s = seen.Size fork (s.size fork).blocks ∷ []
+sizes_seen (pass_frame f n) fork s = seen.Tag f (s.frame f).tag ∷ []
+sizes_seen _ fork s = []
+
+-- how many steps other than loads a kind is
+abbrev pub size_steps : SizeKind → ℕ
+size_steps load_size = 0
+size_steps (pass_frame f n) = 0
+size_steps _ = 1
+
+-- What a kind at the fork makes of the view
+abbrev pub view_sized : SizeKind → ℕ → State → View → View
+view_sized k fork s v = record v {
+  links = links_after k v;
+  sizes = sizes_after k fork (s.size fork) v;
+  loads = v.loads ++ map (load_of v) (sizes_seen k fork s);
+  steps = v.steps + size_steps k;
+}
+
+-- the state after a step of the kind k at the fork by backend i, whose view is v
+abbrev pub state_sized : SizeKind → State → ℕ → ℕ → View → State
+state_sized k s i fork v = record s {
+  size = put s.size fork (size_after k (s.size fork));
+  views = slice_set s.views i (view_sized k fork s v);
+}
+
+-- what is summed over the views of a fork's size: the shared rights, the exclusive ones, and those whose change isn't in the size word yet
+pub data SizeTally : Type 0 where
+  sharers : SizeTally
+  excluders : SizeTally
+  unstored : SizeTally
+
+abbrev pub shared_weight : SizeRight → ℕ
+shared_weight size_right.Unheld = 0
+shared_weight size_right.Shared = 1
+shared_weight size_right.Exclusive = 0
+
+abbrev pub exclusive_weight : SizeRight → ℕ
+exclusive_weight size_right.Unheld = 0
+exclusive_weight size_right.Shared = 0
+exclusive_weight size_right.Exclusive = 1
+
+abbrev pub unstored_weight : Option Resize → Bool → ℕ
+unstored_weight None stored = 0
+unstored_weight (Some r) true = 0
+unstored_weight (Some r) false = 1
+
+abbrev pub size_weight : SizeTally → SizeHold → ℕ
+size_weight sharers h = shared_weight h.right
+size_weight excluders h = exclusive_weight h.right
+size_weight unstored h = unstored_weight h.made h.stored
+
+-- the grid of views and forks
+abbrev pub size_shape : Shape
+size_shape = record { Column = SizeWord; Link = SizeHold; View = View; Tally = SizeTally; Block = Unit {0}; Own = Unit {0}; weigh = size_weight; link = size_hold; own = λ _. tt; spot = λ _. 0 }
+
+-- What holds of a fork's size and of the views' rights there
+pub record SizeLaw (w : SizeWord) (t : SizeTally → ℕ) : Type 0 where
+  -- the word counts the shared rights
+  pub shared : w.sharers ≡ t sharers
+  -- its bit stands exactly where one view has the exclusive right
+  pub exclusive : flag_weight w.exclusive ≡ t excluders
+  -- exclusive excludes shared
+  pub excludes : w.exclusive ≡ true → w.sharers ≡ 0
+  -- the word has the fork's size by the log, but between a change of that and its store
+  pub stored : t unstored ≡ 0 → w.blocks ≡ w.logged
+
+-- What holds of a fork's size and of what a view has of it
+pub record SizeHoldLaw (w : SizeWord) (h : SizeHold) : Type 0 where
+  -- only an exclusive right has to do with changes
+  pub resting : h.right ≢ size_right.Exclusive → (h.cut_to ≡ None) × (h.made ≡ None)
+  pub unmade : h.made ≡ None → h.stored ≡ false
+  -- under a right the word stays as it was found, until it is stored
+  pub found : h.right ≢ size_right.Unheld → h.stored ≡ false → h.blocks ≡ w.blocks
+  -- a change that was made is the fork's size by the log
+  pub made : (r : Resize) → h.made ≡ Some r → w.logged ≡ r.blocks
+  -- a cut is to a smaller size
+  pub shorter : (n : ℕ) → h.cut_to ≡ Some n → n < h.blocks
+  -- no frame is passed but for a cut
+  pub passed : h.cut_to ≡ None → h.passed ≡ []
+
+abbrev pub size_part : Part size_shape
+size_part = record { column = λ _ w t. SizeLaw w t; cell = λ _ w _ h. SizeHoldLaw w h }
+
+-- a view notes the frame's block as one by which the fork is to grow
+abbrev pub IsNoted : State → ℕ → Type 0
+IsNoted s f = (i : ℕ) × (v : View) × (get_elem? s.views i ≡ some v) × ((link v f).noted ≡ true)
+
+-- The tag is of the block at its fork's size, and the view has the exclusive right on that, under which no change was made yet
+pub record IsAtSize (s : State) (v : View) (tag : ℕ) : Type 0 where
+  pub may : MayResize s v (tag_fork tag)
+  pub at : tag_block tag ≡ (s.size (tag_fork tag)).logged
+
+-- a tag word that isn't all ones is a block of the relations, or noted
+abbrev pub TagsAreBlocks : State → Type 0
+TagsAreBlocks s = (f : ℕ) → f < s.frames → (s.frame f).tag ≢ no_tag → (is_block s (s.frame f).tag ≡ true) ⊎ IsNoted s f
+
+-- a block that a view notes is the one at its fork's size, on which the view has the exclusive right
+abbrev pub NotedAreAtSize : State → Type 0
+NotedAreAtSize s = (i f : ℕ) (v : View) → get_elem? s.views i ≡ some v → f < s.frames → (link v f).noted ≡ true → IsAtSize s v (s.frame f).tag
+
+-- a pin whose block was seen below its fork's size is of a block that is there still
+abbrev pub InsidesAreBlocks : State → Type 0
+InsidesAreBlocks s = (i f : ℕ) (v : View) → get_elem? s.views i ≡ some v → f < s.frames → (link v f).inside ≡ true → is_block s (s.frame f).tag ≡ true
+
+-- the frames that a cut has passed have no tag that it takes away
+abbrev pub PassedAreFree : State → Type 0
+PassedAreFree s = (i fork n f : ℕ) (v : View) → get_elem? s.views i ≡ some v → (size_hold v fork).cut_to ≡ Some n → Contains (size_hold v fork).passed f → f < s.frames → (s.frame f).tag ≢ no_tag → is_cut fork n (s.frame f).tag ≡ false
+
+-- What holds of the sizes of forks
+pub record SizesLaw (s : State) : Type 0 where
+  pub words : (n : ℕ) → Grid size_shape size_part n s.size (λ _. tt) s.views
+  pub blocks : TagsAreBlocks s
+  pub noted : NotedAreAtSize s
+  pub insides : InsidesAreBlocks s
+  pub passed : PassedAreFree s
+  -- if forks don't grow and shrink no backend has an exclusive right
+  pub quiet : s.resizes ≡ false → (fork : ℕ) → (s.size fork).exclusive ≡ false
