@@ -1,5 +1,5 @@
 -- A step keeps the law of the calls.
-use Rattle.std.proofs.Common.{◌≡◌, ◌≢◌, ◌⊎◌, ℕ, zero, suc, ◌+◌, ◌<◌, ◌≤◌, Bool, true, false, cond, eq-eqb, ne_eqb, List, [], ◌∷◌, ◌++◌, length, length-append, append-nil, Option, Some, set, sym, refl, ap, ◌∙◌, subst, inl, inr, ⊎_elim, arith}
+use Rattle.std.proofs.Common.{◌≡◌, ◌≢◌, ◌⊎◌, ℕ, zero, suc, ◌+◌, ◌<◌, ◌≤◌, Bool, true, false, cond, eq-eqb, ne_eqb, List, [], ◌∷◌, ◌++◌, length, length-append, append-nil, Option, Some, set, sym, refl, ap, ◌∙◌, subst, inl, inr, ⊎_elim, arith, nat_eq}
 use Rattle.std.specs.Prelude.{max}
 use Rattle.std.proofs.lemmas.Bool.{cases_lt, both_ways}
 use mathlib.Core.Logic.{dite}
@@ -8,13 +8,13 @@ use mathlib.Core.Option.{some, some-ne-none, some-injective}
 use lib.ListN.{get_elem?}
 use Rattle.page_layout.specs.Fields.{lsn_of}
 use Rattle.pin_core.specs.declared.view.Call.{Call}
-use Rattle.pin_core.specs.declared.view.Call.TheVariants.{Read, Write}
+use Rattle.pin_core.specs.declared.view.Call.TheVariants.{Read, Write, Size, Sized}
 use Rattle.pin_core.specs.declared.view.ImageTest.{ImageTest}
 use Rattle.pin_core.specs.declared.view.JoinedCheckpoint.{JoinedCheckpoint}
 use Rattle.pin_core.specs.declared.view.WriteRecord.{WriteRecord}
 use Rattle.pin_core.specs.declared.view.View.{View}
 use Rattle.pin_core.specs.State.{Page, emptied_view, joined_view, kept_checkpoint}
-use Rattle.history_core.specs.Log.{Entry, Log, LogLaw, image, tag_in, end_of, log_end, cell, cut, change_size, IsLegal, IsLegalRead, place_of, backend_of, write_weight, weight_at, writes_in, writes_at, HasPlace, AreInOrder}
+use Rattle.history_core.specs.Log.{sizes_after, Entry, Log, LogLaw, image, tag_in, end_of, log_end, cell, cut, change_size, IsLegal, IsLegalRead, place_of, backend_of, write_weight, weight_at, writes_in, writes_at, HasPlace, AreInOrder}
 use Rattle.history_core.specs.Invariant.{HasNumber, CallsLaw, KeptLaw, HistoryLaw}
 use Rattle.grid.specs.Shape.{total}
 use Rattle.grid.proofs.Lists.{at_set, at_end, at_longer, set_else, set_here}
@@ -56,13 +56,13 @@ in_order_longer calls c front order fronted above j k x y lt ex ey same = ⊎_el
     (at_end calls c y k ey)
 
 -- a legal call stays legal with one entry more
-legal_longer : (known : ℕ → Bool) (origin : ℕ → Option Page) (log : Log) (e : Entry) → e.start ≡ log_end log → LogLaw log → (c : Call) → IsLegal known origin log c → IsLegal known origin (record log { entries = log.entries ++ e ∷ [] }) c
-legal_longer known origin log e starts h (Read backend tag page place) l = let w = l.within in record {
+legal_longer : (known : ℕ → Bool) (origin : ℕ → Option Page) (sizes : ℕ → ℕ) (log : Log) (e : Entry) → e.start ≡ log_end log → LogLaw log → (c : Call) → IsLegal known origin sizes log c → IsLegal known origin sizes (record log { entries = log.entries ++ e ∷ [] }) c
+legal_longer known origin sizes log e starts h (Read backend tag page place) l = let w = l.within in record {
   based = l.based;
   within = omega (arith, end_longer log e h, some_size e.change);
   reads = λ is. ap (λ (es : List Entry). cell origin es tag) (cut_longer place log.entries e (omega (arith, some_size e.change))) ∙ l.reads is;
 }
-legal_longer known origin log e starts h (Write backend tag page place logged) l = let x = l.ends in let low = ends_below log e h l.index l.entry l.entered.there in record {
+legal_longer known origin sizes log e starts h (Write backend tag page place logged) l = let x = l.ends in let low = ends_below log e h l.index l.entry l.entered.there in record {
   index = l.index;
   entry = l.entry;
   entered = record { there = at_longer log.entries (e ∷ []) l.index l.entry l.entered.there; of = l.entered.of };
@@ -73,11 +73,27 @@ legal_longer known origin log e starts h (Write backend tag page place logged) l
   tested = λ t test is. let x = l.tested t test is in (x.0, ap (λ (es : List Entry). cell origin es tag) (cut_longer l.entry.start log.entries e (omega (arith, some_size e.change))) ∙ x.1, x.2);
   writes = λ is. ap (λ (es : List Entry). cell origin es tag) (cut_longer place log.entries e (omega (arith, some_size e.change))) ∙ l.writes is;
 }
+legal_longer known origin sizes log e starts h (Size backend fork blocks place) l = record {
+  index = l.index;
+  entry = l.entry;
+  old = l.old;
+  there = at_longer log.entries (e ∷ []) l.index l.entry l.there;
+  change = l.change;
+  made = l.made;
+  ends = l.ends;
+}
+legal_longer known origin sizes log e starts h (Sized backend fork blocks place) l = let w = l.within in record {
+  based = l.based;
+  within = omega (arith, end_longer log e h, some_size e.change);
+  sees = ap (λ (es : List Entry). sizes_after es sizes fork) (cut_longer place log.entries e (omega (arith, some_size e.change))) ∙ l.sees;
+}
 
 -- a legal call has its place at the log's end or before it
-legal_within : (known : ℕ → Bool) (origin : ℕ → Option Page) (log : Log) (e : Entry) → LogLaw log → (c : Call) → IsLegal known origin log c → place_of c ≤ log_end log
-legal_within known origin log e h (Read backend tag page place) l = l.within
-legal_within known origin log e h (Write backend tag page place logged) l = let x = l.ends in let y = ends_below log e h l.index l.entry l.entered.there in omega arith
+legal_within : (known : ℕ → Bool) (origin : ℕ → Option Page) (sizes : ℕ → ℕ) (log : Log) (e : Entry) → LogLaw log → (c : Call) → IsLegal known origin sizes log c → place_of c ≤ log_end log
+legal_within known origin sizes log e h (Read backend tag page place) l = l.within
+legal_within known origin sizes log e h (Write backend tag page place logged) l = let x = l.ends in let y = ends_below log e h l.index l.entry l.entered.there in omega arith
+legal_within known origin sizes log e h (Size backend fork blocks place) l = let x = l.ends in let y = ends_below log e h l.index l.entry l.there in omega arith
+legal_within known origin sizes log e h (Sized backend fork blocks place) l = l.within
 
 -- A view's calls and front are those of another one
 pub record SameCalls (v w : View) : Type 0 where
@@ -191,8 +207,8 @@ module _ (views : List View) (h : KeptLaw views) (j : ℕ) (v u : View) (there :
         (λ q y t xc xd. h.apart q m n y c d t xc xd same) ec ed;
   }
 
-calls_same : (known : ℕ → Bool) (origin : ℕ → Option Page) (log : Log) (flushed : ℕ) (v w : View) → SameCalls v w → CallsLaw known origin log flushed v → CallsLaw known origin log flushed w
-calls_same known origin log flushed v w same c = record {
+calls_same : (known : ℕ → Bool) (origin : ℕ → Option Page) (sizes : ℕ → ℕ) (log : Log) (flushed : ℕ) (v w : View) → SameCalls v w → CallsLaw known origin sizes log flushed v → CallsLaw known origin sizes log flushed w
+calls_same known origin sizes log flushed v w same c = record {
   legal = λ k x e. c.legal k x (subst (λ (l : List Call). get_elem? l k ≡ some x) same.calls e);
   own = λ k x e. own_same v w same.number same.kept (backend_of x) (c.own k x (subst (λ (l : List Call). get_elem? l k ≡ some x) same.calls e));
   fronted = λ k x e. subst (λ (n : ℕ). place_of x ≤ n) (sym same.front) (c.fronted k x (subst (λ (l : List Call). get_elem? l k ≡ some x) same.calls e));
@@ -203,8 +219,8 @@ calls_same known origin log flushed v w same c = record {
   loaded = subst (λ (n : ℕ). n ≤ flushed) (sym same.flushed) c.loaded;
 }
 
-pub no_calls : (known : ℕ → Bool) (origin : ℕ → Option Page) (log : Log) (flushed : ℕ) (v : View) → v.calls ≡ [] → (v.emptied ≡ false → v.front ≡ log.base) → v.front ≤ log_end log → v.flushed ≤ flushed → CallsLaw known origin log flushed v
-no_calls known origin log flushed v none begins front loaded = record {
+pub no_calls : (known : ℕ → Bool) (origin : ℕ → Option Page) (sizes : ℕ → ℕ) (log : Log) (flushed : ℕ) (v : View) → v.calls ≡ [] → (v.emptied ≡ false → v.front ≡ log.base) → v.front ≤ log_end log → v.flushed ≤ flushed → CallsLaw known origin sizes log flushed v
+no_calls known origin sizes log flushed v none begins front loaded = record {
   legal = λ k x e. absurd (some-ne-none x (sym (subst (λ (l : List Call). get_elem? l k ≡ some x) none e)));
   own = λ k x e. absurd (some-ne-none x (sym (subst (λ (l : List Call). get_elem? l k ≡ some x) none e)));
   fronted = λ k x e. absurd (some-ne-none x (sym (subst (λ (l : List Call). get_elem? l k ≡ some x) none e)));
@@ -215,7 +231,7 @@ no_calls known origin log flushed v none begins front loaded = record {
   loaded = loaded;
 }
 
-module _ (known : ℕ → Bool) (origin : ℕ → Option Page) (log : Log) (flushed : ℕ) (views : List View) (h : HistoryLaw known origin log flushed views) where
+module _ (known : ℕ → Bool) (origin : ℕ → Option Page) (sizes : ℕ → ℕ) (log : Log) (flushed : ℕ) (views : List View) (h : HistoryLaw known origin sizes log flushed views) where
   abbrev written : View → ℕ
   written v = writes_in v.calls
 
@@ -223,19 +239,19 @@ module _ (known : ℕ → Bool) (origin : ℕ → Option Page) (log : Log) (flus
   written_at p v = writes_at p v.calls
 
   -- a view changes, and neither its calls nor their places do
-  pub history_same : (i : ℕ) (v w : View) → get_elem? views i ≡ some v → SameCalls v w → HistoryLaw known origin log flushed (set views i w)
+  pub history_same : (i : ℕ) (v w : View) → get_elem? views i ≡ some v → SameCalls v w → HistoryLaw known origin sizes log flushed (set views i w)
   history_same i v w there same = record {
-    calls = λ j u e. ⊎_elim (λ (t : (j ≡ i) × (w ≡ u)). subst (CallsLaw known origin log flushed) t.1 (calls_same known origin log flushed v w same (h.calls i v there))) (λ (t : (j ≢ i) × (get_elem? views j ≡ some u)). h.calls j u t.1) (at_set views i j w u e);
+    calls = λ j u e. ⊎_elim (λ (t : (j ≡ i) × (w ≡ u)). subst (CallsLaw known origin sizes log flushed) t.1 (calls_same known origin sizes log flushed v w same (h.calls i v there))) (λ (t : (j ≢ i) × (get_elem? views j ≡ some u)). h.calls j u t.1) (at_set views i j w u e);
     kept = kept_set views h.kept i v w there same.kept same.emptied;
     counted = let e : written w ≡ written v = ap writes_in same.calls in omega (arith, total-set written views i v w there, h.counted);
     once = λ k e at. let is : written_at (end_of e) w ≡ written_at (end_of e) v = ap (writes_at (end_of e)) same.calls in omega (arith, total-set (written_at (end_of e)) views i v w there, h.once k e at);
   }
 
   -- a view has loaded the flushed position
-  pub history_loaded : (i : ℕ) (v w : View) → get_elem? views i ≡ some v → w.calls ≡ v.calls → w.front ≡ v.front → w.joined ≡ v.joined → w.emptied ≡ v.emptied → w.number ≡ v.number → w.joined_checkpoints ≡ v.joined_checkpoints → w.flushed ≡ flushed → HistoryLaw known origin log flushed (set views i w)
+  pub history_loaded : (i : ℕ) (v w : View) → get_elem? views i ≡ some v → w.calls ≡ v.calls → w.front ≡ v.front → w.joined ≡ v.joined → w.emptied ≡ v.emptied → w.number ≡ v.number → w.joined_checkpoints ≡ v.joined_checkpoints → w.flushed ≡ flushed → HistoryLaw known origin sizes log flushed (set views i w)
   history_loaded i v w there calls front joined emptied number kept loaded = record {
     calls = λ j u e. ⊎_elim
-        (λ (t : (j ≡ i) × (w ≡ u)). let c = h.calls i v there in subst (CallsLaw known origin log flushed) t.1 (let d = calls_same known origin log flushed v (record w { flushed = v.flushed }) (record { calls = calls; front = front; joined = joined; flushed = refl; emptied = emptied; number = number; kept = kept }) c in record {
+        (λ (t : (j ≡ i) × (w ≡ u)). let c = h.calls i v there in subst (CallsLaw known origin sizes log flushed) t.1 (let d = calls_same known origin sizes log flushed v (record w { flushed = v.flushed }) (record { calls = calls; front = front; joined = joined; flushed = refl; emptied = emptied; number = number; kept = kept }) c in record {
           legal = d.legal;
           own = λ k x e. own_same v w number kept (backend_of x) (c.own k x (subst (λ (l : List Call). get_elem? l k ≡ some x) calls e));
           fronted = d.fronted;
@@ -252,7 +268,7 @@ module _ (known : ℕ → Bool) (origin : ℕ → Option Page) (log : Log) (flus
   }
 
   -- the flushed position rises
-  pub history_raised : (flushed' : ℕ) → flushed ≤ flushed' → HistoryLaw known origin log flushed' views
+  pub history_raised : (flushed' : ℕ) → flushed ≤ flushed' → HistoryLaw known origin sizes log flushed' views
   history_raised flushed' le = record {
     calls = λ i v e. let c = h.calls i v e in record { legal = c.legal; own = c.own; fronted = c.fronted; from_base = c.from_base; reached = c.reached; within = c.within; in_order = c.in_order; loaded = (let d = c.loaded in omega arith) };
     kept = h.kept;
@@ -261,19 +277,19 @@ module _ (known : ℕ → Bool) (origin : ℕ → Option Page) (log : Log) (flus
   }
 
   -- a view without calls joins the list
-  pub history_grows : (w : View) → w.joined_checkpoints ≡ [] → w.calls ≡ [] → w.front ≡ log.base → w.front ≤ log_end log → w.flushed ≤ flushed → HistoryLaw known origin log flushed (views ++ w ∷ [])
+  pub history_grows : (w : View) → w.joined_checkpoints ≡ [] → w.calls ≡ [] → w.front ≡ log.base → w.front ≤ log_end log → w.flushed ≤ flushed → HistoryLaw known origin sizes log flushed (views ++ w ∷ [])
   history_grows w unkept none begins front loaded = record {
-    calls = λ j u e. ⊎_elim (λ (t : get_elem? views j ≡ some u). h.calls j u t) (λ (t : (w ≡ u) × (j ≡ length views)). subst (CallsLaw known origin log flushed) t.0 (no_calls known origin log flushed w none (λ _. begins) front loaded)) (at_end views w u j e);
+    calls = λ j u e. ⊎_elim (λ (t : get_elem? views j ≡ some u). h.calls j u t) (λ (t : (w ≡ u) × (j ≡ length views)). subst (CallsLaw known origin sizes log flushed) t.0 (no_calls known origin sizes log flushed w none (λ _. begins) front loaded)) (at_end views w u j e);
     kept = kept_grows views h.kept w unkept;
     counted = let e : written w ≡ 0 = ap writes_in none ∙ no_total write_weight in omega (arith, total-snoc written views w, h.counted);
     once = λ k e at. let is : written_at (end_of e) w ≡ 0 = ap (writes_at (end_of e)) none ∙ no_total (weight_at (end_of e)) in omega (arith, total-snoc (written_at (end_of e)) views w, h.once k e at);
   }
 
   -- the calls of one view go to another, which is another view's later
-  pub history_joined : (j : ℕ) (v u : View) → get_elem? views 0 ≡ some v → v.emptied ≡ false → v.number ≡ 0 → j ≢ 0 → get_elem? views j ≡ some u → u.emptied ≡ false → u.number ≡ j → HistoryLaw known origin log flushed (set (set views 0 (joined_view v u)) j emptied_view)
+  pub history_joined : (j : ℕ) (v u : View) → get_elem? views 0 ≡ some v → v.emptied ≡ false → v.number ≡ 0 → j ≢ 0 → get_elem? views j ≡ some u → u.emptied ≡ false → u.number ≡ j → HistoryLaw known origin sizes log flushed (set (set views 0 (joined_view v u)) j emptied_view)
   history_joined j v u there live first other here going number = let w : View = joined_view v u in let vs : List View = set views 0 w in let also = set_else views 0 j w other ∙ here in record {
-    calls = λ k x e. ⊎_elim (λ (t : (k ≡ j) × (emptied_view ≡ x)). subst (CallsLaw known origin log flushed) t.1 (no_calls known origin log flushed emptied_view refl (λ live. absurd (cc)) (omega arith) (omega arith)))
-        (λ (t : (k ≢ j) × (get_elem? vs k ≡ some x)). ⊎_elim (λ (y : (k ≡ 0) × (w ≡ x)). subst (CallsLaw known origin log flushed) y.1 both) (λ (y : (k ≢ 0) × (get_elem? views k ≡ some x)). h.calls k x y.1) (at_set views 0 k w x t.1)) (at_set vs j k emptied_view x e);
+    calls = λ k x e. ⊎_elim (λ (t : (k ≡ j) × (emptied_view ≡ x)). subst (CallsLaw known origin sizes log flushed) t.1 (no_calls known origin sizes log flushed emptied_view refl (λ live. absurd (cc)) (omega arith) (omega arith)))
+        (λ (t : (k ≢ j) × (get_elem? vs k ≡ some x)). ⊎_elim (λ (y : (k ≡ 0) × (w ≡ x)). subst (CallsLaw known origin sizes log flushed) y.1 both) (λ (y : (k ≢ 0) × (get_elem? views k ≡ some x)). h.calls k x y.1) (at_set views 0 k w x t.1)) (at_set vs j k emptied_view x e);
     kept = kept_joined views h.kept j v u there live other here going number;
     counted = omega (arith, total-set written views 0 v w there, total-set written vs j u emptied_view also, total-both write_weight v.calls u.calls, no_total write_weight, h.counted);
     once = λ k e at. let p : ℕ = end_of e in omega (arith, total-set (written_at p) views 0 v w there, total-set (written_at p) vs j u emptied_view also, total-both (weight_at p) v.calls u.calls, no_total (weight_at p), h.once k e at);
@@ -292,7 +308,7 @@ module _ (known : ℕ → Bool) (origin : ℕ → Option Page) (log : Log) (flus
       not_both : (n : ℕ) → HasNumber v n → u.number ≡ n → ⊥
       not_both n has same = let x = has (λ z. other (sym number ∙ same ∙ z ∙ first)) in let y = h.kept.spent 0 x.0 v x.1 there x.2 in both_ways _ going (ap (λ (z : View). z.emptied) (some-injective u y.0 (sym here ∙ ap (get_elem? views) (sym (x.3 ∙ sym same ∙ number)) ∙ y.1)) ∙ y.2)
 
-      both : CallsLaw known origin log flushed (joined_view v u)
+      both : CallsLaw known origin sizes log flushed (joined_view v u)
       both = let c = h.calls 0 v there in let d = h.calls j u here in record {
         legal = λ k x e. ⊎_elim (λ (t : get_elem? v.calls k ≡ some x). c.legal k x t) (λ (t : (n : ℕ) × (get_elem? u.calls n ≡ some x)). d.legal t.0 x t.1) (at_both v.calls u.calls k x e);
         own = λ k x e. ⊎_elim (λ (t : get_elem? v.calls k ≡ some x). own_longer v (joined_view v u) (kept_checkpoint u ∷ u.joined_checkpoints) refl refl (backend_of x) (c.own k x t)) (λ (t : (n : ℕ) × (get_elem? u.calls n ≡ some x)). own_joined v u (backend_of x) (d.own t.0 x t.1)) (at_both v.calls u.calls k x e);
@@ -304,61 +320,69 @@ module _ (known : ℕ → Bool) (origin : ℕ → Option Page) (log : Log) (flus
         loaded = let x = c.loaded in let y = d.loaded in omega arith;
       }
 
--- A read gets its place, the log's end
-module _ (known : ℕ → Bool) (origin : ℕ → Option Page) (log : Log) (flushed : ℕ) (views : List View) (h : HistoryLaw known origin log flushed views) (logged : LogLaw log) (i : ℕ) (v w : View) (there : get_elem? views i ≡ some v) (tag : ℕ) (page : Page) (is : known tag ≡ true → cell origin log.entries tag ≡ Some page)
-    (e : Entry) (calls : w.calls ≡ v.calls ++ Read v.number tag page (log_end log) ∷ []) (front : w.front ≡ log_end log) (emptied : w.emptied ≡ v.emptied) (loaded : w.flushed ≡ v.flushed) (number : w.number ≡ v.number) (kept : w.joined_checkpoints ≡ v.joined_checkpoints) where
-  pub history_read : HistoryLaw known origin log flushed (set views i w)
-  history_read = record {
-    calls = λ j u at. ⊎_elim (λ (t : (j ≡ i) × (w ≡ u)). subst (CallsLaw known origin log flushed) t.1 here) (λ (t : (j ≢ i) × (get_elem? views j ≡ some u)). h.calls j u t.1) (at_set views i j w u at);
+-- A call that writes nothing gets its place, the log's end
+module _ (known : ℕ → Bool) (origin : ℕ → Option Page) (sizes : ℕ → ℕ) (log : Log) (flushed : ℕ) (views : List View) (h : HistoryLaw known origin sizes log flushed views) (logged : LogLaw log) (i : ℕ) (v w : View) (there : get_elem? views i ≡ some v) (call : Call) (placed : place_of call ≡ log_end log) (maker : backend_of call ≡ v.number) (unwritten : write_weight call ≡ 0) (none_at : (p : ℕ) → weight_at p call ≡ 0) (legal : IsLegal known origin sizes log call)
+    (e : Entry) (calls : w.calls ≡ v.calls ++ call ∷ []) (front : w.front ≡ log_end log) (emptied : w.emptied ≡ v.emptied) (loaded : w.flushed ≡ v.flushed) (number : w.number ≡ v.number) (kept : w.joined_checkpoints ≡ v.joined_checkpoints) where
+  pub history_placed : HistoryLaw known origin sizes log flushed (set views i w)
+  history_placed = record {
+    calls = λ j u at. ⊎_elim (λ (t : (j ≡ i) × (w ≡ u)). subst (CallsLaw known origin sizes log flushed) t.1 here) (λ (t : (j ≢ i) × (get_elem? views j ≡ some u)). h.calls j u t.1) (at_set views i j w u at);
     kept = kept_set views h.kept i v w there kept emptied;
-    counted = let s = more write_weight in let z : write_weight (Read v.number tag page (log_end log)) ≡ 0 = refl in omega (arith, total-set (λ (x : View). writes_in x.calls) views i v w there, h.counted);
-    once = λ k x at. let p : ℕ = end_of x in let s = more (weight_at p) in let z : weight_at p (Read v.number tag page (log_end log)) ≡ 0 = refl in omega (arith, total-set (λ (y : View). writes_at p y.calls) views i v w there, h.once k x at);
+    counted = let s = more write_weight in let z = unwritten in omega (arith, total-set (λ (x : View). writes_in x.calls) views i v w there, h.counted);
+    once = λ k x at. let p : ℕ = end_of x in let s = more (weight_at p) in let z = none_at p in omega (arith, total-set (λ (y : View). writes_at p y.calls) views i v w there, h.once k x at);
   }
     where
-      more : (g : Call → ℕ) → total g w.calls ≡ total g v.calls + g (Read v.number tag page (log_end log))
-      more g = ap (total g) calls ∙ total-snoc g v.calls (Read v.number tag page (log_end log))
+      more : (g : Call → ℕ) → total g w.calls ≡ total g v.calls + g call
+      more g = ap (total g) calls ∙ total-snoc g v.calls call
 
-      legal : IsLegalRead known origin log tag page (log_end log)
-      legal = record { based = end_above log e logged; within = omega arith; reads = λ has. ap (λ (es : List Entry). cell origin es tag) (cut_all (log_end log) log.entries (ends_below log e logged)) ∙ is has }
-
-      here : CallsLaw known origin log flushed w
+      here : CallsLaw known origin sizes log flushed w
       here = let c = h.calls i v there in record {
-        legal = λ k x at. ⊎_elim (λ (t : get_elem? v.calls k ≡ some x). c.legal k x t) (λ (t : (Read v.number tag page (log_end log) ≡ x) × (k ≡ length v.calls)). subst (IsLegal known origin log) t.0 legal) (at_end v.calls (Read v.number tag page (log_end log)) x k (subst (λ (l : List Call). get_elem? l k ≡ some x) calls at));
-        own = λ k x at. ⊎_elim (λ (t : get_elem? v.calls k ≡ some x). own_same v w number kept (backend_of x) (c.own k x t)) (λ (t : (Read v.number tag page (log_end log) ≡ x) × (k ≡ length v.calls)) o. absurd (o (ap backend_of (sym t.0) ∙ sym number)))
-            (at_end v.calls (Read v.number tag page (log_end log)) x k (subst (λ (l : List Call). get_elem? l k ≡ some x) calls at));
-        fronted = λ k x at. ⊎_elim (λ (t : get_elem? v.calls k ≡ some x). let y = c.fronted k x t in let z = c.within in omega arith) (λ (t : (Read v.number tag page (log_end log) ≡ x) × (k ≡ length v.calls)). let y : log_end log ≡ place_of x = ap place_of t.0 in omega arith)
-            (at_end v.calls (Read v.number tag page (log_end log)) x k (subst (λ (l : List Call). get_elem? l k ≡ some x) calls at));
+        legal = λ k x at. ⊎_elim (λ (t : get_elem? v.calls k ≡ some x). c.legal k x t) (λ (t : (call ≡ x) × (k ≡ length v.calls)). subst (IsLegal known origin sizes log) t.0 legal) (at_end v.calls call x k (subst (λ (l : List Call). get_elem? l k ≡ some x) calls at));
+        own = λ k x at. ⊎_elim (λ (t : get_elem? v.calls k ≡ some x). own_same v w number kept (backend_of x) (c.own k x t)) (λ (t : (call ≡ x) × (k ≡ length v.calls)) o. absurd (o (ap backend_of (sym t.0) ∙ maker ∙ sym number)))
+            (at_end v.calls call x k (subst (λ (l : List Call). get_elem? l k ≡ some x) calls at));
+        fronted = λ k x at. ⊎_elim (λ (t : get_elem? v.calls k ≡ some x). let y = c.fronted k x t in let z = c.within in omega arith) (λ (t : (call ≡ x) × (k ≡ length v.calls)). let y : log_end log ≡ place_of x = sym placed ∙ ap place_of t.0 in omega arith)
+            (at_end v.calls call x k (subst (λ (l : List Call). get_elem? l k ≡ some x) calls at));
         from_base = λ _. omega (arith, end_above log e logged);
-        reached = λ _ _. subst (λ (l : List Call). HasPlace l w.front) (sym calls) (at_last_place v.calls (Read v.number tag page (log_end log)) w.front (sym front));
+        reached = λ _ _. subst (λ (l : List Call). HasPlace l w.front) (sym calls) (at_last_place v.calls call w.front (placed ∙ sym front));
         within = omega arith;
-        in_order = subst AreInOrder (sym calls) (in_order_longer v.calls (Read v.number tag page (log_end log)) v.front c.in_order c.fronted c.within);
+        in_order = subst AreInOrder (sym calls) (in_order_longer v.calls call v.front c.in_order c.fronted (let z = c.within in omega arith));
         loaded = let y = c.loaded in omega arith;
       }
 
--- An entry is made, and the write of it gets its end as its place
-module _ (known : ℕ → Bool) (origin : ℕ → Option Page) (log : Log) (flushed : ℕ) (views : List View) (h : HistoryLaw known origin log flushed views) (logged : LogLaw log) (i : ℕ) (v w : View) (there : get_elem? views i ≡ some v) (e : Entry) (starts : e.start ≡ log_end log)
-    (tag : ℕ) (p : Page) (record_is : WriteRecord) (of : tag_in e.change ≡ Some tag) (whole : (t : ℕ) (q : Page) → e.change ≡ image t q → q ≡ p) (sized : change_size e.change ≡ record_is.size) (tested : (t : ImageTest) → record_is.test ≡ Some t → known tag ≡ true → (q : Page) × (cell origin log.entries tag ≡ Some q) × (lsn_of q ≡ t.before))
-    (is : known tag ≡ true → cell origin (log.entries ++ e ∷ []) tag ≡ Some p) (calls : w.calls ≡ v.calls ++ Write e.backend tag p (end_of e) record_is ∷ []) (front : w.front ≡ end_of e) (emptied : w.emptied ≡ v.emptied) (loaded : w.flushed ≡ v.flushed) (number : w.number ≡ v.number) (kept : w.joined_checkpoints ≡ v.joined_checkpoints) (maker : e.backend ≡ v.number) where
+-- A read gets its place, the log's end
+pub history_read : (known : ℕ → Bool) (origin : ℕ → Option Page) (sizes : ℕ → ℕ) (log : Log) (flushed : ℕ) (views : List View) → HistoryLaw known origin sizes log flushed views → LogLaw log → (i : ℕ) (v w : View) → get_elem? views i ≡ some v → (tag : ℕ) (page : Page) → (known tag ≡ true → cell origin log.entries tag ≡ Some page) → (e : Entry)
+    → w.calls ≡ v.calls ++ Read v.number tag page (log_end log) ∷ [] → w.front ≡ log_end log → w.emptied ≡ v.emptied → w.flushed ≡ v.flushed → w.number ≡ v.number → w.joined_checkpoints ≡ v.joined_checkpoints → HistoryLaw known origin sizes log flushed (set views i w)
+history_read known origin sizes log flushed views h logged i v w there tag page is e = history_placed known origin sizes log flushed views h logged i v w there (Read v.number tag page (log_end log)) refl refl refl (λ p. refl)
+    (record { based = end_above log e logged; within = omega arith; reads = λ has. ap (λ (es : List Entry). cell origin es tag) (cut_all (log_end log) log.entries (ends_below log e logged)) ∙ is has }) e
+
+-- and so does a size that a backend has seen
+pub history_sized : (known : ℕ → Bool) (origin : ℕ → Option Page) (sizes : ℕ → ℕ) (log : Log) (flushed : ℕ) (views : List View) → HistoryLaw known origin sizes log flushed views → LogLaw log → (i : ℕ) (v w : View) → get_elem? views i ≡ some v → (fork blocks : ℕ) → sizes_after log.entries sizes fork ≡ blocks → (e : Entry)
+    → w.calls ≡ v.calls ++ Sized v.number fork blocks (log_end log) ∷ [] → w.front ≡ log_end log → w.emptied ≡ v.emptied → w.flushed ≡ v.flushed → w.number ≡ v.number → w.joined_checkpoints ≡ v.joined_checkpoints → HistoryLaw known origin sizes log flushed (set views i w)
+history_sized known origin sizes log flushed views h logged i v w there fork blocks is e = history_placed known origin sizes log flushed views h logged i v w there (Sized v.number fork blocks (log_end log)) refl refl refl (λ p. refl)
+    (record { based = end_above log e logged; within = omega arith; sees = ap (λ (es : List Entry). sizes_after es sizes fork) (cut_all (log_end log) log.entries (ends_below log e logged)) ∙ is }) e
+
+-- An entry is made, and the call that makes it gets its end as its place
+module _ (known : ℕ → Bool) (origin : ℕ → Option Page) (sizes : ℕ → ℕ) (log : Log) (flushed : ℕ) (views : List View) (h : HistoryLaw known origin sizes log flushed views) (logged : LogLaw log) (i : ℕ) (v w : View) (there : get_elem? views i ≡ some v) (e : Entry) (starts : e.start ≡ log_end log)
+    (call : Call) (placed : place_of call ≡ end_of e) (maker : backend_of call ≡ v.number) (written : write_weight call ≡ 1) (written_at : (p : ℕ) → weight_at p call ≡ cond (nat_eq (end_of e) p) 1 0) (legal : IsLegal known origin sizes (record log { entries = log.entries ++ e ∷ [] }) call)
+    (calls : w.calls ≡ v.calls ++ call ∷ []) (front : w.front ≡ end_of e) (emptied : w.emptied ≡ v.emptied) (loaded : w.flushed ≡ v.flushed) (number : w.number ≡ v.number) (kept : w.joined_checkpoints ≡ v.joined_checkpoints) where
   abbrev longer : Log
   longer = record log { entries = log.entries ++ e ∷ [] }
-
-  abbrev call : Call
-  call = Write e.backend tag p (end_of e) record_is
 
   more : (g : Call → ℕ) → total g w.calls ≡ total g v.calls + g call
   more g = ap (total g) calls ∙ total-snoc g v.calls call
 
   -- no write has the new place yet
   none_yet : (j : ℕ) (u : View) → get_elem? views j ≡ some u → writes_at (end_of e) u.calls ≡ 0
-  none_yet j u at = total-none (weight_at (end_of e)) u.calls (λ k x t. other x (legal_within known origin log e logged x ((h.calls j u at).legal k x t)))
+  none_yet j u at = total-none (weight_at (end_of e)) u.calls (λ k x t. other x (legal_within known origin sizes log e logged x ((h.calls j u at).legal k x t)))
     where
       other : (x : Call) → place_of x ≤ log_end log → weight_at (end_of e) x ≡ 0
       other (Read backend tag page place) low = refl
+      other (Sized backend fork blocks place) low = refl
+      other (Size backend fork blocks place) low = ap (λ (b : Bool). cond b 1 0) (ne_eqb place (end_of e) (λ z. omega (arith, some_size e.change)))
       other (Write backend tag page place logged) low = ap (λ (b : Bool). cond b 1 0) (ne_eqb place (end_of e) (λ z. omega (arith, some_size e.change)))
 
-  later : (j : ℕ) (u : View) → CallsLaw known origin log flushed u → CallsLaw known origin longer flushed u
+  later : (j : ℕ) (u : View) → CallsLaw known origin sizes log flushed u → CallsLaw known origin sizes longer flushed u
   later j u c = record {
-    legal = λ k x at. legal_longer known origin log e starts logged x (c.legal k x at);
+    legal = λ k x at. legal_longer known origin sizes log e starts logged x (c.legal k x at);
     own = c.own;
     fronted = c.fronted;
     from_base = c.from_base;
@@ -368,39 +392,49 @@ module _ (known : ℕ → Bool) (origin : ℕ → Option Page) (log : Log) (flus
     loaded = c.loaded;
   }
 
-  here : CallsLaw known origin longer flushed w
+  here : CallsLaw known origin sizes longer flushed w
   here = let c = later i v (h.calls i v there) in record {
-    legal = λ k x at. ⊎_elim (λ (t : get_elem? v.calls k ≡ some x). c.legal k x t) (λ (t : (call ≡ x) × (k ≡ length v.calls)). subst (IsLegal known origin longer) t.0 (record { index = length log.entries; entry = e; entered = record { there = at_last log.entries; of = of }; made = refl; ends = refl; image_is = whole; sized = sized; tested = λ y test has. let z = tested y test has in (z.0, ap (λ (es : List Entry). cell origin es tag) cut_before ∙ z.1, z.2); writes = λ has. ap (λ (es : List Entry). cell origin es tag) (cut_all (end_of e) longer.entries all_within) ∙ is has })) (at_end v.calls call x k (subst (λ (l : List Call). get_elem? l k ≡ some x) calls at));
+    legal = λ k x at. ⊎_elim (λ (t : get_elem? v.calls k ≡ some x). c.legal k x t) (λ (t : (call ≡ x) × (k ≡ length v.calls)). subst (IsLegal known origin sizes longer) t.0 legal) (at_end v.calls call x k (subst (λ (l : List Call). get_elem? l k ≡ some x) calls at));
     own = λ k x at. ⊎_elim (λ (t : get_elem? v.calls k ≡ some x). own_same v w number kept (backend_of x) (c.own k x t)) (λ (t : (call ≡ x) × (k ≡ length v.calls)) other. absurd (other (ap backend_of (sym t.0) ∙ maker ∙ sym number)))
         (at_end v.calls call x k (subst (λ (l : List Call). get_elem? l k ≡ some x) calls at));
-    fronted = λ k x at. ⊎_elim (λ (t : get_elem? v.calls k ≡ some x). let y = c.fronted k x t in let z = (h.calls i v there).within in omega arith) (λ (t : (call ≡ x) × (k ≡ length v.calls)). let y : end_of e ≡ place_of x = ap place_of t.0 in omega arith)
+    fronted = λ k x at. ⊎_elim (λ (t : get_elem? v.calls k ≡ some x). let y = c.fronted k x t in let z = (h.calls i v there).within in omega arith) (λ (t : (call ≡ x) × (k ≡ length v.calls)). let y : end_of e ≡ place_of x = sym placed ∙ ap place_of t.0 in omega arith)
         (at_end v.calls call x k (subst (λ (l : List Call). get_elem? l k ≡ some x) calls at));
     from_base = λ _. omega (arith, end_above log e logged);
-    reached = λ _ _. subst (λ (l : List Call). HasPlace l w.front) (sym calls) (at_last_place v.calls call w.front (sym front));
+    reached = λ _ _. subst (λ (l : List Call). HasPlace l w.front) (sym calls) (at_last_place v.calls call w.front (placed ∙ sym front));
     within = omega (arith, end_longer log e logged);
-    in_order = let low = (h.calls i v there).within in subst AreInOrder (sym calls) (in_order_longer v.calls call v.front c.in_order c.fronted (omega arith));
+    in_order = let low = (h.calls i v there).within in subst AreInOrder (sym calls) (in_order_longer v.calls call v.front c.in_order c.fronted (omega (arith, placed, starts, some_size e.change)));
     loaded = let y = c.loaded in omega arith;
   }
+
+  pub history_entered : HistoryLaw known origin sizes longer flushed (set views i w)
+  history_entered = record {
+    calls = λ j u at. ⊎_elim (λ (t : (j ≡ i) × (w ≡ u)). subst (CallsLaw known origin sizes longer flushed) t.1 here) (λ (t : (j ≢ i) × (get_elem? views j ≡ some u)). later j u (h.calls j u t.1)) (at_set views i j w u at);
+    kept = kept_set views h.kept i v w there kept emptied;
+    counted = let s = more write_weight in let z = written in omega (arith, total-set (λ (x : View). writes_in x.calls) views i v w there, length-append log.entries (e ∷ []), h.counted);
+    once = λ k x at. let p : ℕ = end_of x in let s = more (weight_at p) in let sums = total-set (λ (y : View). writes_at p y.calls) views i v w there in ⊎_elim
+        (λ (t : get_elem? log.entries k ≡ some x). let low = ends_below log e logged k x t in let z : weight_at p call ≡ 0 = written_at p ∙ ap (λ (b : Bool). cond b 1 0) (ne_eqb (end_of e) p (λ q. omega (arith, some_size e.change))) in let was = h.once k x t in omega arith)
+        (λ (t : (e ≡ x) × (k ≡ length log.entries)). let same : end_of e ≡ p = ap end_of t.0 in let z : weight_at p call ≡ 1 = written_at p ∙ ap (λ (b : Bool). cond b 1 0) (eq-eqb (end_of e) p same) in
+        let none : total (λ (y : View). writes_at p y.calls) views ≡ 0 = total-none (λ (y : View). writes_at p y.calls) views (λ j u q. subst (λ (n : ℕ). writes_at n u.calls ≡ 0) same (none_yet j u q)) in omega arith)
+        (at_end log.entries e x k at);
+  }
+
+-- The write of a page
+module _ (known : ℕ → Bool) (origin : ℕ → Option Page) (sizes : ℕ → ℕ) (log : Log) (flushed : ℕ) (views : List View) (h : HistoryLaw known origin sizes log flushed views) (logged : LogLaw log) (i : ℕ) (v w : View) (there : get_elem? views i ≡ some v) (e : Entry) (starts : e.start ≡ log_end log)
+    (tag : ℕ) (p : Page) (record_is : WriteRecord) (of : tag_in e.change ≡ Some tag) (whole : (t : ℕ) (q : Page) → e.change ≡ image t q → q ≡ p) (sized : change_size e.change ≡ record_is.size) (tested : (t : ImageTest) → record_is.test ≡ Some t → known tag ≡ true → (q : Page) × (cell origin log.entries tag ≡ Some q) × (lsn_of q ≡ t.before))
+    (is : known tag ≡ true → cell origin (log.entries ++ e ∷ []) tag ≡ Some p) (calls : w.calls ≡ v.calls ++ Write e.backend tag p (end_of e) record_is ∷ []) (front : w.front ≡ end_of e) (emptied : w.emptied ≡ v.emptied) (loaded : w.flushed ≡ v.flushed) (number : w.number ≡ v.number) (kept : w.joined_checkpoints ≡ v.joined_checkpoints) (maker : e.backend ≡ v.number) where
+  abbrev with_entry : Log
+  with_entry = record log { entries = log.entries ++ e ∷ [] }
+
+  pub history_written : HistoryLaw known origin sizes with_entry flushed (set views i w)
+  history_written = history_entered known origin sizes log flushed views h logged i v w there e starts (Write e.backend tag p (end_of e) record_is) refl maker refl (λ q. refl) (record { index = length log.entries; entry = e; entered = record { there = at_last log.entries; of = of }; made = refl; ends = refl; image_is = whole; sized = sized; tested = λ y test has. let z = tested y test has in (z.0, ap (λ (es : List Entry). cell origin es tag) cut_before ∙ z.1, z.2); writes = λ has. ap (λ (es : List Entry). cell origin es tag) (cut_all (end_of e) with_entry.entries all_within) ∙ is has }) calls front emptied loaded number kept
     where
       at_last : (l : List Entry) → get_elem? (l ++ e ∷ []) (length l) ≡ some e
       at_last [] = refl
       at_last (x ∷ l) = at_last l
 
       -- the entries that end where the new one starts are those before it
-      cut_before : cut e.start longer.entries ≡ log.entries
+      cut_before : cut e.start with_entry.entries ≡ log.entries
       cut_before = cut_longer e.start log.entries e (omega (arith, some_size e.change)) ∙ cut_all e.start log.entries (λ k x at. let low = ends_below log e logged k x at in omega arith)
 
-      all_within : (k : ℕ) (x : Entry) → get_elem? longer.entries k ≡ some x → end_of x ≤ end_of e
+      all_within : (k : ℕ) (x : Entry) → get_elem? with_entry.entries k ≡ some x → end_of x ≤ end_of e
       all_within k x at = ⊎_elim (λ (t : get_elem? log.entries k ≡ some x). let low = ends_below log e logged k x t in omega arith) (λ (t : (e ≡ x) × (k ≡ length log.entries)). let same : end_of e ≡ end_of x = ap end_of t.0 in omega arith) (at_end log.entries e x k at)
-
-  pub history_written : HistoryLaw known origin longer flushed (set views i w)
-  history_written = record {
-    calls = λ j u at. ⊎_elim (λ (t : (j ≡ i) × (w ≡ u)). subst (CallsLaw known origin longer flushed) t.1 here) (λ (t : (j ≢ i) × (get_elem? views j ≡ some u)). later j u (h.calls j u t.1)) (at_set views i j w u at);
-    kept = kept_set views h.kept i v w there kept emptied;
-    counted = let s = more write_weight in let z : write_weight call ≡ 1 = refl in omega (arith, total-set (λ (x : View). writes_in x.calls) views i v w there, length-append log.entries (e ∷ []), h.counted);
-    once = λ k x at. let p : ℕ = end_of x in let s = more (weight_at p) in let sums = total-set (λ (y : View). writes_at p y.calls) views i v w there in ⊎_elim
-        (λ (t : get_elem? log.entries k ≡ some x). let low = ends_below log e logged k x t in let z : weight_at p call ≡ 0 = ap (λ (b : Bool). cond b 1 0) (ne_eqb (end_of e) p (λ q. omega (arith, some_size e.change))) in let was = h.once k x t in omega arith)
-        (λ (t : (e ≡ x) × (k ≡ length log.entries)). let same : end_of e ≡ p = ap end_of t.0 in let z : weight_at p call ≡ 1 = ap (λ (b : Bool). cond b 1 0) (eq-eqb (end_of e) p same) in
-        let none : total (λ (y : View). writes_at p y.calls) views ≡ 0 = total-none (λ (y : View). writes_at p y.calls) views (λ j u q. subst (λ (n : ℕ). writes_at n u.calls ≡ 0) same (none_yet j u q)) in omega arith)
-        (at_end log.entries e x k at);
-  }

@@ -11,7 +11,7 @@ use Rattle.pin_core.specs.declared.view.LaneChange.{LaneChange}
 use Rattle.pin_core.specs.declared.view.LaneChange.TheVariants as lane_change
 use Rattle.pin_core.specs.declared.view.Link.{Link}
 use Rattle.pin_core.specs.declared.view.View.{View}
-use Rattle.pin_core.specs.State.{Config, Frame, Page, link, lane_hold, no_lane, first_view, new_view, emptied_view, joined_view, hold}
+use Rattle.pin_core.specs.State.{Config, Frame, Page, link, lane_hold, no_lane, first_view, new_view, emptied_view, joined_view, hold, size_hold}
 use Rattle.pin_core.specs.Tallies.{flag_weight}
 use Rattle.pin_core.specs.Kinds as pin_kinds
 use Rattle.pin_core.specs.Turns.{view_turned}
@@ -25,7 +25,7 @@ use Rattle.page_core.specs.Steps as page_steps
 use Rattle.history_core.specs.State.{Lane, State, Store, failed, opening}
 use Rattle.history_core.specs.Lanes as lane_kinds
 use Rattle.history_core.specs.Lanes.{swept_by, LaneKind, lane_after, lane_hold_after, lane_met_by, fault_of, syncs, is_failed_write}
-use Rattle.history_core.specs.Steps.{LaneAlone, MayWriteLane, Notes, Step, pools, lanes, writes, notes, logs, enters, reads, Event, Run, rests, goes, stepped, looked, aside, pool_after, logged_noting, pool_noting, paged, laned, has_read, has_written, words, after_word}
+use Rattle.history_core.specs.Steps.{LaneAlone, MayWriteLane, Notes, Step, pools, lanes, writes, notes, logs, enters, reads, Event, Run, rests, goes, stepped, looked, aside, pool_after, logged_noting, pool_noting, paged, laned, has_read, has_written, words, after_word, reads_size, has_seen_size}
 use Rattle.history_core.specs.Log.{change_size, Change}
 use Rattle.history_core.specs.Device as log_kinds
 use Rattle.history_core.specs.Device.{LogKind, view_logged}
@@ -304,6 +304,7 @@ marks_kept (notes {s = s} i q f noted k v there live low inside a x) h m = notes
 marks_kept (logs {s = s} i k v there live a record_is) h m = λ none. let x = aside_marks s h m i v (view_logged k v) there (omega arith) refl (no_write_fault k v) refl none in record { frames = x.frames; blocks = x.blocks; views = x.views }
 marks_kept (enters {s = s} i f p ch v there live inside x) h m = entered_marks s h m i f p ch v there inside refl refl refl (λ tag. refl)
 marks_kept (reads {s = s} i f tag p v there live inside a) h m = aside_marks s h m i v (looked (seen.LogEnd s.end) (has_read s.end tag p v)) there (omega arith) refl refl refl
+marks_kept (reads_size {s = s} i fork v there live a) h m = aside_marks s h m i v (looked (seen.LogEnd s.end) (has_seen_size s.end fork (size_hold v fork).blocks v)) there (omega arith) refl refl refl
 marks_kept (words {s = s} i k v there live a) h m = λ none. let x = aside_marks s h m i v (after_word k s v) there (omega arith) refl refl refl none in record { frames = x.frames; blocks = x.blocks; views = x.views }
 
 pub marks_after : {es : List Event} {s t : State} → Run es s t → HistoryInvariant s → MarksLaw s → MarksLaw t

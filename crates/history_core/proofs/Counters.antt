@@ -8,7 +8,7 @@ use Rattle.std.specs.Prelude.{nat_eq}
 use Rattle.pin_core.specs.declared.view.Published.{Published}
 use Rattle.pin_core.specs.declared.view.LoadedWord.TheVariants as seen
 use Rattle.pin_core.specs.declared.view.View.{View}
-use Rattle.pin_core.specs.State.{Config, Page, link, hold, first_view, new_view, emptied_view, joined_view}
+use Rattle.pin_core.specs.State.{Config, Page, link, hold, size_hold, first_view, new_view, emptied_view, joined_view}
 use Rattle.pin_core.specs.State as pins
 use Rattle.pin_core.specs.Invariant.{live_weight, AllAccounted}
 use Rattle.pin_core.specs.Kinds as pin_kinds
@@ -24,7 +24,7 @@ use Rattle.history_core.specs.State.{State, Store, opening}
 use Rattle.history_core.specs.Balances.{added_to}
 use Rattle.history_core.specs.Counters.{FollowsCounters, IsBounded, CountersLaw, CountersAreSums}
 use Rattle.history_core.specs.Laws.{Laws}
-use Rattle.history_core.specs.Steps.{Event, stepped, looked, pool_noting, paged, laned, has_read, has_written, Step, pools, lanes, writes, notes, logs, enters, reads, words, after_word}
+use Rattle.history_core.specs.Steps.{Event, stepped, looked, pool_noting, paged, laned, has_read, has_seen_size, has_written, Step, pools, lanes, writes, notes, logs, enters, reads, reads_size, words, after_word}
 use Rattle.history_core.specs.Words.{WordKind, load_counter, add_counter, WordAllowed, counter_word, word_at, number_after, word_set, last_published}
 use Rattle.history_core.proofs.Balances.{balances_aside, balances_listed, balances_split, balances_joined}
 use Rattle.grid.specs.Shape.{put, total, at_key, sum_at}
@@ -121,6 +121,7 @@ counters_kept (notes {s = s} i q f noted k v there live low inside a x) m = besi
 counters_kept (logs {s = s} i k v there live a record_is) m = beside s.counter s.pool.core.views m i v (view_logged k v) there refl refl
 counters_kept (enters {s = s} i f p ch v there live inside x) m = beside s.counter s.pool.core.views m i v (has_written ch (link v f).copied (s.end + change_size ch) (s.pool.core.frame f).tag p (paged (make_entry p) s.pool f v)) there refl refl
 counters_kept (reads {s = s} i f tag p v there live inside a) m = beside s.counter s.pool.core.views m i v (looked (seen.LogEnd s.end) (has_read s.end tag p v)) there refl refl
+counters_kept (reads_size {s = s} i fork v there live shared) m = beside s.counter s.pool.core.views m i v (looked (seen.LogEnd s.end) (has_seen_size s.end fork (size_hold v fork).blocks v)) there refl refl
 counters_kept (words {s = s} i k v there live a) m = after_word_counters k s i v there a m
 
 pub counters_open : (c : Config) (store : Store) (page : Page) → CountersLaw (opening c store page).counter (opening c store page).pool.core.views

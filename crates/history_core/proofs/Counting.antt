@@ -7,7 +7,7 @@ use lib.ListN.{get_elem?}
 use Rattle.pin_core.specs.declared.view.LaneHold.{LaneHold}
 use Rattle.pin_core.specs.declared.view.FailedCalls.{FailedCalls}
 use Rattle.pin_core.specs.declared.view.View.{View}
-use Rattle.pin_core.specs.State.{Config, Page, link, hold, no_lane, lane_hold, new_view, emptied_view, joined_view, sum_of_met, first_view}
+use Rattle.pin_core.specs.State.{Config, Page, link, hold, no_lane, lane_hold, new_view, emptied_view, joined_view, sum_of_met, first_view, size_hold}
 use Rattle.pin_core.specs.Tallies.{flag_weight}
 use Rattle.pin_core.specs.Kinds as pin_kinds
 use Rattle.pin_core.specs.Turns.{view_turned}
@@ -26,7 +26,7 @@ use Rattle.page_core.specs.Kinds.{begin_write, make_entry}
 use Rattle.history_core.specs.Log.{change_size}
 use Rattle.history_core.specs.Device as log_kinds
 use Rattle.history_core.specs.Device.{LogKind, view_logged}
-use Rattle.history_core.specs.Steps.{Event, stepped, looked, pool_noting, paged, laned, has_read, has_written, Step, pools, lanes, writes, notes, logs, enters, reads, Run, rests, goes, words, after_word}
+use Rattle.history_core.specs.Steps.{Event, stepped, looked, pool_noting, paged, laned, has_read, has_written, Step, pools, lanes, writes, notes, logs, enters, reads, Run, rests, goes, words, after_word, reads_size, has_seen_size}
 use Rattle.history_core.specs.Invariant.{HistoryInvariant}
 use Rattle.history_core.proofs.Counts.{known, more, counts_kept, count_stays, other_link, risen_later}
 use Rattle.history_core.proofs.LogCounting.{log_counting, log_counts_open}
@@ -259,6 +259,7 @@ lane_counting (notes {s = s} i q f noted k v there live low inside a x) h m = la
 lane_counting (logs {s = s} i k v there live a record_is) h m = logged_counts s h m i k v there
 lane_counting (enters {s = s} i f p ch v there live inside x) h m = unlaned_counts s h m i v (has_written ch (link v f).copied (s.end + change_size ch) (s.pool.core.frame f).tag p (paged (make_entry p) s.pool f v)) there refl refl refl refl
 lane_counting (reads {s = s} i f tag p v there live inside a) h m = unlaned_counts s h m i v (looked (seen.LogEnd s.end) (has_read s.end tag p v)) there refl refl refl refl
+lane_counting (reads_size {s = s} i fork v there live a) h m = unlaned_counts s h m i v (looked (seen.LogEnd s.end) (has_seen_size s.end fork (size_hold v fork).blocks v)) there refl refl refl refl
 lane_counting (words {s = s} i k v there live a) h m = let x = unlaned_counts s h m i v (after_word k s v) there refl refl refl refl in record { lanes = record { columns = x.lanes.columns; cells = x.lanes.cells }; reads_rose = x.reads_rose; writes_rose = x.writes_rose }
 
 pub counting : {e : Event} {s t : State} → Step e s t → HistoryInvariant s → CountsLaw s → CountsLaw t

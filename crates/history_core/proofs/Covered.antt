@@ -8,7 +8,7 @@ use Rattle.history_core.specs.State.{Lane, State}
 use Rattle.history_core.specs.Lanes as lane_kinds
 use Rattle.history_core.specs.Lanes.{LaneKind, lane_after}
 use Rattle.history_core.specs.Histories.{IsReached, SyncsCover}
-use Rattle.history_core.specs.Steps.{pools, lanes, writes, notes, logs, enters, reads, words}
+use Rattle.history_core.specs.Steps.{pools, lanes, writes, notes, logs, enters, reads, words, reads_size}
 use Rattle.history_core.proofs.Always.{KeptByLaws, always}
 use Rattle.grid.specs.Shape.{put}
 use Rattle.grid.proofs.Lists.{put_at, put_else}
@@ -42,6 +42,7 @@ covered_kept e s t (notes i q f noted k v there live low inside a x) laws h = pu
 covered_kept e s t (logs i k v there live a record_is) laws h = h
 covered_kept e s t (enters i f p c v there live inside x) laws h = h
 covered_kept e s t (reads i f z p v there live inside a) laws h = h
+covered_kept e s t (reads_size i fork v there live a) laws h = h
 covered_kept e s t (words i k v there live a) laws h = h
 
 pub syncs_cover : (s : State) → IsReached s → SyncsCover s

@@ -22,7 +22,7 @@ use Rattle.history_core.specs.Lanes as lane_kinds
 use Rattle.history_core.specs.Lanes.{LaneKind, lane_after}
 use Rattle.history_core.specs.Invariant.{HistoryInvariant}
 use Rattle.history_core.specs.Laws.{Laws}
-use Rattle.history_core.specs.Steps.{Event, MayWriteLane, LaneAlone, new_entry, Step, pools, lanes, writes, notes, logs, enters, reads, words}
+use Rattle.history_core.specs.Steps.{Event, MayWriteLane, LaneAlone, new_entry, Step, pools, lanes, writes, notes, logs, enters, reads, words, reads_size}
 use Rattle.history_core.specs.Words.{WordKind, raise_flushed, number_after, word_at, word_set, flushed_word}
 use Rattle.history_core.specs.Unentered.{IsEntered, IsFlushedEntered, IsUnentered, IsHeldUnentered, DirtyHaveEntries, WrittenHaveEntries}
 use Rattle.history_core.specs.Redo.{CanFollow, HasWhole, StartsBased, RedoLaw}
@@ -139,6 +139,7 @@ by_step fails {t = t} (notes {s = s} i q f done k v there live low inside a x) n
 by_step fails {t = t} (logs {s = s} i k v there live a record_is) noted h d m = λ tag lost. later s h d fails m t noted tag (λ n e of. of) (omega arith) (m tag lost)
 by_step fails {t = t} (enters {s = s} i f p c v there live inside x) noted h d m = λ tag lost. later s h d fails m t noted tag (λ n e of. record { there = at_longer s.log.entries (new_entry s v.number c ∷ []) n e of.there; of = of.of }) (omega arith) (m tag lost)
 by_step fails {t = t} (reads {s = s} i f z p v there live inside a) noted h d m = λ tag lost. later s h d fails m t noted tag (λ n e of. of) (omega arith) (m tag lost)
+by_step fails {t = t} (reads_size {s = s} i fork v there live a) noted h d m = λ tag lost. later s h d fails m t noted tag (λ n e of. of) (omega arith) (m tag lost)
 by_step fails {t = t} (words {s = s} i k v there live a) noted h d m = λ tag lost. later s h d fails m t noted tag (λ n e of. of) (raised_up k s) (m tag lost)
 
 -- what is shown by induction: of dirty frames, and of what was written

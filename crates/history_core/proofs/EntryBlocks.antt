@@ -7,7 +7,7 @@ use Rattle.history_core.specs.Log.{IsEntryOf, tag_in}
 use Rattle.history_core.specs.State.{State}
 use Rattle.history_core.specs.Laws.{Laws}
 use Rattle.history_core.specs.Histories.{EntriesAreOfBlocks}
-use Rattle.history_core.specs.Steps.{Event, Step, pools, lanes, writes, notes, logs, enters, reads, words, new_entry}
+use Rattle.history_core.specs.Steps.{Event, Step, pools, lanes, writes, notes, logs, enters, reads, words, new_entry, reads_size}
 use Rattle.history_core.proofs.Always.{KeptByLaws, always}
 use Rattle.history_core.proofs.Logs.{entry_longer}
 use Rattle.history_core.proofs.Stepping.{named, of_block, frame_block, pool_sizes}
@@ -25,6 +25,7 @@ of_blocks_kept e s t (writes i q f k v there live low inside a x) laws h = h
 of_blocks_kept e s t (notes i q f noted k v there live low inside a x) laws h = h
 of_blocks_kept e s t (logs i k v there live a record_is) laws h = h
 of_blocks_kept e s t (reads i f z p v there live inside a) laws h = h
+of_blocks_kept e s t (reads_size i fork v there live a) laws h = h
 of_blocks_kept e s t (words i k v there live a) laws h = h
 
 pub entries_of_blocks : (s : State) → Laws s → EntriesAreOfBlocks s

@@ -7,7 +7,7 @@ use lib.ListN.{get_elem?}
 use Rattle.pin_core.specs.declared.view.HintStore.{HintStore}
 use Rattle.pin_core.specs.declared.view.LoadedWord.TheVariants as seen
 use Rattle.pin_core.specs.declared.view.View.{View}
-use Rattle.pin_core.specs.State.{Config, Page, link, hold, new_view}
+use Rattle.pin_core.specs.State.{Config, Page, link, hold, new_view, size_hold}
 use Rattle.pin_core.specs.State as pins
 use Rattle.pin_core.specs.Kinds as pin_kinds
 use Rattle.pin_core.specs.Turns.{view_turned}
@@ -21,7 +21,7 @@ use Rattle.history_core.specs.Device.{view_logged}
 use Rattle.history_core.specs.State.{State, Store, opening}
 use Rattle.history_core.proofs.Balances.{balances_aside, balances_listed, balances_split, balances_joined, balances_fixed}
 use Rattle.history_core.specs.Hints.{FollowsHints, HintsLaw}
-use Rattle.history_core.specs.Steps.{Event, stepped, looked, pool_noting, paged, laned, has_read, has_written, Step, pools, lanes, writes, notes, logs, enters, reads, words, after_word}
+use Rattle.history_core.specs.Steps.{Event, stepped, looked, pool_noting, paged, laned, has_read, has_written, Step, pools, lanes, writes, notes, logs, enters, reads, words, after_word, reads_size, has_seen_size}
 use Rattle.history_core.specs.Words.{WordKind, load_hint, store_hint, WordAllowed, hint_word, word_at, number_after, word_set}
 use Rattle.grid.specs.Shape.{put, total}
 use Rattle.grid.proofs.Lists.{put_at, put_else}
@@ -68,6 +68,7 @@ hints_kept (notes {s = s} i q f noted k v there live low inside a x) m = record 
 hints_kept (logs {s = s} i k v there live a record_is) m = record { named = m.named; fixed = λ n. balances_aside (m.fixed n) i v (view_logged k v) there refl }
 hints_kept (enters {s = s} i f p ch v there live inside x) m = record { named = m.named; fixed = λ n. balances_aside (m.fixed n) i v (has_written ch (link v f).copied (s.end + change_size ch) (s.pool.core.frame f).tag p (paged (make_entry p) s.pool f v)) there refl }
 hints_kept (reads {s = s} i f tag p v there live inside a) m = record { named = m.named; fixed = λ n. balances_aside (m.fixed n) i v (looked (seen.LogEnd s.end) (has_read s.end tag p v)) there refl }
+hints_kept (reads_size {s = s} i fork v there live a) m = record { named = m.named; fixed = λ n. balances_aside (m.fixed n) i v (looked (seen.LogEnd s.end) (has_seen_size s.end fork (size_hold v fork).blocks v)) there refl }
 hints_kept (words {s = s} i k v there live a) m = record { named = named_after_word k s v m.named a; fixed = fixed_after_word k s i v there m.fixed }
 
 pub hints_open : (c : Config) (store : Store) (page : Page) → HintsLaw (opening c store page)

@@ -8,14 +8,15 @@ use Rattle.page_layout.specs.Fields.{lsn_of}
 use Rattle.pin_core.specs.declared.view.LaneHold.{LaneHold}
 use Rattle.pin_core.specs.declared.view.Link.{Link}
 use Rattle.pin_core.specs.declared.view.View.{View}
-use Rattle.pin_core.specs.declared.view.Call.TheVariants.{Read}
-use Rattle.pin_core.specs.State.{Frame, Page, link, lane_hold, no_lane, is_block}
+use Rattle.pin_core.specs.declared.view.Call.TheVariants.{Read, Sized}
+use Rattle.pin_core.specs.State.{Frame, Page, link, lane_hold, no_lane, is_block, size_hold}
 use Rattle.pin_core.specs.Tallies.{flag_weight, some_weight}
 use Rattle.pin_core.specs.declared.view.LoadedWord.TheVariants as seen
 use Rattle.page_core.specs.Kinds.{make_entry}
 use Rattle.page_core.proofs.Histories as pages
 use Rattle.page_core.proofs.Histories.{flag_count}
-use Rattle.history_core.specs.Log.{Entry, Change, image, ranges, resize, is_image, change_size, changed_page, end_of, cell, cut}
+use Rattle.pin_core.proofs.Sizing.{shared_finds}
+use Rattle.history_core.specs.Log.{sizes_after, Entry, Change, image, ranges, resize, is_image, change_size, changed_page, end_of, cell, cut}
 use Rattle.history_core.specs.State.{Lane, State, stored}
 use Rattle.history_core.specs.Lanes as lane_kinds
 use Rattle.history_core.specs.Lanes.{swept_by, LaneKind, LaneAllowed, lane_after, lane_hold_after}
@@ -23,8 +24,8 @@ use Rattle.history_core.specs.Device.{appenders, log_weigh, resting_weight}
 use Rattle.history_core.specs.Device as log
 use Rattle.history_core.specs.Homes.{IsUnframed}
 use Rattle.history_core.specs.Invariant.{HistoryInvariant}
-use Rattle.history_core.specs.Steps.{looked, stepped, laned, lanes, paged, has_read, has_written, new_entry, MakesPage, MayWriteLane, writes, enters, reads}
-use Rattle.history_core.specs.Histories.{IsReached, CallsAreLegal, ReadsAtBase, SyncsMakeDurable, JoinedAreApart, CallsAreOwn, FrontsAreReached, CallsAreInOrder, LoadedIsFlushed, LanesGoOutFlushed, NotedWritesAreDone, holds_log, LogIsHeld, WritesAreEntries, ReadsStand, WritesStand, LogBeforeData, LanesHoldFlushedPages, IsStored, CleanBlocksAreStored, FramesAreSound, FramesHoldCells, LogWords, holds_lane, LanesAreHeld, EntriesAreDurable, DeviceHoldsLog}
+use Rattle.history_core.specs.Steps.{looked, stepped, laned, lanes, paged, has_read, has_written, new_entry, MakesPage, MayWriteLane, writes, enters, reads, reads_size, has_seen_size}
+use Rattle.history_core.specs.Histories.{IsReached, CallsAreLegal, ReadsAtBase, SyncsMakeDurable, JoinedAreApart, CallsAreOwn, FrontsAreReached, CallsAreInOrder, LoadedIsFlushed, LanesGoOutFlushed, NotedWritesAreDone, holds_log, LogIsHeld, WritesAreEntries, ReadsStand, WritesStand, LogBeforeData, LanesHoldFlushedPages, IsStored, CleanBlocksAreStored, FramesAreSound, FramesHoldCells, LogWords, holds_lane, LanesAreHeld, EntriesAreDurable, DeviceHoldsLog, SizesStand}
 use Rattle.history_core.specs.Redo.{RedoLaw}
 use Rattle.history_core.specs.Rest.{RestLaw}
 use Rattle.history_core.proofs.Logs.{some_size, cell_longer, cell_none, changed_image, cut_none_below, starts_above, end_longer}
@@ -128,6 +129,27 @@ module _ (s : State) (h : HistoryInvariant s) where
           front = refl;
           place_loads = refl;
           is_cell = subst (λ (z : ℕ). s.known z ≡ true → cell s.origin (cut s.end s.log.entries) z ≡ Some p) is cell_is;
+          later = λ j x at. let y = c.fronted j x at in let z = c.within in omega arith;
+          above = let z = c.within in omega arith;
+        },
+      )
+
+  pub sizes_stand : SizesStand s
+  sizes_stand _ _ t (reads_size i fork v there live a) = let n : ℕ = (size_hold v fork).blocks in let w : View = looked (seen.LogEnd s.end) (has_seen_size s.end fork n v) in let here = set_here s.pool.core.views i v w there in let k = step_keeps (reads_size i fork v there live a) h in
+      let c = h.history.calls i v there in let e = h.ends in let finds = shared_finds s.pool.core h.pool.sizes i fork v there a in
+      let sees : sizes_after (cut s.end s.log.entries) s.opened_sizes fork ≡ n = ((k.history.calls i w here).legal (length v.calls) (Sized v.number fork n s.end) (at_last v.calls (Sized v.number fork n s.end))).sees in (
+        v,
+        w,
+        there,
+        here,
+        record {
+          blocks = n;
+          shared = a;
+          found = refl;
+          added = refl;
+          front = refl;
+          place_loads = refl;
+          sees = sees;
           later = λ j x at. let y = c.fronted j x at in let z = c.within in omega arith;
           above = let z = c.within in omega arith;
         },

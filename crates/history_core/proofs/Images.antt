@@ -6,7 +6,7 @@ use Rattle.history_core.specs.Log.{Entry, Change, image, ranges, resize, MayMake
 use Rattle.history_core.specs.State.{State}
 use Rattle.history_core.specs.Laws.{Laws}
 use Rattle.history_core.specs.Histories.{ImagesAlone}
-use Rattle.history_core.specs.Steps.{pools, lanes, writes, notes, logs, enters, reads, words, new_entry}
+use Rattle.history_core.specs.Steps.{pools, lanes, writes, notes, logs, enters, reads, words, new_entry, reads_size}
 use Rattle.history_core.proofs.Always.{KeptByLaws, always}
 use Rattle.grid.proofs.Lists.{at_end}
 
@@ -26,6 +26,7 @@ images_kept e s t (enters i f p c v there live inside x) laws h = λ none k d at
     (λ (is : (new_entry s v.number c ≡ d) × (k ≡ length s.log.entries)). ap (λ (y : Entry). is_image y.change) (sym is.0) ∙ made_whole s.ranges c x.allowed none)
     (at_end s.log.entries (new_entry s v.number c) d k at)
 images_kept e s t (reads i f z p v there live inside a) laws h = h
+images_kept e s t (reads_size i fork v there live a) laws h = h
 images_kept e s t (words i k v there live a) laws h = h
 
 pub images_alone : (s : State) → Laws s → ImagesAlone s

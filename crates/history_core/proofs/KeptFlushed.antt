@@ -7,7 +7,7 @@ use lib.ListN.{get_elem?}
 use Rattle.pin_core.specs.declared.view.LoadedWord.TheVariants as seen
 use Rattle.pin_core.specs.declared.view.LaneHold.{LaneHold}
 use Rattle.pin_core.specs.declared.view.View.{View}
-use Rattle.pin_core.specs.State.{link, hold, lane_hold, no_lane, new_view, emptied_view, joined_view}
+use Rattle.pin_core.specs.State.{link, hold, lane_hold, no_lane, new_view, emptied_view, joined_view, size_hold}
 use Rattle.pin_core.specs.State as pins
 use Rattle.pin_core.specs.Sizes.{view_sized}
 use Rattle.pin_core.specs.Steps as pin_steps
@@ -21,7 +21,7 @@ use Rattle.history_core.specs.State.{State}
 use Rattle.history_core.specs.Lanes as lane_kinds
 use Rattle.history_core.specs.Lanes.{swept_by, LaneKind, lane_back, lane_hold_after}
 use Rattle.history_core.specs.Device.{view_logged}
-use Rattle.history_core.specs.Steps.{Event, pool, lane, stepped, looked, pool_noting, paged, laned, has_read, has_written, MayWriteLane, Step, pools, lanes, writes, notes, enters, reads, logs, words, after_word}
+use Rattle.history_core.specs.Steps.{Event, pool, lane, stepped, looked, pool_noting, paged, laned, has_read, has_written, MayWriteLane, Step, pools, lanes, writes, notes, enters, reads, logs, words, after_word, reads_size, has_seen_size}
 use Rattle.history_core.specs.Histories.{LeavesHold, HasKeptFlushed, HoldsKeepFlushed}
 use Rattle.grid.proofs.Lists.{set_here, set_else, at_longer}
 
@@ -93,6 +93,7 @@ step_keeps (notes {s = s} i m f noted k u there live low inside a x) j n v at le
 step_keeps (logs {s = s} i k u there live a record_is) j n v at leaves = set_stays s.pool.core.views i j n u (view_logged k u) v there (λ e. refl) at
 step_keeps (enters {s = s} i f p ch u there live inside x) j n v at leaves = set_stays s.pool.core.views i j n u (has_written ch (link u f).copied (s.end + change_size ch) (s.pool.core.frame f).tag p (paged (make_entry p) s.pool f u)) v there (λ e. refl) at
 step_keeps (reads {s = s} i f tag p u there live inside a) j n v at leaves = set_stays s.pool.core.views i j n u (looked (seen.LogEnd s.end) (has_read s.end tag p u)) v there (λ e. refl) at
+step_keeps (reads_size {s = s} i fork u there live a) j n v at leaves = set_stays s.pool.core.views i j n u (looked (seen.LogEnd s.end) (has_seen_size s.end fork (size_hold u fork).blocks u)) v there (λ e. refl) at
 step_keeps (words {s = s} i k u there live a) j n v at leaves = set_stays s.pool.core.views i j n u (after_word k s u) v there (λ e. refl) at
 
 pub holds_keep : (s : State) → HoldsKeepFlushed s

@@ -11,7 +11,7 @@ use Rattle.pin_core.specs.declared.view.Link.{Link}
 use Rattle.pin_core.specs.declared.view.LoadedWord.TheVariants as seen
 use Rattle.pin_core.specs.declared.view.Resident.{Resident}
 use Rattle.pin_core.specs.declared.view.View.{View}
-use Rattle.pin_core.specs.State.{Frame, link, hold, first_view, new_view, emptied_view, joined_view, empty_frame}
+use Rattle.pin_core.specs.State.{Frame, link, hold, size_hold, first_view, new_view, emptied_view, joined_view, empty_frame}
 use Rattle.pin_core.specs.State as pins
 use Rattle.pin_core.specs.Invariant.{LinkLaw, PinInvariant}
 use Rattle.pin_core.specs.Kinds as pin_kinds
@@ -30,7 +30,7 @@ use Rattle.history_core.specs.Device.{view_logged}
 use Rattle.history_core.specs.State.{State}
 use Rattle.history_core.specs.Laws.{Laws}
 use Rattle.history_core.specs.Residents.{ListsResident, PinsAreListed}
-use Rattle.history_core.specs.Steps.{Event, stepped, looked, logged_noting, pool_noting, paged, laned, has_read, has_written, Step, pools, lanes, writes, notes, logs, enters, reads, words, after_word}
+use Rattle.history_core.specs.Steps.{Event, stepped, looked, logged_noting, pool_noting, paged, laned, has_read, has_seen_size, has_written, Step, pools, lanes, writes, notes, logs, enters, reads, reads_size, words, after_word}
 use Rattle.history_core.specs.Words.{word_of, word_at}
 use Rattle.history_core.proofs.Always.{KeptByLaws, always}
 use Rattle.history_core.proofs.Stepping.{relinks}
@@ -150,6 +150,7 @@ listed_kept e s t (notes i q f noted k v there live low inside a x) laws m = pag
 listed_kept e s t (logs i k v there live a record_is) laws m = all_set s.pool.core.frames s.pool.core.views m i (view_logged k v) (m i v there)
 listed_kept e s t (enters i f p c v there live inside x) laws m = paged_listed s laws i f (make_entry p) (block_of s.pool.logged (s.pool.core.frame f).tag) v (has_written c (link v f).copied (s.end + change_size c) (s.pool.core.frame f).tag p (paged (make_entry p) s.pool f v)) there live inside refl refl m
 listed_kept e s t (reads i f tag p v there live inside a) laws m = all_set s.pool.core.frames s.pool.core.views m i (looked (seen.LogEnd s.end) (has_read s.end tag p v)) (m i v there)
+listed_kept e s t (reads_size i fork v there live shared) laws m = all_set s.pool.core.frames s.pool.core.views m i (looked (seen.LogEnd s.end) (has_seen_size s.end fork (size_hold v fork).blocks v)) (m i v there)
 listed_kept e s t (words i k v there live a) laws m = all_set s.pool.core.frames s.pool.core.views m i (after_word k s v)
     (λ f tag below saw known. let same = link_left k (word_of (word_at k) s) s.end v f in m i v there f tag below (ap (λ (x : Link). x.seen_valid) (sym same) ∙ saw) (ap (λ (x : Link). x.tag) (sym same) ∙ known))
 

@@ -14,7 +14,7 @@ use Rattle.pin_core.specs.declared.view.LogHold.{LogHold}
 use Rattle.pin_core.specs.declared.view.TakenLog.{TakenLog}
 use Rattle.pin_core.specs.declared.view.View.{View}
 use Rattle.pin_core.specs.declared.view.LoadedWord.TheVariants as seen
-use Rattle.pin_core.specs.State.{Config, link, hold, lane_hold, first_view, new_view, emptied_view, joined_view}
+use Rattle.pin_core.specs.State.{Config, link, hold, lane_hold, first_view, new_view, emptied_view, joined_view, size_hold}
 use Rattle.pin_core.specs.Kinds as pin_kinds
 use Rattle.pin_core.specs.Turns.{view_turned}
 use Rattle.pin_core.specs.Sizes.{view_sized}
@@ -29,7 +29,7 @@ use Rattle.history_core.specs.Device as log_kinds
 use Rattle.history_core.specs.Device.{LogKind, LogAllowed, device_after, view_logged, is_failed, HasRisen, Written, DeviceLaw, LogLink, LogTally, holders, appenders, log_weigh}
 use Rattle.history_core.specs.Counts.{all_met, NoneFailedOut, FaultsOut, LogCounted}
 use Rattle.history_core.specs.Invariant.{HistoryInvariant, written_of}
-use Rattle.history_core.specs.Steps.{Event, stepped, looked, pool_noting, paged, laned, has_read, has_written, Step, pools, lanes, writes, notes, logs, enters, reads, words, after_word}
+use Rattle.history_core.specs.Steps.{Event, stepped, looked, pool_noting, paged, laned, has_read, has_written, Step, pools, lanes, writes, notes, logs, enters, reads, words, after_word, reads_size, has_seen_size}
 use Rattle.history_core.proofs.Device.{risen}
 use Rattle.history_core.proofs.Opening.{one_total}
 use Rattle.grid.specs.Shape.{total}
@@ -204,6 +204,7 @@ log_counting (notes {s = s} i q f noted k v there live low inside a x) h m = els
 log_counting (logs {s = s} i k v there live a record_is) h m = logged s h i v there k m a
 log_counting (enters {s = s} i f p ch v there live inside x) h m = elsewhere s h i v there m (has_written ch (link v f).copied (s.end + change_size ch) (s.pool.core.frame f).tag p (paged (make_entry p) s.pool f v)) refl refl refl
 log_counting (reads {s = s} i f tag p v there live inside a) h m = elsewhere s h i v there m (looked (seen.LogEnd s.end) (has_read s.end tag p v)) refl refl refl
+log_counting (reads_size {s = s} i fork v there live a) h m = elsewhere s h i v there m (looked (seen.LogEnd s.end) (has_seen_size s.end fork (size_hold v fork).blocks v)) refl refl refl
 log_counting (words {s = s} i k v there live a) h m = elsewhere s h i v there m (after_word k s v) refl refl refl
 
 pub log_counts_open : (c : Config) (store : Store) → LogCounted store.log_faults (fresh_device c.base store) (first_view c.base c.frames c.partitions c.lanes ∷ [])

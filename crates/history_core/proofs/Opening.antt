@@ -61,7 +61,7 @@ opens c store page can stores = let w : View = first_view c.base c.frames c.part
     cells = λ i v g there below. subst (λ (x : View). LogLink (written_of (opening c store page)) (fresh_device c.base store) x.saw_down x.log) (at_only w v i there).0 (no_log_law (written_of (opening c store page)) (fresh_device c.base store));
   };
   history = record {
-    calls = λ i v there. subst (CallsLaw (is_known store) (below_sizes c.sizes store.origin) log c.base) (at_only w v i there).0 (no_calls (is_known store) (below_sizes c.sizes store.origin) log c.base w refl (λ _. refl) (omega (arith, end_none c.base)) (omega arith));
+    calls = λ i v there. subst (CallsLaw (is_known store) (below_sizes c.sizes store.origin) c.sizes log c.base) (at_only w v i there).0 (no_calls (is_known store) (below_sizes c.sizes store.origin) c.sizes log c.base w refl (λ _. refl) (omega (arith, end_none c.base)) (omega arith));
     kept = record {
       only_first = λ i v there other. absurd (other (at_only w v i there).1);
       spent = λ i k v c there at. absurd (some-ne-none c (sym (subst (λ (x : View). get_elem? x.joined_checkpoints k ≡ some c) (sym (at_only w v i there).0) at)));

@@ -7,7 +7,7 @@ use Rattle.pin_core.specs.declared.view.LogChange.TheVariants as change
 use Rattle.pin_core.specs.declared.view.TakenLog.{TakenLog}
 use Rattle.pin_core.specs.declared.view.View.{View}
 use Rattle.pin_core.specs.declared.view.LoadedWord.TheVariants as seen
-use Rattle.pin_core.specs.State.{Config, Page, link, hold, first_view, new_view, emptied_view, joined_view}
+use Rattle.pin_core.specs.State.{Config, Page, link, hold, first_view, new_view, emptied_view, joined_view, size_hold}
 use Rattle.pin_core.specs.State as pins
 use Rattle.pin_core.specs.Kinds as pin_kinds
 use Rattle.pin_core.specs.Turns.{view_turned}
@@ -22,7 +22,7 @@ use Rattle.history_core.specs.Device as log
 use Rattle.history_core.specs.Device.{LogKind, LogAllowed, device_after, view_logged}
 use Rattle.history_core.specs.Invariant.{HistoryInvariant}
 use Rattle.history_core.specs.Outings.{IsAsTaken, OutingsLaw}
-use Rattle.history_core.specs.Steps.{Event, stepped, looked, pool_noting, paged, laned, has_read, has_written, Step, pools, lanes, writes, notes, logs, enters, reads, words, after_word}
+use Rattle.history_core.specs.Steps.{Event, stepped, looked, pool_noting, paged, laned, has_read, has_written, Step, pools, lanes, writes, notes, logs, enters, reads, words, after_word, reads_size, has_seen_size}
 use Rattle.history_core.proofs.LogCounting.{by_view, none_out, others_home, is_held}
 use Rattle.grid.proofs.Lists.{at_end, at_only, set_else}
 
@@ -72,6 +72,7 @@ outings_kept (notes {s = s} i q f noted k v there live low inside a x) h m = asi
 outings_kept (logs {s = s} i k v there live a record_is) h m = logged s h m i v there k a
 outings_kept (enters {s = s} i f p ch v there live inside x) h m = aside s.device s.pool.core.views m i v (has_written ch (link v f).copied (s.end + change_size ch) (s.pool.core.frame f).tag p (paged (make_entry p) s.pool f v)) there refl refl
 outings_kept (reads {s = s} i f tag p v there live inside a) h m = aside s.device s.pool.core.views m i v (looked (seen.LogEnd s.end) (has_read s.end tag p v)) there refl refl
+outings_kept (reads_size {s = s} i fork v there live a) h m = aside s.device s.pool.core.views m i v (looked (seen.LogEnd s.end) (has_seen_size s.end fork (size_hold v fork).blocks v)) there refl refl
 outings_kept (words {s = s} i k v there live a) h m = aside s.device s.pool.core.views m i v (after_word k s v) there refl refl
 
 pub outings_open : (c : Config) (store : Store) (page : Page) → OutingsLaw (opening c store page)

@@ -14,7 +14,7 @@ use Rattle.pin_core.specs.declared.view.LastWrite.TheVariants.{Done}
 use Rattle.pin_core.specs.declared.view.Link.{Link}
 use Rattle.pin_core.specs.declared.view.LoadedWord.TheVariants as seen
 use Rattle.pin_core.specs.declared.view.View.{View}
-use Rattle.pin_core.specs.State.{Config, Frame, Page, no_tag, idle, link, hold, lane_hold, first_view, new_view, emptied_view, joined_view, kept_checkpoint, empty_frame}
+use Rattle.pin_core.specs.State.{Config, Frame, Page, no_tag, idle, link, hold, lane_hold, first_view, new_view, emptied_view, joined_view, kept_checkpoint, empty_frame, size_hold}
 use Rattle.pin_core.specs.State as pins
 use Rattle.pin_core.specs.Tallies.{frame_shape}
 use Rattle.pin_core.specs.Kinds as pin_kinds
@@ -40,7 +40,7 @@ use Rattle.history_core.specs.Lanes.{LaneKind, lane_after}
 use Rattle.history_core.specs.Device.{view_logged}
 use Rattle.history_core.specs.Invariant.{HistoryInvariant}
 use Rattle.history_core.specs.Debts.{Taken, IsCurrent, IsStoredOrLeft, LinkDebt, ViewDebts, Debts, has_visited, has_left_to_write, taken_of, DebtsLaw}
-use Rattle.history_core.specs.Steps.{Event, IsPlain, MayWriteLane, Notes, CanEnter, new_entry, logged_noting, pool_noting, stepped, looked, paged, laned, has_read, has_written, Step, pools, lanes, writes, notes, logs, enters, reads, Run, rests, goes, words, after_word, state_after_word}
+use Rattle.history_core.specs.Steps.{Event, IsPlain, MayWriteLane, Notes, CanEnter, new_entry, logged_noting, pool_noting, stepped, looked, paged, laned, has_read, has_written, Step, pools, lanes, writes, notes, logs, enters, reads, Run, rests, goes, words, after_word, state_after_word, reads_size, has_seen_size}
 use Rattle.history_core.specs.Words.{WordKind, begin_checkpoint}
 use Rattle.history_core.proofs.Beginning.{BegunHere, link_begun}
 use Rattle.history_core.proofs.Blocks.{plain_block, tag_goes, written_is_logged}
@@ -342,6 +342,7 @@ debts_kept (notes {s = s} i q f noted k v there live low inside a x) h d = same_
 debts_kept (logs {s = s} i k v there live a record_is) h d = aside_owe s h d i v (view_logged k v) there refl refl refl
 debts_kept (enters {s = s} i f p c v there live inside x) h d = enters_owe s h d i f p c v there live inside x
 debts_kept (reads {s = s} i f tag p v there live inside a) h d = aside_owe s h d i v (looked (seen.LogEnd s.end) (has_read s.end tag p v)) there refl refl refl
+debts_kept (reads_size {s = s} i fork v there live a) h d = aside_owe s h d i v (looked (seen.LogEnd s.end) (has_seen_size s.end fork (size_hold v fork).blocks v)) there refl refl refl
 debts_kept (words {s = s} i k v there live a) h d = words_owe s h d i k v there
 
 pub debts_after : {es : List Event} {s t : State} → Run es s t → HistoryInvariant s → DebtsLaw s → DebtsLaw t

@@ -8,7 +8,7 @@ use Rattle.pin_core.specs.declared.view.Link.{Link}
 use Rattle.pin_core.specs.declared.view.Role.TheVariants.{HandedOut}
 use Rattle.pin_core.specs.declared.view.LoadedWord.TheVariants as seen
 use Rattle.pin_core.specs.declared.view.View.{View}
-use Rattle.pin_core.specs.State.{link}
+use Rattle.pin_core.specs.State.{link, size_hold}
 use Rattle.pin_core.specs.Kinds.{unpin}
 use Rattle.pin_core.specs.Steps as pin_steps
 use Rattle.pin_core.specs.Schedules.{IsHandedOut}
@@ -25,7 +25,7 @@ use Rattle.history_core.specs.Device.{view_logged}
 use Rattle.history_core.specs.State.{State}
 use Rattle.history_core.specs.Invariant.{HistoryInvariant}
 use Rattle.history_core.specs.Promises.{HasNoUnpin, PinnedTagsStay}
-use Rattle.history_core.specs.Steps.{Event, pool, stepped, looked, logged_noting, pool_noting, paged, laned, has_read, has_written, Step, pools, lanes, writes, notes, logs, enters, reads, Run, rests, goes, words, after_word}
+use Rattle.history_core.specs.Steps.{Event, pool, stepped, looked, logged_noting, pool_noting, paged, laned, has_read, has_written, Step, pools, lanes, writes, notes, logs, enters, reads, Run, rests, goes, words, after_word, reads_size, has_seen_size}
 use Rattle.history_core.specs.Words.{word_of, word_at}
 use Rattle.grid.specs.Shape.{put}
 use Rattle.history_core.proofs.Words.{link_left}
@@ -56,6 +56,7 @@ step_stays i f (logs {s = s} j k u here live a record_is) h out other = (beside 
 step_stays i f (enters {s = s} j g p ch u here live inside x) h out other = let b : Block = block_of s.pool.logged (s.pool.core.frame g).tag in let w : View = has_written ch (link u g).copied (s.end + change_size ch) (s.pool.core.frame g).tag p (paged (make_entry p) s.pool g u) in
     (beside s h i f out j u w here (role_same s h i f out j g (make_entry p) b u w here live inside refl), tag_same s h i f out g (make_entry p) b)
 step_stays i f (reads {s = s} j g tag p u here live inside a) h out other = (beside s h i f out j u (looked (seen.LogEnd s.end) (has_read s.end tag p u)) here refl, refl)
+step_stays i f (reads_size {s = s} j fork u here live a) h out other = (beside s h i f out j u (looked (seen.LogEnd s.end) (has_seen_size s.end fork (size_hold u fork).blocks u)) here refl, refl)
 step_stays i f (words {s = s} j k u here live a) h out other = (beside s h i f out j u (after_word k s u) here (ap (λ (x : Link). x.role) (link_left k (word_of (word_at k) s) s.end u f)), refl)
 
 run_stays : {es : List Event} {s t : State} (i f : ℕ) → Run es s t → HistoryInvariant s → IsHandedOut s.pool.core i f → HasNoUnpin i f es → PinStays s.pool.core t.pool.core i f

@@ -8,13 +8,13 @@ use native.Mathlib.Decide.{ℕ_discrete}
 use lib.ListN.{get_elem?}
 use Rattle.page_layout.specs.Fields.{lsn_of}
 use Rattle.pin_core.specs.declared.view.Call.{Call}
-use Rattle.pin_core.specs.declared.view.Call.TheVariants.{Read, Write}
+use Rattle.pin_core.specs.declared.view.Call.TheVariants.{Read, Write, Size, Sized}
 use Rattle.pin_core.specs.declared.view.Content.TheVariants.{Unlocked, Exclusive}
 use Rattle.pin_core.specs.declared.view.ImageTest.{ImageTest}
 use Rattle.pin_core.specs.declared.view.LoadedWord.TheVariants as seen
 use Rattle.pin_core.specs.declared.view.LogHold.{LogHold}
 use Rattle.pin_core.specs.declared.view.View.{View}
-use Rattle.pin_core.specs.State.{Config, Page, no_tag, link, hold, first_view, new_view, emptied_view, joined_view}
+use Rattle.pin_core.specs.State.{Config, Page, no_tag, link, hold, first_view, new_view, emptied_view, joined_view, size_hold}
 use Rattle.pin_core.specs.State as pins
 use Rattle.pin_core.specs.Kinds as pin_kinds
 use Rattle.pin_core.specs.Turns.{view_turned}
@@ -30,7 +30,7 @@ use Rattle.history_core.specs.Invariant.{HistoryInvariant, written_of}
 use Rattle.history_core.specs.Sound.{SoundLaw}
 use Rattle.history_core.specs.Redo.{IsRaised, HasBeenRedo, StartsBased, FollowsImage, CanFollow, IsHighestRaised, ChosenBy, RedoLaw}
 use Rattle.history_core.specs.Words.{WordKind, load_redo, raise_redo, WordAllowed}
-use Rattle.history_core.specs.Steps.{Event, new_entry, stepped, looked, pool_noting, paged, laned, has_read, has_written, logged_as, test_of, IsPastRedo, MayPass, MakesPage, CanEnter, Step, pools, lanes, writes, notes, logs, enters, reads, words, after_word, state_after_word}
+use Rattle.history_core.specs.Steps.{Event, new_entry, stepped, looked, pool_noting, paged, laned, has_read, has_written, logged_as, test_of, IsPastRedo, MayPass, MakesPage, CanEnter, Step, pools, lanes, writes, notes, logs, enters, reads, words, after_word, state_after_word, reads_size, has_seen_size}
 use Rattle.history_core.proofs.Calls.{at_both, index_below}
 use Rattle.history_core.proofs.Logs.{cut_all, ends_below, some_size, cell_absent, last_upto, IsLastUpto, cell_upto}
 use Rattle.history_core.proofs.Sound.{locked_sound}
@@ -230,6 +230,8 @@ been_still s t base kept r (inr x) = inr (kept r x)
 
 chosen_still : (s t : State) → ((r : ℕ) → HasBeenRedo s r → HasBeenRedo t r) → (c : Call) → ChosenBy s c → ChosenBy t c
 chosen_still s t still (Read backend tag page place) x = tt
+chosen_still s t still (Size backend fork blocks place) x = tt
+chosen_still s t still (Sized backend fork blocks place) x = tt
 chosen_still s t still (Write backend tag page place logged) x = λ test is. let y = x test is in (still test.redo y.0, y.1)
 
 module _ (s t : State) (x : SameRedo s t) (y : SameRaised s.pool.core.views t.pool.core.views) (m : RedoLaw s) where
@@ -482,6 +484,9 @@ hold_less _ h r e = e
 read_calls : (v w : View) (number tag : ℕ) (p : Page) (place : ℕ) → w.calls ≡ v.calls ++ Read number tag p place ∷ [] → OldCalls v w
 read_calls v w number tag p place is k c at = ⊎_elim (λ (y : get_elem? v.calls k ≡ some c). inl y) (λ (y : (Read number tag p place ≡ c) × (k ≡ length v.calls)). inr (λ z. subst (ChosenBy z) y.0 tt)) (at_end v.calls (Read number tag p place) c k (ap (λ (l : List Call). get_elem? l k) (sym is) ∙ at))
 
+size_calls : (v w : View) (number fork n place : ℕ) → w.calls ≡ v.calls ++ Sized number fork n place ∷ [] → OldCalls v w
+size_calls v w number fork n place is k c at = ⊎_elim (λ (y : get_elem? v.calls k ≡ some c). inl y) (λ (y : (Sized number fork n place ≡ c) × (k ≡ length v.calls)). inr (λ z. subst (ChosenBy z) y.0 tt)) (at_end v.calls (Sized number fork n place) c k (ap (λ (l : List Call). get_elem? l k) (sym is) ∙ at))
+
 pub redo_kept : {e : Event} {s t : State} → Step e s t → HistoryInvariant s → SoundLaw s → RedoLaw s → RedoLaw t
 redo_kept {t = t} (pools {s = s} (page_steps.cores x) a) h n m = let y = pools_raised s x in redo_same s t (record { log = refl; end = refl; redo = refl; based = λ b. b; knows = λ tag k. k }) y.0 m y.1
 redo_kept {t = t} (pools {s = s} (page_steps.touches i f k v there live inside a around) plain) h n m = let w : View = paged k s.pool f v in redo_same s t (record { log = refl; end = refl; redo = refl; based = λ b. b; knows = λ tag k. k }) (one_raised s.pool.core.views i v w there refl (same_calls v w refl)) m (one_holds s.pool.core.views i v w there (λ r y. y))
@@ -491,6 +496,7 @@ redo_kept {t = t} (notes {s = s} i q f noted k v there live low inside a x) h n 
 redo_kept {t = t} (logs {s = s} i k v there live a record_is) h n m = let w : View = view_logged k v in redo_same s t (record { log = refl; end = refl; redo = refl; based = λ b. b; knows = λ tag k. k }) (one_raised s.pool.core.views i v w there refl (same_calls v w refl)) m (one_holds s.pool.core.views i v w there (hold_less k v.log))
 redo_kept {t = t} (enters {s = s} i f p ch v there live inside x) h n m = enters_redo s h n m i f p ch v there inside x t refl refl refl refl (λ b. b) (λ tag k. k)
 redo_kept {t = t} (reads {s = s} i f tag p v there live inside a) h n m = let w : View = looked (seen.LogEnd s.end) (has_read s.end tag p v) in redo_same s t (record { log = refl; end = refl; redo = refl; based = λ b. b; knows = λ tag k. k }) (one_raised s.pool.core.views i v w there refl (read_calls v w v.number tag p s.end refl)) m (one_holds s.pool.core.views i v w there (λ r y. y))
+redo_kept {t = t} (reads_size {s = s} i fork v there live a) h n m = let w : View = looked (seen.LogEnd s.end) (has_seen_size s.end fork (size_hold v fork).blocks v) in redo_same s t (record { log = refl; end = refl; redo = refl; based = λ b. b; knows = λ tag k. k }) (one_raised s.pool.core.views i v w there refl (size_calls v w v.number fork (size_hold v fork).blocks s.end refl)) m (one_holds s.pool.core.views i v w there (λ r y. y))
 redo_kept (words {s = s} i k v there live a) h n m = words_redo s h m i v there k a
 
 pub redo_open : (c : Config) (store : Store) (page : Page) → RedoLaw (opening c store page)

@@ -14,7 +14,7 @@ use Rattle.pin_core.specs.declared.view.Resident.{Resident}
 use Rattle.pin_core.specs.declared.view.Role.{Role}
 use Rattle.pin_core.specs.declared.view.Role.TheVariants.{Absent, HandedOut, Victim}
 use Rattle.pin_core.specs.declared.view.View.{View}
-use Rattle.pin_core.specs.State.{Frame, no_tag, link, hold, lane_hold, first_view, new_view, emptied_view, joined_view}
+use Rattle.pin_core.specs.State.{Frame, no_tag, link, hold, lane_hold, size_hold, first_view, new_view, emptied_view, joined_view}
 use Rattle.pin_core.specs.State as pins
 use Rattle.pin_core.specs.Invariant.{FrameLaw, LinkLaw, PinInvariant}
 use Rattle.pin_core.specs.Kinds as pin_kinds
@@ -36,7 +36,7 @@ use Rattle.history_core.specs.Device.{view_logged}
 use Rattle.history_core.specs.State.{State}
 use Rattle.history_core.specs.Laws.{Laws}
 use Rattle.history_core.specs.Residents.{HasBlock, IsResident, AreResident, cleared_by, ResidentsStay, LostWereCleared}
-use Rattle.history_core.specs.Steps.{Event, Notes, stepped, looked, logged_noting, pool_noting, paged, laned, has_read, has_written, Step, pools, lanes, writes, notes, logs, enters, reads, words, after_word}
+use Rattle.history_core.specs.Steps.{Event, Notes, stepped, looked, logged_noting, pool_noting, paged, laned, has_read, has_seen_size, has_written, Step, pools, lanes, writes, notes, logs, enters, reads, reads_size, words, after_word}
 use Rattle.history_core.proofs.Always.{KeptByLaws, always}
 use Rattle.history_core.proofs.Calls.{at_both}
 use Rattle.grid.specs.Shape.{put, total, tallies}
@@ -254,6 +254,7 @@ residents_kept e s t (logs i k v there live a record_is) laws m = aside_stays s.
 residents_kept e s t (enters i f p c v there live inside x) laws m = let b : Block = block_of s.pool.logged (s.pool.core.frame f).tag in let w : View = has_written c (link v f).copied (s.end + change_size c) (s.pool.core.frame f).tag p (paged (make_entry p) s.pool f v) in let fr : Frame = kinds.frame_after (make_entry p) b (s.pool.core.frame f) in
     frame_stays s.pool.core.frames s.pool.core.frame s.pool.core.views i f v w fr there refl (page_keeps (make_entry p) b (s.pool.core.frame f)) (λ was. lists_same s.pool.core.frames (put s.pool.core.frame f fr) v.residents w.residents refl) m
 residents_kept e s t (reads i f tag p v there live inside a) laws m = aside_stays s.pool.core.frames s.pool.core.frame s.pool.core.views i v (looked (seen.LogEnd s.end) (has_read s.end tag p v)) there refl refl m
+residents_kept e s t (reads_size i fork v there live shared) laws m = aside_stays s.pool.core.frames s.pool.core.frame s.pool.core.views i v (looked (seen.LogEnd s.end) (has_seen_size s.end fork (size_hold v fork).blocks v)) there refl refl m
 residents_kept e s t (words i k v there live a) laws m = aside_stays s.pool.core.frames s.pool.core.frame s.pool.core.views i v (after_word k s v) there refl refl m
 
 pub residents_stay : (s : State) → Laws s → ResidentsStay s

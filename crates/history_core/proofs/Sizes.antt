@@ -11,7 +11,8 @@ use Rattle.pin_core.specs.State.{Page}
 use Rattle.history_core.specs.Log.{Change, image, ranges, resize, Entry, Log, LogLaw, AreChained, end_of, cut, cell, with_spans, resized, changed_page, page_after}
 use Rattle.pin_core.specs.State.{tag_fork, tag_block}
 use Rattle.page_core.specs.State.{zero_page}
-use Rattle.history_core.specs.Sizes.{resized_fork, sizes_after, FitsSizes, AreSized, AreThere}
+use Rattle.history_core.specs.Sizes.{FitsSizes, AreSized, AreThere}
+use Rattle.history_core.specs.Log.{resized_fork, sizes_after}
 use Rattle.history_core.proofs.Logs.{some_size, in_or_out, cut_in, cut_out, cut_none_below, chain_above}
 
 some_map : (f : Page → Page) (p : Option Page) → is_some (option_map f p) ≡ is_some p

@@ -11,7 +11,7 @@ use Rattle.pin_core.specs.declared.view.Call.{Call}
 use Rattle.pin_core.specs.declared.view.Content.TheVariants.{Unlocked, Exclusive}
 use Rattle.pin_core.specs.declared.view.LoadedWord.TheVariants as seen
 use Rattle.pin_core.specs.declared.view.View.{View}
-use Rattle.pin_core.specs.State.{Config, Frame, Page, no_tag, link, hold, first_view, new_view, emptied_view, joined_view, is_block}
+use Rattle.pin_core.specs.State.{Config, Frame, Page, no_tag, link, hold, first_view, new_view, emptied_view, joined_view, is_block, size_hold}
 use Rattle.pin_core.specs.State as pins
 use Rattle.pin_core.specs.Tallies.{flag_weight}
 use Rattle.pin_core.specs.Kinds as pin_kinds
@@ -21,14 +21,14 @@ use Rattle.pin_core.specs.Steps as pin_steps
 use Rattle.page_core.specs.Steps as page_steps
 use Rattle.page_core.specs.Kinds.{begin_write, make_entry}
 use Rattle.page_core.specs.Tallies.{unapplied_locks, weigh}
-use Rattle.history_core.specs.Log.{Entry, image, IsEntryOf, change_size, end_of, log_end, cell, cut, tag_of, tag_in}
+use Rattle.history_core.specs.Log.{Entry, image, IsEntryOf, change_size, end_of, log_end, cell, cut, read_or_written, tag_in}
 use Rattle.history_core.specs.Lanes.{lane_back}
 use Rattle.history_core.specs.Device.{view_logged}
 use Rattle.history_core.specs.State.{State, Store, opening}
 use Rattle.history_core.specs.Invariant.{HistoryInvariant}
 use Rattle.history_core.specs.Histories.{IsStored, ImagesAlone}
 use Rattle.history_core.specs.Sound.{WasSound, SoundLaw, ShowsSound, UnsoundStay, UnsoundAreFirst}
-use Rattle.history_core.specs.Steps.{Event, new_entry, stepped, looked, pool_noting, paged, laned, has_read, has_written, Step, pools, lanes, writes, notes, logs, enters, reads, words, after_word}
+use Rattle.history_core.specs.Steps.{Event, new_entry, stepped, looked, pool_noting, paged, laned, has_read, has_written, Step, pools, lanes, writes, notes, logs, enters, reads, words, after_word, reads_size, has_seen_size}
 use Rattle.history_core.proofs.Calls.{at_both}
 use Rattle.history_core.proofs.Histories.{clean_stored}
 use Rattle.history_core.proofs.Logs.{cut_all, ends_below, cell_absent, after_none, after_images, entry_longer, IsLastUpto, last_upto, cell_upto}
@@ -72,19 +72,19 @@ module _ (s : State) (h : HistoryInvariant s) (entries : (k tag : ℕ) (e : Entr
 
 -- the calls of a list of views
 abbrev AreSound : State → List View → Type 0
-AreSound s views = (i k : ℕ) (v : View) (c : Call) → get_elem? views i ≡ some v → get_elem? v.calls k ≡ some c → WasSound s (tag_of c)
+AreSound s views = (i k tag : ℕ) (v : View) (c : Call) → get_elem? views i ≡ some v → get_elem? v.calls k ≡ some c → read_or_written c ≡ Some tag → WasSound s tag
 
 module _ (s : State) (views : List View) (m : AreSound s views) where
   -- a view changes, whose calls are sound
-  calls_set : (i : ℕ) (w : View) → ((k : ℕ) (c : Call) → get_elem? w.calls k ≡ some c → WasSound s (tag_of c)) → AreSound s (set views i w)
-  calls_set i w x j k u c at is = ⊎_elim (λ (y : (j ≡ i) × (w ≡ u)). x k c (subst (λ (z : View). get_elem? z.calls k ≡ some c) (sym y.1) is)) (λ (y : (j ≢ i) × (get_elem? views j ≡ some u)). m j k u c y.1 is) (at_set views i j w u at)
+  calls_set : (i : ℕ) (w : View) → ((k tag : ℕ) (c : Call) → get_elem? w.calls k ≡ some c → read_or_written c ≡ Some tag → WasSound s tag) → AreSound s (set views i w)
+  calls_set i w x j k tag u c at is = ⊎_elim (λ (y : (j ≡ i) × (w ≡ u)). x k tag c (subst (λ (z : View). get_elem? z.calls k ≡ some c) (sym y.1) is)) (λ (y : (j ≢ i) × (get_elem? views j ≡ some u)). m j k tag u c y.1 is) (at_set views i j w u at)
 
   calls_same : (i : ℕ) (v w : View) → get_elem? views i ≡ some v → w.calls ≡ v.calls → AreSound s (set views i w)
-  calls_same i v w there same = calls_set i w (λ k c at. m i k v c there (subst (λ (l : List Call). get_elem? l k ≡ some c) same at))
+  calls_same i v w there same = calls_set i w (λ k tag c at. m i k tag v c there (subst (λ (l : List Call). get_elem? l k ≡ some c) same at))
 
   -- with one call more
-  calls_added : (i : ℕ) (v w : View) (c : Call) → get_elem? views i ≡ some v → w.calls ≡ v.calls ++ c ∷ [] → WasSound s (tag_of c) → AreSound s (set views i w)
-  calls_added i v w c there more is = calls_set i w (λ k d at. ⊎_elim (λ (y : get_elem? v.calls k ≡ some d). m i k v d there y) (λ (y : (c ≡ d) × (k ≡ length v.calls)). subst (λ (z : Call). WasSound s (tag_of z)) y.0 is) (at_end v.calls c d k (subst (λ (l : List Call). get_elem? l k ≡ some d) more at)))
+  calls_added : (i : ℕ) (v w : View) (c : Call) → get_elem? views i ≡ some v → w.calls ≡ v.calls ++ c ∷ [] → ((tag : ℕ) → read_or_written c ≡ Some tag → WasSound s tag) → AreSound s (set views i w)
+  calls_added i v w c there more is = calls_set i w (λ k tag d at. ⊎_elim (λ (y : get_elem? v.calls k ≡ some d). m i k tag v d there y) (λ (y : (c ≡ d) × (k ≡ length v.calls)). subst (λ (z : Call). read_or_written z ≡ Some tag → WasSound s tag) y.0 (is tag)) (at_end v.calls c d k (subst (λ (l : List Call). get_elem? l k ≡ some d) more at)))
 
 no_calls : {c : Call} (k : ℕ) → get_elem? [] k ≡ some c → ⊥
 no_calls {c = c} k at = some-ne-none c (sym at)
@@ -94,10 +94,10 @@ pools_sound s m (pin_steps.touches i f k v there live inside a around) = calls_s
 pools_sound s m (pin_steps.turns i p k v there live below a) = calls_same s s.pool.core.views m i v (view_turned k p (hold v p) v) there refl
 pools_sound s m (pin_steps.sized i fork k v there live a) = calls_same s s.pool.core.views m i v (view_sized k fork s.pool.core v) there refl
 pools_sound s m (pin_steps.splits v there room) = let w : View = record v { next = v.next + 1 } in let b : View = new_view v.next s.pool.core.base (length v.links) (length v.partitions) (length v.lanes) in let x = calls_same s s.pool.core.views m 0 v w there refl in
-    λ j k u c at is. ⊎_elim (λ (y : get_elem? (set s.pool.core.views 0 w) j ≡ some u). x j k u c y is) (λ (y : (b ≡ u) × (j ≡ length (set s.pool.core.views 0 w))). absurd (no_calls k (subst (λ (z : View). get_elem? z.calls k ≡ some c) (sym y.0) is))) (at_end (set s.pool.core.views 0 w) b u j at)
+    λ j k tag u c at is. ⊎_elim (λ (y : get_elem? (set s.pool.core.views 0 w) j ≡ some u). x j k tag u c y is) (λ (y : (b ≡ u) × (j ≡ length (set s.pool.core.views 0 w))). absurd (no_calls k (subst (λ (z : View). get_elem? z.calls k ≡ some c) (sym y.0) is))) (at_end (set s.pool.core.views 0 w) b u j at)
 pools_sound s m (pin_steps.joins j v u there other here live free) = let w : View = joined_view v u in
-    let x = calls_set s s.pool.core.views m 0 w (λ k c at. ⊎_elim (λ (y : get_elem? v.calls k ≡ some c). m 0 k v c there y) (λ (y : (n : ℕ) × (get_elem? u.calls n ≡ some c)). m j y.0 u c here y.1) (at_both v.calls u.calls k c at)) in
-    calls_set s (set s.pool.core.views 0 w) x j emptied_view (λ k c at. absurd (no_calls k at))
+    let x = calls_set s s.pool.core.views m 0 w (λ k tag c at. ⊎_elim (λ (y : get_elem? v.calls k ≡ some c). m 0 k tag v c there y) (λ (y : (n : ℕ) × (get_elem? u.calls n ≡ some c)). m j y.0 tag u c here y.1) (at_both v.calls u.calls k c at)) in
+    calls_set s (set s.pool.core.views 0 w) x j emptied_view (λ k tag c at. absurd (no_calls k at))
 
 exclusive_locked : {c : _} → c ≡ Exclusive → c ≡ Unlocked → ⊥
 exclusive_locked a e = cc
@@ -111,15 +111,16 @@ sound_kept (notes {s = s} i q f noted k v there live low inside a x) h m = recor
 sound_kept (logs {s = s} i k v there live a record_is) h m = record { entries = m.entries; calls = calls_same s s.pool.core.views m.calls i v (view_logged k v) there refl }
 sound_kept (enters {s = s} i f p ch v there live inside x) h m = let tag = (s.pool.core.frame f).tag in let end = s.end + change_size ch in let entry = new_entry s v.number ch in let was : WasSound s tag = locked_sound s h m.entries i f v there inside (exclusive_locked x.right.right) in record {
   entries = λ k z e of. ⊎_elim (λ (y : IsEntryOf s.log.entries z k e). m.entries k z e y) (λ (y : (entry ≡ e) × (tag_in ch ≡ Some z)). subst (WasSound s) (same_Some tag z (sym (makes_of ch end tag p (link v f) x.makes) ∙ y.1)) was) (entry_longer s.log.entries entry z k e of);
-  calls = calls_added s s.pool.core.views m.calls i v (has_written ch (link v f).copied end tag p (paged (make_entry p) s.pool f v)) _ there refl was;
+  calls = calls_added s s.pool.core.views m.calls i v (has_written ch (link v f).copied end tag p (paged (make_entry p) s.pool f v)) _ there refl (λ z e. subst (WasSound s) (same_Some tag z e) was);
 }
-sound_kept (reads {s = s} i f tag p v there live inside a) h m = record { entries = m.entries; calls = calls_added s s.pool.core.views m.calls i v (looked (seen.LogEnd s.end) (has_read s.end tag p v)) _ there refl (remembered s h m.entries i f tag v there inside a.remembered (locked_sound s h m.entries i f v there inside a.right)) }
+sound_kept (reads {s = s} i f tag p v there live inside a) h m = record { entries = m.entries; calls = calls_added s s.pool.core.views m.calls i v (looked (seen.LogEnd s.end) (has_read s.end tag p v)) _ there refl (λ z e. subst (WasSound s) (same_Some tag z e) (remembered s h m.entries i f tag v there inside a.remembered (locked_sound s h m.entries i f v there inside a.right))) }
+sound_kept (reads_size {s = s} i fork v there live a) h m = record { entries = m.entries; calls = calls_added s s.pool.core.views m.calls i v (looked (seen.LogEnd s.end) (has_seen_size s.end fork (size_hold v fork).blocks v)) _ there refl (λ z e. absurd (cc)) }
 sound_kept (words {s = s} i k v there live a) h m = record { entries = m.entries; calls = calls_same s s.pool.core.views m.calls i v (after_word k s v) there refl }
 
 pub sound_open : (c : Config) (store : Store) (page : Page) → SoundLaw (opening c store page)
 sound_open c store page = record {
   entries = λ k tag e of. absurd (some-ne-none e (sym of.there));
-  calls = λ i k v d there at. absurd (no_calls k (subst (λ (z : View). get_elem? z.calls k ≡ some d) (sym (at_only (first_view c.base c.frames c.partitions c.lanes) v i there).0) at));
+  calls = λ i k tag v d there at. absurd (no_calls k (subst (λ (z : View). get_elem? z.calls k ≡ some d) (sym (at_only (first_view c.base c.frames c.partitions c.lanes) v i there).0) at));
 }
 
 -- what shows that a block's page was sound

@@ -5,7 +5,7 @@ use mathlib.Core.Option.{some}
 use lib.ListN.{get_elem?}
 use Rattle.pin_core.specs.declared.view.LoadedWord.TheVariants as seen
 use Rattle.pin_core.specs.declared.view.View.{View}
-use Rattle.pin_core.specs.State.{Config, Page, link, hold, first_view, new_view, emptied_view, joined_view}
+use Rattle.pin_core.specs.State.{Config, Page, link, hold, first_view, new_view, emptied_view, joined_view, size_hold}
 use Rattle.pin_core.specs.State as pins
 use Rattle.pin_core.specs.Kinds as pin_kinds
 use Rattle.pin_core.specs.Turns.{view_turned}
@@ -19,7 +19,7 @@ use Rattle.history_core.specs.Device.{view_logged}
 use Rattle.history_core.specs.State.{State, Store, opening}
 use Rattle.history_core.specs.Invariant.{HistoryInvariant}
 use Rattle.history_core.specs.Spent.{SpentLaw}
-use Rattle.history_core.specs.Steps.{Event, stepped, looked, pool_noting, paged, laned, has_read, has_written, Step, pools, lanes, writes, notes, logs, enters, reads, Run, rests, goes, words, after_word}
+use Rattle.history_core.specs.Steps.{Event, stepped, looked, pool_noting, paged, laned, has_read, has_written, Step, pools, lanes, writes, notes, logs, enters, reads, Run, rests, goes, words, after_word, reads_size, has_seen_size}
 use Rattle.history_core.proofs.Stepping.{step_keeps}
 use Rattle.grid.proofs.Lists.{at_set, at_end, at_only}
 
@@ -50,6 +50,7 @@ spent_kept (notes {s = s} i q f noted k v there live low inside a x) h m = spent
 spent_kept (logs {s = s} i k v there live a record_is) h m = spent_live s.pool.core.views m i (view_logged k v) live
 spent_kept (enters {s = s} i f p ch v there live inside x) h m = spent_live s.pool.core.views m i (has_written ch (link v f).copied (s.end + change_size ch) (s.pool.core.frame f).tag p (paged (make_entry p) s.pool f v)) live
 spent_kept (reads {s = s} i f tag p v there live inside a) h m = spent_live s.pool.core.views m i (looked (seen.LogEnd s.end) (has_read s.end tag p v)) live
+spent_kept (reads_size {s = s} i fork v there live a) h m = spent_live s.pool.core.views m i (looked (seen.LogEnd s.end) (has_seen_size s.end fork (size_hold v fork).blocks v)) live
 spent_kept (words {s = s} i k v there live a) h m = spent_live s.pool.core.views m i (after_word k s v) live
 
 pub spent_after : {es : List Event} {s t : State} → Run es s t → HistoryInvariant s → SpentLaw s → SpentLaw t

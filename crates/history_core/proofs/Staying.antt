@@ -6,7 +6,7 @@ use native.Mathlib.Decide.{ℕ_discrete}
 use lib.ListN.{get_elem?}
 use Rattle.pin_core.specs.declared.view.LoadedWord.TheVariants as seen
 use Rattle.pin_core.specs.declared.view.View.{View}
-use Rattle.pin_core.specs.State.{hold, link, new_view, emptied_view, joined_view}
+use Rattle.pin_core.specs.State.{hold, link, new_view, emptied_view, joined_view, size_hold}
 use Rattle.pin_core.specs.State as pins
 use Rattle.pin_core.specs.Sizes.{view_sized}
 use Rattle.pin_core.specs.Steps as pin_steps
@@ -19,7 +19,7 @@ use Rattle.history_core.specs.Log.{change_size}
 use Rattle.history_core.specs.State.{State}
 use Rattle.history_core.specs.Lanes.{lane_back}
 use Rattle.history_core.specs.Device.{view_logged}
-use Rattle.history_core.specs.Steps.{Event, pool, stepped, looked, pool_noting, paged, laned, has_read, has_written, Step, pools, lanes, writes, notes, enters, reads, logs, words, after_word}
+use Rattle.history_core.specs.Steps.{Event, pool, stepped, looked, pool_noting, paged, laned, has_read, has_written, Step, pools, lanes, writes, notes, enters, reads, logs, words, after_word, reads_size, has_seen_size}
 use Rattle.history_core.specs.Histories.{LeavesCalls, HasCallsOf, CallsStay}
 use Rattle.grid.proofs.Lists.{set_here, set_else, at_longer}
 
@@ -58,6 +58,7 @@ step_stays (notes {s = s} i n f noted k u there live low inside a x) j v at leav
 step_stays (logs {s = s} i k u there live a record_is) j v at leaves = set_stays s.pool.core.views i j u (view_logged k u) v there refl refl at
 step_stays (enters {s = s} i f p ch u there live inside x) j v at leaves = other_stays s.pool.core.views i j (has_written ch (link u f).copied (s.end + change_size ch) (s.pool.core.frame f).tag p (paged (make_entry p) s.pool f u)) v leaves at
 step_stays (reads {s = s} i f tag p u there live inside a) j v at leaves = other_stays s.pool.core.views i j (looked (seen.LogEnd s.end) (has_read s.end tag p u)) v leaves at
+step_stays (reads_size {s = s} i fork u there live a) j v at leaves = other_stays s.pool.core.views i j (looked (seen.LogEnd s.end) (has_seen_size s.end fork (size_hold u fork).blocks u)) v leaves at
 step_stays (words {s = s} i k u there live a) j v at leaves = set_stays s.pool.core.views i j u (after_word k s u) v there refl refl at
 
 pub calls_stay : (s : State) → CallsStay s

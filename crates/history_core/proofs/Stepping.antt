@@ -15,9 +15,11 @@ use Rattle.pin_core.specs.declared.view.LogHold.{LogHold}
 use Rattle.pin_core.specs.declared.view.Link.{Link}
 use Rattle.pin_core.specs.declared.view.View.{View}
 use Rattle.pin_core.specs.declared.view.ImageTest.{ImageTest}
-use Rattle.pin_core.specs.declared.view.Call.TheVariants.{Read}
+use Rattle.pin_core.specs.declared.view.Call.TheVariants.{Read, Sized}
+use Rattle.pin_core.specs.declared.view.SizeRight.TheVariants as size_right
+use Rattle.pin_core.proofs.Sizing.{shared_finds}
 use Rattle.pin_core.specs.declared.view.LoadedWord.TheVariants as seen
-use Rattle.pin_core.specs.State.{Frame, Page, no_tag, tag_fork, tag_block, is_block, idle, link, hold, lane_hold, new_view, emptied_view, joined_view}
+use Rattle.pin_core.specs.State.{Frame, Page, no_tag, tag_fork, tag_block, is_block, idle, link, hold, lane_hold, new_view, emptied_view, joined_view, size_hold}
 use Rattle.pin_core.specs.State as pins
 use Rattle.pin_core.specs.Tallies as pin_tallies
 use Rattle.pin_core.specs.Tallies.{frame_shape}
@@ -49,11 +51,11 @@ use Rattle.history_core.specs.Lanes as lane_kinds
 use Rattle.history_core.specs.Lanes.{swept_by, LaneKind, LaneAllowed, lane_after, lane_hold_after, lane_shape, lane_part}
 use Rattle.history_core.specs.Homes.{Home, home_of, IsClean, HomeLink, home_shape, home_part, IsUnframed, IsFlushedCell}
 use Rattle.history_core.specs.Invariant.{HistoryLaw, written_of, HistoryInvariant}
-use Rattle.history_core.specs.Steps.{Event, IsPlain, PoolAllowed, stepped, looked, aside, pool_after, pool_noting, CanNoteLaneRead, paged, laned, LaneAlone, CanWrite, MayWriteLane, Notes, new_entry, CanEnter, CanRead, has_read, logged_as, test_of, has_written, Step, pools, lanes, writes, notes, enters, reads, logs, Run, rests, goes, words, after_word, state_after_word, has_raised, MakesPage}
+use Rattle.history_core.specs.Steps.{has_seen_size, Event, IsPlain, PoolAllowed, stepped, looked, aside, pool_after, pool_noting, CanNoteLaneRead, paged, laned, LaneAlone, CanWrite, MayWriteLane, Notes, new_entry, CanEnter, CanRead, has_read, logged_as, test_of, has_written, Step, pools, lanes, writes, notes, enters, reads, logs, Run, rests, goes, words, after_word, state_after_word, has_raised, MakesPage, reads_size}
 use Rattle.history_core.specs.Words.{WordKind, load_end, begin_checkpoint, load_flushed, raise_flushed, load_redo, raise_redo, WordAllowed}
 use Rattle.history_core.specs.Device.{LogKind, take_log, leave_log, log_out, append, fail_append, sync_log, fail_sync, log_back, see_down, LogAllowed, device_after, view_logged, log_weigh, log_shape, log_part}
 use Rattle.history_core.proofs.Device.{log_keeps, enter_keeps, end_keeps, redo_keeps, synced_all}
-use Rattle.history_core.proofs.Calls.{SameCalls, history_same, history_read, history_written, history_loaded, history_raised}
+use Rattle.history_core.proofs.Calls.{SameCalls, history_same, history_read, history_sized, history_written, history_loaded, history_raised}
 use Rattle.history_core.proofs.Logs.{bytes_longer, bytes_length, cell_longer, cut_longer, cell_at_position, end_longer, log_longer, some_size, changed_else, changed_image, changed_ranges, cut_all, entry_longer, ends_below, end_above}
 use Rattle.history_core.proofs.Lanes.{lane_later}
 use Rattle.history_core.proofs.Forgetting.{forgets}
@@ -70,7 +72,7 @@ use Rattle.grid.proofs.Grids.{Keeps, Relinks, both_grids, touch, sweep, steady, 
 use Rattle.history_core.proofs.Sizes.{sizes_longer, sizes_still}
 
 -- the laws of a state, by what they speak of
-pub outer_of : (s : State) → HistoryInvariant s → Outer s.known s.origin s.log s.lanes s.lane s.flushed (written_of s) s.device s.pool.core.views
+pub outer_of : (s : State) → HistoryInvariant s → Outer s.known s.origin s.opened_sizes s.log s.lanes s.lane s.flushed (written_of s) s.device s.pool.core.views
 outer_of s h = record { device = h.device; history = h.history; lanes = h.lanes; wide = h.wide }
 
 pub blocks_of : (s : State) → HistoryInvariant s → Blocks s.pool.core.frames s.pool.core.frame s.pool.core.views s.origin s.log s.flushed (home_of s)
@@ -94,7 +96,7 @@ all_same s t base resizes sizes = record { base = base; resizes = resizes; sizes
 
 -- a state with another buffer pool and other lanes, where the log stays
 assemble : (s : State) → HistoryInvariant s → (pool' : page.State) (lane' : ℕ → Lane) → page_law.PageInvariant pool' → ((tag : ℕ) → s.known tag ≡ true → pool'.logged tag ≡ cell s.origin s.log.entries tag) → ((tag : ℕ) → (lane' (s.lane_of tag)).known ≡ s.known tag) → SameSizes s.pool.core pool'.core
-    → Outer s.known s.origin s.log s.lanes lane' s.flushed (written_of s) s.device pool'.core.views → Blocks pool'.core.frames pool'.core.frame pool'.core.views s.origin s.log s.flushed (homes_with s pool'.logged lane') → HistoryInvariant (record s { pool = pool'; lane = lane' })
+    → Outer s.known s.origin s.opened_sizes s.log s.lanes lane' s.flushed (written_of s) s.device pool'.core.views → Blocks pool'.core.frames pool'.core.frame pool'.core.views s.origin s.log s.flushed (homes_with s pool'.logged lane') → HistoryInvariant (record s { pool = pool'; lane = lane' })
 assemble s h pool' lane' law logged known kept outer blocks = record {
   pool = law;
   logged = logged;
@@ -127,7 +129,7 @@ assemble s h pool' lane' law logged known kept outer blocks = record {
 
 -- and where each block's page after the log stays
 assemble_same : (s : State) → HistoryInvariant s → (pool' : page.State) (lane' : ℕ → Lane) → page_law.PageInvariant pool' → pool'.logged ≡ s.pool.logged → ((tag : ℕ) → (lane' (s.lane_of tag)).known ≡ s.known tag) → SameSizes s.pool.core pool'.core
-    → Outer s.known s.origin s.log s.lanes lane' s.flushed (written_of s) s.device pool'.core.views → Blocks pool'.core.frames pool'.core.frame pool'.core.views s.origin s.log s.flushed (homes_with s s.pool.logged lane') → HistoryInvariant (record s { pool = pool'; lane = lane' })
+    → Outer s.known s.origin s.opened_sizes s.log s.lanes lane' s.flushed (written_of s) s.device pool'.core.views → Blocks pool'.core.frames pool'.core.frame pool'.core.views s.origin s.log s.flushed (homes_with s s.pool.logged lane') → HistoryInvariant (record s { pool = pool'; lane = lane' })
 assemble_same s h pool' lane' law same known kept outer blocks = assemble s h pool' lane' law (λ tag is. (λ j. same j tag) ∙ h.logged tag is) known kept outer
     (subst (λ (g : ℕ → Option Page). Blocks pool'.core.frames pool'.core.frame pool'.core.views s.origin s.log s.flushed (homes_with s g lane')) (sym same) blocks)
 
@@ -266,7 +268,7 @@ module _ (s : State) (h : HistoryInvariant s) where
   pins_step : (i f : ℕ) (k : pin_kinds.Kind) (v : View) → get_elem? views i ≡ some v → v.emptied ≡ false → f < n → pin_kinds.Allowed k (frame f) (link v f) → pin_steps.AllowedAround k s.pool.core v f → HistoryInvariant (record s { pool = record s.pool { core = pin_steps.state_after k s.pool.core i f v } })
   pins_step i f k v there live inside a around = let w : View = pin_stepping.after k s.pool.core f v in let fr : Frame = pin_kinds.frame_after k (frame f) in let l : Link = pin_kinds.link_after k (frame f) (link v f) in
       let law = page_stepping.step_keeps (page_steps.cores (pin_steps.touches i f k v there live inside a around)) h.pool in
-      assemble_same s h (record s.pool { core = pin_steps.state_after k s.pool.core i f v }) s.lane law refl h.known (record { base = refl; resizes = refl; sizes = λ fork. refl }) (outer_same s.known s.origin s.log s.lanes s.lane s.flushed (written_of s) s.device views (outer_of s h) i v w there (record { calls = refl; front = refl; joined = refl; flushed = refl; emptied = refl; number = refl; kept = refl }) refl refl refl refl)
+      assemble_same s h (record s.pool { core = pin_steps.state_after k s.pool.core i f v }) s.lane law refl h.known (record { base = refl; resizes = refl; sizes = λ fork. refl }) (outer_same s.known s.origin s.opened_sizes s.log s.lanes s.lane s.flushed (written_of s) s.device views (outer_of s h) i v w there (record { calls = refl; front = refl; joined = refl; flushed = refl; emptied = refl; number = refl; kept = refl }) refl refl refl refl)
       (record {
         homes = touched i f v w fr l there live inside refl (home_of s) (λ g below other. refl) (pins_keep k (home_of s (frame f).tag) (home_of s fr.tag) (frame f) (link v f) a (λ e. ap (home_of s) e) (fresh i f k v there a around));
         unframed = unframed_put (λ (t : ℕ). IsClean (home_of s t)) n frame f fr inside h.unframed (λ named goes. ⊎_elim (λ (clean : (frame f).word.dirty ≡ false). clean_at f inside named clean)
@@ -299,7 +301,7 @@ module _ (s : State) (h : HistoryInvariant s) where
   page_step : (i f : ℕ) (k : Kind) (v : View) → get_elem? views i ≡ some v → v.emptied ≡ false → f < n → Allowed k (block_of s.pool.logged (frame f).tag) (frame f) (link v f) → page_steps.AllowedAround k s.pool v f → IsPlain k → HistoryInvariant (record s { pool = page_steps.state_after k s.pool i f v })
   page_step i f k v there live inside a around plain = let stays = plain_block k (block_of s.pool.logged (frame f).tag) plain in let w : View = paged k s.pool f v in
       assemble_same s h (page_steps.state_after k s.pool i f v) s.lane (page_stepping.step_keeps (page_steps.touches i f k v there live inside a around) h.pool) (logged_same i f k v there live inside stays) h.known (record { base = refl; resizes = refl; sizes = λ fork. refl })
-      (outer_same s.known s.origin s.log s.lanes s.lane s.flushed (written_of s) s.device views (outer_of s h) i v w there (record { calls = refl; front = refl; joined = refl; flushed = refl; emptied = refl; number = refl; kept = refl }) refl refl refl refl)
+      (outer_same s.known s.origin s.opened_sizes s.log s.lanes s.lane s.flushed (written_of s) s.device views (outer_of s h) i v w there (record { calls = refl; front = refl; joined = refl; flushed = refl; emptied = refl; number = refl; kept = refl }) refl refl refl refl)
       (blocks_touched i f k v there live inside stays w refl (plain_keeps k (home_of s (frame f).tag) (frame f) (link v f) (page_of s (frame f).tag) (λ named known. logged_there s h (frame f).tag (frame_block f inside named) known) plain a))
 
   -- the blocks where a view changes beside its links
@@ -311,7 +313,7 @@ module _ (s : State) (h : HistoryInvariant s) where
   sized_step i fork k v there live a = let w : View = view_sized k fork s.pool.core v in let x : pin_steps.Step (pin_steps.size_at i fork k) s.pool.core (state_sized k s.pool.core i fork v) = pin_steps.sized i fork k v there live a in
       assemble_same s h (record { core = state_sized k s.pool.core i fork v; logged = logged_sized k fork s.pool }) s.lane (page_stepping.step_keeps (page_steps.cores x) h.pool) (quiet_logged s.pool h.pool.sizes h.quiet i fork v k there a) h.known
       (record { base = refl; resizes = refl; sizes = same_sizes s.pool.core h.pool.sizes h.quiet i fork v k there a })
-      (outer_same s.known s.origin s.log s.lanes s.lane s.flushed (written_of s) s.device s.pool.core.views (outer_of s h) i v w there (record { calls = refl; front = refl; joined = refl; flushed = refl; emptied = refl; number = refl; kept = refl }) refl refl refl refl)
+      (outer_same s.known s.origin s.opened_sizes s.log s.lanes s.lane s.flushed (written_of s) s.device s.pool.core.views (outer_of s h) i v w there (record { calls = refl; front = refl; joined = refl; flushed = refl; emptied = refl; number = refl; kept = refl }) refl refl refl refl)
       (record {
         homes = steady_alike home_shape home_part s.pool.core.frames s.pool.core.frame (home_of s) s.pool.core.views h.homes i v w there refl (page_stepping.sized_weight s.pool h.pool i fork v there live k a)
             (λ g b c o. sized_links s.pool.core h.pool.core i fork v there live (λ l m. HomeLink b c l → HomeLink b c m) k a (λ l y. y) (λ l known y. record { written = y.written }) (λ f end e z y. record { written = y.written }) g);
@@ -324,14 +326,14 @@ module _ (s : State) (h : HistoryInvariant s) where
   others_step (pin_steps.touches i f k v there live inside a around) = pins_step i f k v there live inside a around
   others_step (pin_steps.turns i p k v there live below a) = let x : pin_steps.Step (pin_steps.turn i p k) s.pool.core (pin_steps.state_turned k s.pool.core i p v) = pin_steps.turns i p k v there live below a in let w : View = view_turned k p (hold v p) v in
       assemble_same s h (record s.pool { core = pin_steps.state_turned k s.pool.core i p v }) s.lane (page_stepping.step_keeps (page_steps.cores x) h.pool) refl h.known (record { base = refl; resizes = refl; sizes = λ fork. refl })
-      (outer_same s.known s.origin s.log s.lanes s.lane s.flushed (written_of s) s.device views (outer_of s h) i v w there (record { calls = refl; front = refl; joined = refl; flushed = refl; emptied = refl; number = refl; kept = refl }) refl refl refl refl) (blocks_aside i v w there refl)
+      (outer_same s.known s.origin s.opened_sizes s.log s.lanes s.lane s.flushed (written_of s) s.device views (outer_of s h) i v w there (record { calls = refl; front = refl; joined = refl; flushed = refl; emptied = refl; number = refl; kept = refl }) refl refl refl refl) (blocks_aside i v w there refl)
   others_step (pin_steps.sized i fork k v there live a) = sized_step i fork k v there live a
   others_step (pin_steps.splits v there room) = let x : pin_steps.Step pin_steps.split s.pool.core (pins.split_state s.pool.core v) = pin_steps.splits v there room in let w : View = record v { next = v.next + 1 } in
       let a = length v.links in let p = length v.partitions in let m = length v.lanes in let first = h.pool.core.views.first v there in
-      let outer = outer_grows s.known s.origin s.log s.lanes s.lane s.flushed (written_of s) s.device (set views 0 w) (outer_same s.known s.origin s.log s.lanes s.lane s.flushed (written_of s) s.device views (outer_of s h) 0 v w there (record { calls = refl; front = refl; joined = refl; flushed = refl; emptied = refl; number = refl; kept = refl }) refl refl refl refl) v.next s.pool.core.base a p h.based h.flushed_from (end_above s.log (new_entry s 0 (image 0 [])) h.log) in
+      let outer = outer_grows s.known s.origin s.opened_sizes s.log s.lanes s.lane s.flushed (written_of s) s.device (set views 0 w) (outer_same s.known s.origin s.opened_sizes s.log s.lanes s.lane s.flushed (written_of s) s.device views (outer_of s h) 0 v w there (record { calls = refl; front = refl; joined = refl; flushed = refl; emptied = refl; number = refl; kept = refl }) refl refl refl refl) v.next s.pool.core.base a p h.based h.flushed_from (end_above s.log (new_entry s 0 (image 0 [])) h.log) in
       let blocks = blocks_aside 0 v w there refl in
       assemble_same s h (record s.pool { core = pins.split_state s.pool.core v }) s.lane (page_stepping.step_keeps (page_steps.cores x) h.pool) refl h.known (record { base = refl; resizes = refl; sizes = λ fork. refl })
-      (subst (λ (z : ℕ). Outer s.known s.origin s.log s.lanes s.lane s.flushed (written_of s) s.device (set views 0 w ++ new_view v.next s.pool.core.base a p z ∷ [])) (sym (h.wide 0 v there first.0)) outer)
+      (subst (λ (z : ℕ). Outer s.known s.origin s.opened_sizes s.log s.lanes s.lane s.flushed (written_of s) s.device (set views 0 w ++ new_view v.next s.pool.core.base a p z ∷ [])) (sym (h.wide 0 v there first.0)) outer)
       (record {
         homes = grows home_shape home_part n frame (home_of s) (set views 0 w) blocks.homes (new_view v.next s.pool.core.base a p m) (new_none v.next s.pool.core.base a p m) (λ g inside. subst (HomeLink (home_of s (frame g).tag) (frame g)) (sym (link_new a p m v.next s.pool.core.base g)) (no_link (home_of s (frame g).tag) (frame g)));
         unframed = h.unframed;
@@ -340,7 +342,7 @@ module _ (s : State) (h : HistoryInvariant s) where
   others_step (pin_steps.joins j v u there other here live free) = let x : pin_steps.Step (pin_steps.join j) s.pool.core (pins.joined_state s.pool.core v j u) = pin_steps.joins j v u there other here live free in let w : View = joined_view v u in let alive = (h.pool.core.views.first v there).0 in
       let first = steady home_shape known n frame (home_of s) views (knows s h) 0 v w there refl (λ g. refl) in
       assemble_same s h (record s.pool { core = pins.joined_state s.pool.core v j u }) s.lane (page_stepping.step_keeps (page_steps.cores x) h.pool) refl h.known (record { base = refl; resizes = refl; sizes = λ fork. refl })
-      (outer_joins s.known s.origin s.log s.lanes s.lane s.flushed (written_of s) s.device views (outer_of s h) j v u there alive (h.pool.core.views.numbered 0 v there alive) other here live (h.pool.core.views.numbered j u here live) free.lanes free.log)
+      (outer_joins s.known s.origin s.opened_sizes s.log s.lanes s.lane s.flushed (written_of s) s.device views (outer_of s h) j v u there alive (h.pool.core.views.numbered 0 v there alive) other here live (h.pool.core.views.numbered j u here live) free.lanes free.log)
       (record {
         homes = sweep home_shape known home_part n frame frame (home_of s) (home_of s) (set views 0 w) j u emptied_view first (set_else views 0 j w other ∙ here) (λ g inside. home_forgets (home_of s (frame g).tag) (frame g) (link u g));
         unframed = h.unframed;
@@ -374,11 +376,11 @@ pools_step s h (page_steps.touches i f k v there live inside a around) plain = p
 
 -- the laws of the calls and the lanes after a step at a lane
 laned_outer : (s : State) (h : HistoryInvariant s) (i q : ℕ) (k : LaneKind) (v w : View) → get_elem? s.pool.core.views i ≡ some v → v.emptied ≡ false → q < s.lanes → LaneAllowed k (s.lane q) (lane_hold v q) → SameCalls v w → w.emptied ≡ v.emptied → w.lanes ≡ set v.lanes q (lane_hold_after k v.flushed (swept_by v) (lane_hold v q)) → w.log ≡ v.log → w.saw_down ≡ v.saw_down
-    → Outer s.known s.origin s.log s.lanes (put s.lane q (lane_after k (s.lane q))) s.flushed (written_of s) s.device (set s.pool.core.views i w)
+    → Outer s.known s.origin s.opened_sizes s.log s.lanes (put s.lane q (lane_after k (s.lane q))) s.flushed (written_of s) s.device (set s.pool.core.views i w)
 laned_outer s h i q k v w there live low a same emptied holds unlogged saw = record {
   device = steady log_shape log_part 1 (λ _. s.device) (λ _. written_of s) s.pool.core.views h.device i v w there saw (λ g. unlogged);
-  history = history_same s.known s.origin s.log s.flushed s.pool.core.views h.history i v w there same;
-  lanes = lanes_touched s.known s.origin s.log s.lanes s.lane s.flushed (written_of s) s.device s.pool.core.views (outer_of s h) i q k v w there live low a holds;
+  history = history_same s.known s.origin s.opened_sizes s.log s.flushed s.pool.core.views h.history i v w there same;
+  lanes = lanes_touched s.known s.origin s.opened_sizes s.log s.lanes s.lane s.flushed (written_of s) s.device s.pool.core.views (outer_of s h) i q k v w there live low a holds;
   wide = wide_set s.lanes s.pool.core.views h.wide i v w there emptied (ap (λ (x : List LaneHold). length x) holds ∙ length-set v.lanes q (lane_hold_after k v.flushed (swept_by v) (lane_hold v q)));
 }
 
@@ -587,7 +589,7 @@ copied_is_logged : (b : Block) (fr : Frame) (l : Link) (tag : ℕ) (p : Page) �
 copied_is_logged _ _ _ tag p c d a = let y = d.remembers tag a.remembered in ((c.copied p a.copied).is_logged, y.1, y.0)
 
 -- a state where a view changes beside all that the pool and the lanes know of it
-with_view : (s : State) (h : HistoryInvariant s) (i : ℕ) (v w : View) → get_elem? s.pool.core.views i ≡ some v → SameHere v w → w.lanes ≡ v.lanes → w.log ≡ v.log → w.saw_down ≡ v.saw_down → HistoryLaw s.known s.origin s.log s.flushed (set s.pool.core.views i w) → HistoryInvariant (record s { pool = aside s.pool i w })
+with_view : (s : State) (h : HistoryInvariant s) (i : ℕ) (v w : View) → get_elem? s.pool.core.views i ≡ some v → SameHere v w → w.lanes ≡ v.lanes → w.log ≡ v.log → w.saw_down ≡ v.saw_down → HistoryLaw s.known s.origin s.opened_sizes s.log s.flushed (set s.pool.core.views i w) → HistoryInvariant (record s { pool = aside s.pool i w })
 with_view s h i v w there same holds unlogged saw history = assemble_same s h (aside s.pool i w) s.lane (pool_aside s.pool i v w h.pool there same) refl h.known (record { base = refl; resizes = refl; sizes = λ fork. refl })
     (record {
       device = steady log_shape log_part 1 (λ _. s.device) (λ _. written_of s) s.pool.core.views h.device i v w there saw (λ g. unlogged);
@@ -602,7 +604,13 @@ reads_step s h i f tag p v there inside a = let w : View = looked (seen.LogEnd s
     let x = copied_is_logged (block_of s.pool.logged (s.pool.core.frame f).tag) (s.pool.core.frame f) (link v f) tag p (h.pool.pages.cells i v f there inside) (h.pool.core.grid.cells i v f there inside) a in
     let is : s.known tag ≡ true → cell s.origin s.log.entries tag ≡ Some p = (λ known. let block = subst (λ (z : ℕ). is_block s.pool.core z ≡ true) x.1 (frame_block s h f inside x.2.named) in let e = logged_there s h tag block known in sym (h.logged tag known) ∙ e ∙ ap (λ (y : Page). Some y) (x.0 (page_of s tag) (ap s.pool.logged x.1 ∙ e))) in
     with_view s h i v w there (record { backend = record { emptied = refl; number = refl; next = refl; links = refl; partitions = refl }; joined = refl; links = refl; partitions = refl; sizes = refl }) refl refl refl
-    (history_read s.known s.origin s.log s.flushed s.pool.core.views h.history h.log i v w there tag p is (new_entry s 0 (image tag p)) (ap (λ (z : ℕ). v.calls ++ Read v.number tag p z ∷ []) h.ends) h.ends refl refl refl refl)
+    (history_read s.known s.origin s.opened_sizes s.log s.flushed s.pool.core.views h.history h.log i v w there tag p is (new_entry s 0 (image tag p)) (ap (λ (z : ℕ). v.calls ++ Read v.number tag p z ∷ []) h.ends) h.ends refl refl refl refl)
+
+-- a size that a view has seen under its shared right is the fork's by the log
+reads_size_step : (s : State) → HistoryInvariant s → (i fork : ℕ) (v : View) → get_elem? s.pool.core.views i ≡ some v → (size_hold v fork).right ≡ size_right.Shared → HistoryInvariant (record s { pool = aside s.pool i (looked (seen.LogEnd s.end) (has_seen_size s.end fork (size_hold v fork).blocks v)) })
+reads_size_step s h i fork v there right = let w : View = looked (seen.LogEnd s.end) (has_seen_size s.end fork (size_hold v fork).blocks v) in
+    with_view s h i v w there (record { backend = record { emptied = refl; number = refl; next = refl; links = refl; partitions = refl }; joined = refl; links = refl; partitions = refl; sizes = refl }) refl refl refl
+    (history_sized s.known s.origin s.opened_sizes s.log s.flushed s.pool.core.views h.history h.log i v w there fork (size_hold v fork).blocks (sym (h.sizes fork) ∙ sym (shared_finds s.pool.core h.pool.sizes i fork v there right)) (new_entry s 0 (image 0 [])) (ap (λ (z : ℕ). v.calls ++ Sized v.number fork (size_hold v fork).blocks z ∷ []) h.ends) h.ends refl refl refl refl)
 
 -- the flushed position rises to the log's end, whose bytes are durable
 raised_state : (t : State) → HistoryInvariant t → length (log_bytes t.names t.log) ≤ t.device.synced → HistoryInvariant (record t { flushed = max t.flushed t.end })
@@ -623,7 +631,7 @@ raised_state t k durable = let more : t.flushed ≤ max t.flushed t.end = omega 
   named = k.named;
   durable = λ lt. let x = bytes_length t.names t.log k.named k.log in let y = k.ends in let z = k.flushed_to in omega arith;
   device = k.device;
-  history = history_raised t.known t.origin t.log t.flushed t.pool.core.views k.history (max t.flushed t.end) more;
+  history = history_raised t.known t.origin t.opened_sizes t.log t.flushed t.pool.core.views k.history (max t.flushed t.end) more;
   lanes = reblock lane_shape lane_part t.lanes t.lane (λ _. t.flushed) t.pool.core.views k.lanes (λ _. max t.flushed t.end) (λ g below sums c. c) (λ g o l below c. lane_later t.flushed (max t.flushed t.end) (t.lane g) l more c);
   wide = k.wide;
   placed = k.placed;
@@ -633,7 +641,7 @@ raised_state t k durable = let more : t.flushed ≤ max t.flushed t.end = omega 
 }
 
 raises_step : (s : State) → HistoryInvariant s → (i : ℕ) (v : View) → get_elem? s.pool.core.views i ≡ some v → v.log.synced ≡ true → HistoryInvariant (record s { pool = aside s.pool i (has_raised s.end v); flushed = max s.flushed s.end })
-raises_step s h i v there synced = raised_state (record s { pool = aside s.pool i (has_raised s.end v) }) (with_view s h i v (has_raised s.end v) there (record { backend = record { emptied = refl; number = refl; next = refl; links = refl; partitions = refl }; joined = refl; links = refl; partitions = refl; sizes = refl }) refl refl refl (history_same s.known s.origin s.log s.flushed s.pool.core.views h.history i v (has_raised s.end v) there (record { calls = refl; front = refl; joined = refl; flushed = refl; emptied = refl; number = refl; kept = refl })))
+raises_step s h i v there synced = raised_state (record s { pool = aside s.pool i (has_raised s.end v) }) (with_view s h i v (has_raised s.end v) there (record { backend = record { emptied = refl; number = refl; next = refl; links = refl; partitions = refl }; joined = refl; links = refl; partitions = refl; sizes = refl }) refl refl refl (history_same s.known s.origin s.opened_sizes s.log s.flushed s.pool.core.views h.history i v (has_raised s.end v) there (record { calls = refl; front = refl; joined = refl; flushed = refl; emptied = refl; number = refl; kept = refl })))
     (synced_all (written_of s) s.device v.saw_down v.log (tallies log_shape s.pool.core.views 0) (h.device.columns 0 (lit< tt)) (h.device.cells i v 0 there (lit< tt)) (λ k. term_le (λ (u : View). log_weigh k u.log) s.pool.core.views i v there) synced)
 
 -- what is durable stays so
@@ -668,7 +676,7 @@ logs_step s h i k v there a = let w : View = view_logged k v in let views = s.po
       named = h.named;
       durable = λ lt. let x = h.durable lt in omega arith;
       device = sweep log_shape log_part log_part 1 (λ _. s.device) (λ _. device_after k s.end s.device) (λ _. written_of s) (λ _. written_of s) views i v w h.device there (λ g below. log_keeps (written_of s) s.device v.saw_down v.log k a);
-      history = history_same s.known s.origin s.log s.flushed views h.history i v w there (record { calls = refl; front = refl; joined = refl; flushed = refl; emptied = refl; number = refl; kept = refl });
+      history = history_same s.known s.origin s.opened_sizes s.log s.flushed views h.history i v w there (record { calls = refl; front = refl; joined = refl; flushed = refl; emptied = refl; number = refl; kept = refl });
       lanes = steady lane_shape lane_part s.lanes s.lane (λ _. s.flushed) views h.lanes i v w there refl (λ q. refl);
       wide = wide_set s.lanes views h.wide i v w there refl refl;
       placed = h.placed;
@@ -794,7 +802,7 @@ module _ (s : State) (h : HistoryInvariant s) (i f : ℕ) (p : Page) (ch : Chang
         durable = h.durable;
         device = sweep log_shape log_part log_part 1 (λ _. s.device) (λ _. s.device) (λ _. written_of s) (λ _. written_of entered) views i v after h.device there
             (λ g below. enter_keeps (written_of s) s.device v.saw_down v.log (record_bytes s.names entry) end' (log_bytes s.names entered.log) x.appended (bytes_longer s.names s.log entry));
-        history = history_written s.known s.origin s.log s.flushed views h.history h.log i v after there entry h.ends tag_of p (logged_as ch v.log.redo (link v f).copied) of_block (makes_whole ch end' tag_of p (link v f) x.makes) refl tested_now cell_now refl refl refl refl refl refl refl;
+        history = history_written s.known s.origin s.opened_sizes s.log s.flushed views h.history h.log i v after there entry h.ends tag_of p (logged_as ch v.log.redo (link v f).copied) of_block (makes_whole ch end' tag_of p (link v f) x.makes) refl tested_now cell_now refl refl refl refl refl refl refl;
         lanes = steady lane_shape lane_part s.lanes s.lane (λ _. s.flushed) views h.lanes i v after there refl (λ q. refl);
         wide = wide_set s.lanes views h.wide i v after there refl refl;
         placed = h.placed;
@@ -816,7 +824,7 @@ module _ (s : State) (h : HistoryInvariant s) (i : ℕ) (v : View) (there : get_
       assemble_same s h (aside s.pool i w) s.lane (pool_aside s.pool i v w h.pool there same) refl h.known (record { base = refl; resizes = refl; sizes = λ fork. refl })
       (record {
         device = sweep log_shape log_part log_part 1 (λ _. s.device) (λ _. s.device) (λ _. written_of s) (λ _. written_of s) s.pool.core.views i v w h.device there (λ g below. end_keeps (written_of s) s.device v.saw_down v.log);
-        history = history_same s.known s.origin s.log s.flushed s.pool.core.views h.history i v w there (record { calls = refl; front = refl; joined = refl; flushed = refl; emptied = refl; number = refl; kept = refl });
+        history = history_same s.known s.origin s.opened_sizes s.log s.flushed s.pool.core.views h.history i v w there (record { calls = refl; front = refl; joined = refl; flushed = refl; emptied = refl; number = refl; kept = refl });
         lanes = steady lane_shape lane_part s.lanes s.lane (λ _. s.flushed) s.pool.core.views h.lanes i v w there refl (λ q. refl);
         wide = wide_set s.lanes s.pool.core.views h.wide i v w there refl refl;
       })
@@ -825,7 +833,7 @@ module _ (s : State) (h : HistoryInvariant s) (i : ℕ) (v : View) (there : get_
   begins_step : HistoryInvariant (state_after_word begin_checkpoint s i v)
   begins_step = let w : View = after_word begin_checkpoint s v in let begun : BegunHere v w = record { emptied = refl; number = refl; next = refl; joined = refl; links = refl; partitions = refl; sizes = refl } in
       assemble_same s h (aside s.pool i w) s.lane (pool_begun i v w begun s.pool h.pool there) refl h.known (record { base = refl; resizes = refl; sizes = λ fork. refl })
-      (outer_same s.known s.origin s.log s.lanes s.lane s.flushed (written_of s) s.device s.pool.core.views (outer_of s h) i v w there (record { calls = refl; front = refl; joined = refl; flushed = refl; emptied = refl; number = refl; kept = refl }) refl refl refl refl)
+      (outer_same s.known s.origin s.opened_sizes s.log s.lanes s.lane s.flushed (written_of s) s.device s.pool.core.views (outer_of s h) i v w there (record { calls = refl; front = refl; joined = refl; flushed = refl; emptied = refl; number = refl; kept = refl }) refl refl refl refl)
       (record { homes = homes_begun i v w begun s.pool.core.frames s.pool.core.frame (home_of s) s.pool.core.views h.homes there; unframed = h.unframed; flushed_cells = h.flushed_cells })
 
   -- the holder of the log's latch keeps the redo position that it loads
@@ -834,7 +842,7 @@ module _ (s : State) (h : HistoryInvariant s) (i : ℕ) (v : View) (there : get_
       assemble_same s h (aside s.pool i w) s.lane (pool_aside s.pool i v w h.pool there same) refl h.known (record { base = refl; resizes = refl; sizes = λ fork. refl })
       (record {
         device = sweep log_shape log_part log_part 1 (λ _. s.device) (λ _. s.device) (λ _. written_of s) (λ _. written_of s) s.pool.core.views i v w h.device there (λ g below. redo_keeps (written_of s) s.device v.saw_down v.log (Some s.redo) (λ free. absurd (let x = held in cc)));
-        history = history_same s.known s.origin s.log s.flushed s.pool.core.views h.history i v w there (record { calls = refl; front = refl; joined = refl; flushed = refl; emptied = refl; number = refl; kept = refl });
+        history = history_same s.known s.origin s.opened_sizes s.log s.flushed s.pool.core.views h.history i v w there (record { calls = refl; front = refl; joined = refl; flushed = refl; emptied = refl; number = refl; kept = refl });
         lanes = steady lane_shape lane_part s.lanes s.lane (λ _. s.flushed) s.pool.core.views h.lanes i v w there refl (λ q. refl);
         wide = wide_set s.lanes s.pool.core.views h.wide i v w there refl refl;
       })
@@ -846,7 +854,7 @@ module _ (s : State) (h : HistoryInvariant s) (i : ℕ) (v : View) (there : get_
       assemble_same s h (aside s.pool i w) s.lane (pool_aside s.pool i v w h.pool there same) refl h.known (record { base = refl; resizes = refl; sizes = λ fork. refl })
       (record {
         device = sweep log_shape log_part log_part 1 (λ _. s.device) (λ _. s.device) (λ _. written_of s) (λ _. written_of s) s.pool.core.views i v w h.device there (λ g below. redo_keeps (written_of s) s.device v.saw_down v.log (None) (λ free. refl));
-        history = history_same s.known s.origin s.log s.flushed s.pool.core.views h.history i v w there (record { calls = refl; front = refl; joined = refl; flushed = refl; emptied = refl; number = refl; kept = refl });
+        history = history_same s.known s.origin s.opened_sizes s.log s.flushed s.pool.core.views h.history i v w there (record { calls = refl; front = refl; joined = refl; flushed = refl; emptied = refl; number = refl; kept = refl });
         lanes = steady lane_shape lane_part s.lanes s.lane (λ _. s.flushed) s.pool.core.views h.lanes i v w there refl (λ q. refl);
         wide = wide_set s.lanes s.pool.core.views h.wide i v w there refl refl;
       })
@@ -883,13 +891,13 @@ module _ (s : State) (h : HistoryInvariant s) (i : ℕ) (v : View) (there : get_
   words_step load_end a = loads_end_step
   words_step begin_checkpoint a = begins_step
   words_step load_flushed a = let w : View = after_word load_flushed s v in with_view s h i v w there (record { backend = record { emptied = refl; number = refl; next = refl; links = refl; partitions = refl }; joined = refl; links = refl; partitions = refl; sizes = refl }) refl refl refl
-      (history_loaded s.known s.origin s.log s.flushed s.pool.core.views h.history i v w there refl refl refl refl refl refl refl)
+      (history_loaded s.known s.origin s.opened_sizes s.log s.flushed s.pool.core.views h.history i v w there refl refl refl refl refl refl refl)
   words_step raise_flushed synced = raises_step s h i v there synced
   words_step load_redo held = loads_redo_step held
   words_step raise_redo ended = raises_redo_step
   -- no law speaks of the others
   words_step k a = let w : View = after_word k s v in let x = with_view s h i v w there (record { backend = record { emptied = refl; number = refl; next = refl; links = refl; partitions = refl }; joined = refl; links = refl; partitions = refl; sizes = refl }) refl refl refl
-      (history_same s.known s.origin s.log s.flushed s.pool.core.views h.history i v w there (record { calls = refl; front = refl; joined = refl; flushed = refl; emptied = refl; number = refl; kept = refl })) in record {
+      (history_same s.known s.origin s.opened_sizes s.log s.flushed s.pool.core.views h.history i v w there (record { calls = refl; front = refl; joined = refl; flushed = refl; emptied = refl; number = refl; kept = refl })) in record {
         pool = x.pool;
         logged = x.logged;
         sizes = x.sizes;
@@ -922,6 +930,7 @@ step_keeps (writes {s = s} i q f k v there live low inside a x) h = writes_step 
 step_keeps (notes {s = s} i q f noted k v there live low inside a x) h = notes_step s h i q f noted k v there live low inside a x
 step_keeps (enters {s = s} i f p ch v there live inside x) h = enters_step s h i f p ch v there live inside x
 step_keeps (reads {s = s} i f tag p v there live inside a) h = reads_step s h i f tag p v there inside a
+step_keeps (reads_size {s = s} i fork v there live a) h = reads_size_step s h i fork v there a
 step_keeps (words {s = s} i k v there live a) h = words_step s h i v there k a
 step_keeps (logs {s = s} i k v there live a record_is) h = logs_step s h i k v there a
 

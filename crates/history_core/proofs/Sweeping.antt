@@ -12,7 +12,7 @@ use Rattle.pin_core.specs.declared.view.LaneHold.{LaneHold}
 use Rattle.pin_core.specs.declared.view.Link.{Link}
 use Rattle.pin_core.specs.declared.view.LoadedWord.TheVariants as seen
 use Rattle.pin_core.specs.declared.view.View.{View}
-use Rattle.pin_core.specs.State.{Config, Page, no_lane, idle, link, lane_hold, hold, first_view, new_view, emptied_view, joined_view, kept_checkpoint}
+use Rattle.pin_core.specs.State.{Config, Page, no_lane, idle, link, lane_hold, hold, first_view, new_view, emptied_view, joined_view, kept_checkpoint, size_hold}
 use Rattle.pin_core.specs.State as pins
 use Rattle.pin_core.specs.Kinds as pin_kinds
 use Rattle.pin_core.specs.Turns.{view_turned}
@@ -29,7 +29,7 @@ use Rattle.history_core.specs.Homes.{IsUnframed}
 use Rattle.history_core.specs.Invariant.{HistoryInvariant}
 use Rattle.history_core.specs.Debts.{DebtsLaw}
 use Rattle.history_core.specs.Swept.{IsSwept, has_swept, ViewSwept, SweptLaw}
-use Rattle.history_core.specs.Steps.{Event, new_entry, stepped, looked, pool_noting, paged, laned, has_read, has_written, Step, pools, lanes, writes, notes, logs, enters, reads, words, after_word}
+use Rattle.history_core.specs.Steps.{Event, new_entry, stepped, looked, pool_noting, paged, laned, has_read, has_written, Step, pools, lanes, writes, notes, logs, enters, reads, words, after_word, reads_size, has_seen_size}
 use Rattle.history_core.proofs.Logs.{some_size, entry_at, entry_longer}
 use Rattle.history_core.proofs.Calls.{at_both}
 use Rattle.history_core.proofs.Histories.{framed}
@@ -235,6 +235,7 @@ swept_kept {t = t} (logs {s = s} i k v there live a record_is) h d m = aside_swe
 swept_kept {t = t} (enters {s = s} i f p ch v there live inside x) h d m = let entry = new_entry s v.number ch in aside_swept s h d m i v (has_written ch (link v f).copied (s.end + change_size ch) (s.pool.core.frame f).tag p (paged (make_entry p) s.pool f v)) t there refl refl refl
     (record { lane_of = refl; end = omega arith; entries = λ tag k e of. ⊎_elim (λ (y : IsEntryOf s.log.entries tag k e). inl y) (λ (y : (entry ≡ e) × (tag_in ch ≡ Some tag)). let z : s.end + change_size ch ≡ end_of e = ap end_of y.0 in inr (omega (arith, some_size ch))) (entry_longer s.log.entries entry tag k e of); synced = λ tag. omega arith }) m.below
 swept_kept {t = t} (reads {s = s} i f tag p v there live inside a) h d m = aside_swept s h d m i v (looked (seen.LogEnd s.end) (has_read s.end tag p v)) t there refl refl refl (plain s h d m t refl refl refl refl) m.below
+swept_kept {t = t} (reads_size {s = s} i fork v there live a) h d m = aside_swept s h d m i v (looked (seen.LogEnd s.end) (has_seen_size s.end fork (size_hold v fork).blocks v)) t there refl refl refl (plain s h d m t refl refl refl refl) m.below
 swept_kept {t = t} (words {s = s} i k v there live a) h d m = aside_swept s h d m i v (after_word k s v) t there refl refl refl (plain s h d m t refl refl refl refl) m.below
 
 pub swept_open : (c : Config) (store : Store) (page : Page) → SweptLaw (opening c store page)

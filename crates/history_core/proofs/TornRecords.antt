@@ -8,7 +8,7 @@ use Rattle.pin_core.specs.declared.view.Link.{Link}
 use Rattle.pin_core.specs.declared.view.LoadedWord.TheVariants as seen
 use Rattle.pin_core.specs.declared.view.TornRecord.{TornRecord}
 use Rattle.pin_core.specs.declared.view.View.{View}
-use Rattle.pin_core.specs.State.{Page, link, hold, emptied_view, joined_view}
+use Rattle.pin_core.specs.State.{Page, link, hold, emptied_view, joined_view, size_hold}
 use Rattle.pin_core.specs.State as pins
 use Rattle.pin_core.specs.Kinds as pin_kinds
 use Rattle.pin_core.specs.Turns.{view_turned}
@@ -20,7 +20,7 @@ use Rattle.history_core.specs.Log.{Change, image, ranges, resize, change_size}
 use Rattle.history_core.specs.Lanes as lane_kinds
 use Rattle.history_core.specs.Device.{LogKind, fail_append, torn_by, view_logged}
 use Rattle.history_core.specs.State.{State}
-use Rattle.history_core.specs.Steps.{Event, MakesPage, stepped, looked, pool_noting, paged, laned, has_read, has_written, Step, pools, lanes, writes, notes, logs, enters, reads, words, after_word}
+use Rattle.history_core.specs.Steps.{Event, MakesPage, stepped, looked, pool_noting, paged, laned, has_read, has_written, Step, pools, lanes, writes, notes, logs, enters, reads, words, after_word, reads_size, has_seen_size}
 use Rattle.history_core.specs.TornRecords.{IsOfPage, NotesTorn}
 use Rattle.history_core.proofs.Unentered.{at_right}
 use Rattle.grid.proofs.Lists.{at_longer, set_here, set_else}
@@ -83,4 +83,5 @@ torn_kept (notes {s = s} i q f noted k v there live low inside a x) = torn_set s
 torn_kept (logs {s = s} i k v there live a record_is) = torn_logged s i k v there
 torn_kept (enters {s = s} i f p c v there live inside x) = torn_set s.pool.core.views i v (has_written c (link v f).copied (s.end + change_size c) (s.pool.core.frame f).tag p (paged (make_entry p) s.pool f v)) there (all_torn v.torn)
 torn_kept (reads {s = s} i f tag p v there live inside a) = torn_set s.pool.core.views i v (looked (seen.LogEnd s.end) (has_read s.end tag p v)) there (all_torn v.torn)
+torn_kept (reads_size {s = s} i fork v there live a) = torn_set s.pool.core.views i v (looked (seen.LogEnd s.end) (has_seen_size s.end fork (size_hold v fork).blocks v)) there (all_torn v.torn)
 torn_kept (words {s = s} i k v there live a) = torn_set s.pool.core.views i v (after_word k s v) there (all_torn v.torn)

@@ -11,7 +11,7 @@ use Rattle.state_word.proofs.Words.{same_record}
 use Rattle.pin_core.specs.declared.view.LoadedWord.TheVariants as seen
 use Rattle.pin_core.specs.declared.view.View.{View}
 use Rattle.pin_core.specs.declared.view.WordChange.{WordChange}
-use Rattle.pin_core.specs.State.{Config, Frame, Page, link, hold, first_view, new_view, emptied_view, joined_view}
+use Rattle.pin_core.specs.State.{Config, Frame, Page, link, hold, first_view, new_view, emptied_view, joined_view, size_hold}
 use Rattle.pin_core.specs.State as pins
 use Rattle.pin_core.specs.Tallies.{flag_weight}
 use Rattle.pin_core.specs.Kinds as pin_kinds
@@ -36,7 +36,7 @@ use Rattle.history_core.proofs.Hints.{hints_same, hints_unstored, hints_stored}
 use Rattle.history_core.specs.Redo.{IsHighestRaised}
 use Rattle.history_core.proofs.Redo.{highest_more, highest_is as redo_is}
 use Rattle.history_core.specs.Trail.{Follows, IsHighest, TrailLaw, HasSameWords, ListedIsMade}
-use Rattle.history_core.specs.Steps.{Event, stepped, looked, pool_noting, paged, laned, has_read, has_written, Step, pools, lanes, writes, notes, logs, enters, reads, words, after_word}
+use Rattle.history_core.specs.Steps.{Event, stepped, looked, pool_noting, paged, laned, has_read, has_written, Step, pools, lanes, writes, notes, logs, enters, reads, words, after_word, reads_size, has_seen_size}
 use Rattle.history_core.specs.Words.{flushed_word, hand_word, WordKind, raise_flushed, add_hand, word_at, number_after, word_set}
 use Rattle.grid.specs.Shape.{put, total}
 use Rattle.grid.proofs.Lists.{at_set, at_end, at_only, at_longer, put_at, put_else, set_here, set_else}
@@ -118,6 +118,7 @@ words_kept (notes {s = s} i q f noted k v there live low inside a x) m = let b :
 words_kept (logs {s = s} i k v there live a record_is) m = λ g f. balances_aside (m g f) i v (view_logged k v) there refl
 words_kept (enters {s = s} i f p ch v there live inside x) m = moves s.pool.core.frame s.pool.core.views m i f v (has_written ch (link v f).copied (s.end + change_size ch) (s.pool.core.frame f).tag p (paged (make_entry p) s.pool f v)) (s.pool.core.frame f) there (lists_none f (s.pool.core.frame f).word v.changes)
 words_kept (reads {s = s} i f tag p v there live inside a) m = λ g f. balances_aside (m g f) i v (looked (seen.LogEnd s.end) (has_read s.end tag p v)) there refl
+words_kept (reads_size {s = s} i fork v there live a) m = λ g f. balances_aside (m g f) i v (looked (seen.LogEnd s.end) (has_seen_size s.end fork (size_hold v fork).blocks v)) there refl
 words_kept (words {s = s} i k v there live a) m = λ g f. balances_aside (m g f) i v (after_word k s v) there refl
 
 -- the moves that the views count
@@ -155,6 +156,7 @@ hand_kept (notes {s = s} i q f noted k v there live low inside a x) m = m ∙ ap
 hand_kept (logs {s = s} i k v there live a record_is) m = m ∙ ap (λ (n : ℕ). n % 18446744073709551616) (sym (same_ticks s.pool.core.views i v (view_logged k v) there refl))
 hand_kept (enters {s = s} i f p ch v there live inside x) m = m ∙ ap (λ (n : ℕ). n % 18446744073709551616) (sym (same_ticks s.pool.core.views i v (has_written ch (link v f).copied (s.end + change_size ch) (s.pool.core.frame f).tag p (paged (make_entry p) s.pool f v)) there refl))
 hand_kept (reads {s = s} i f tag p v there live inside a) m = m ∙ ap (λ (n : ℕ). n % 18446744073709551616) (sym (same_ticks s.pool.core.views i v (looked (seen.LogEnd s.end) (has_read s.end tag p v)) there refl))
+hand_kept (reads_size {s = s} i fork v there live a) m = m ∙ ap (λ (n : ℕ). n % 18446744073709551616) (sym (same_ticks s.pool.core.views i v (looked (seen.LogEnd s.end) (has_seen_size s.end fork (size_hold v fork).blocks v)) there refl))
 hand_kept (words {s = s} i k v there live a) m = hand_after_word k s i v there m
 
 -- where one view raises the flushed position, or not
@@ -212,6 +214,7 @@ highest_kept (notes {s = s} i q f noted k v there live low inside a x) h m = hig
 highest_kept (logs {s = s} i k v there live a record_is) h m = highest_same s.flushed s.pool.core.views m i v (view_logged k v) there refl
 highest_kept (enters {s = s} i f p ch v there live inside x) h m = highest_same s.flushed s.pool.core.views m i v (has_written ch (link v f).copied (s.end + change_size ch) (s.pool.core.frame f).tag p (paged (make_entry p) s.pool f v)) there refl
 highest_kept (reads {s = s} i f tag p v there live inside a) h m = highest_same s.flushed s.pool.core.views m i v (looked (seen.LogEnd s.end) (has_read s.end tag p v)) there refl
+highest_kept (reads_size {s = s} i fork v there live a) h m = highest_same s.flushed s.pool.core.views m i v (looked (seen.LogEnd s.end) (has_seen_size s.end fork (size_hold v fork).blocks v)) there refl
 highest_kept (words {s = s} i k v there live a) h m = highest_after_word k s i v there m
 
 pub trail_kept : {e : Event} {s t : State} → Step e s t → HistoryInvariant s → TrailLaw s → TrailLaw t

@@ -10,7 +10,7 @@ use Rattle.pin_core.specs.declared.view.LaneHold.{LaneHold}
 use Rattle.pin_core.specs.declared.view.Link.{Link}
 use Rattle.pin_core.specs.declared.view.LoadedWord.TheVariants as seen
 use Rattle.pin_core.specs.declared.view.View.{View}
-use Rattle.pin_core.specs.State.{Config, Frame, Page, link, hold, lane_hold, first_view, new_view, emptied_view, joined_view}
+use Rattle.pin_core.specs.State.{Config, Frame, Page, link, hold, lane_hold, first_view, new_view, emptied_view, joined_view, size_hold}
 use Rattle.pin_core.specs.State as pins
 use Rattle.pin_core.specs.Invariant.{FrameLaw}
 use Rattle.pin_core.specs.Tallies as pin_tallies
@@ -34,7 +34,7 @@ use Rattle.history_core.specs.Device.{view_logged}
 use Rattle.history_core.specs.State.{State, Store, opening}
 use Rattle.history_core.specs.Invariant.{HistoryInvariant}
 use Rattle.history_core.specs.Unentered.{IsEntered, NotesUnentered, IsUnentered, HoldsUnentered, IsHeldUnentered}
-use Rattle.history_core.specs.Steps.{Event, IsPlain, Notes, new_entry, stepped, looked, pool_noting, paged, laned, has_read, has_written, Step, pools, lanes, writes, notes, logs, enters, reads, words, after_word}
+use Rattle.history_core.specs.Steps.{Event, IsPlain, Notes, new_entry, stepped, looked, pool_noting, paged, laned, has_read, has_written, Step, pools, lanes, writes, notes, logs, enters, reads, words, after_word, reads_size, has_seen_size}
 use Rattle.history_core.specs.Words.{WordKind, begin_checkpoint}
 use Rattle.history_core.proofs.Beginning.{BegunHere, link_begun}
 use Rattle.history_core.proofs.Histories.{at_last}
@@ -100,6 +100,7 @@ noted_kept (notes {s = s} i q f noted k v there live low inside a x) = noted_set
 noted_kept (logs {s = s} i k v there live a record_is) = noted_set s.pool.core.views i v (view_logged k v) there (all_noted v.unentered)
 noted_kept (enters {s = s} i f p c v there live inside x) = noted_set s.pool.core.views i v (has_written c (link v f).copied (s.end + change_size c) (s.pool.core.frame f).tag p (paged (make_entry p) s.pool f v)) there (all_noted v.unentered)
 noted_kept (reads {s = s} i f tag p v there live inside a) = noted_set s.pool.core.views i v (looked (seen.LogEnd s.end) (has_read s.end tag p v)) there (all_noted v.unentered)
+noted_kept (reads_size {s = s} i fork v there live a) = noted_set s.pool.core.views i v (looked (seen.LogEnd s.end) (has_seen_size s.end fork (size_hold v fork).blocks v)) there (all_noted v.unentered)
 noted_kept (words {s = s} i k v there live a) = noted_set s.pool.core.views i v (after_word k s v) there (all_noted v.unentered)
 
 -- entries are made of frames that are marked dirty
@@ -333,6 +334,7 @@ unentered_kept (enters {s = s} i f p c v there live inside x) h m = let tag = (s
     pages_law s h m i f (make_entry p) (block_of s.pool.logged tag) v (has_written c (link v f).copied (s.end + change_size c) tag p (paged (make_entry p) s.pool f v)) (s.log.entries ++ entry ∷ []) (λ z y. (y.0, y.1, record { there = at_longer s.log.entries (entry ∷ []) y.0 y.1 y.2.there; of = y.2.of })) there live inside refl refl
     ((length s.log.entries, entry, record { there = at_last s.log.entries entry; of = makes_of c (s.end + change_size c) tag p (link v f) x.makes }), x.right.dirtied)
 unentered_kept (reads {s = s} i f tag p v there live inside a) h m = aside_law s h m i v (looked (seen.LogEnd s.end) (has_read s.end tag p v)) there refl refl
+unentered_kept (reads_size {s = s} i fork v there live a) h m = aside_law s h m i v (looked (seen.LogEnd s.end) (has_seen_size s.end fork (size_hold v fork).blocks v)) there refl refl
 unentered_kept (words {s = s} i k v there live a) h m = words_law s h m i k v there
 
 pub unentered_open : (c : Config) (store : Store) (page : Page) → IsUnenteredLaw (opening c store page)

@@ -6,22 +6,23 @@ use lib.ListN.{get_elem?}
 use Rattle.page_layout.specs.Fields.{lsn_of}
 use Rattle.page_layout.specs.Soundness.{is_sound_page}
 use Rattle.pin_core.specs.declared.view.Call.{Call}
-use Rattle.pin_core.specs.declared.view.Call.TheVariants.{Read, Write}
+use Rattle.pin_core.specs.declared.view.Call.TheVariants.{Read, Write, Sized}
+use Rattle.pin_core.specs.declared.view.SizeRight.TheVariants as size_right
 use Rattle.pin_core.specs.declared.view.LastWrite.TheVariants.{Done}
 use Rattle.pin_core.specs.declared.view.TakenLane.{TakenLane}
 use Rattle.pin_core.specs.declared.view.View.{View}
-use Rattle.pin_core.specs.State.{Page, Config, CanOpen, no_tag, link, lane_hold, is_block}
+use Rattle.pin_core.specs.State.{Page, Config, CanOpen, no_tag, link, lane_hold, size_hold, is_block}
 use Rattle.pin_core.specs.Invariant.{HasTag}
 use Rattle.pin_core.specs.Steps as pin_steps
 use Rattle.page_core.specs.Steps as page_steps
 use Rattle.page_core.specs.Histories.{NoneUnapplied}
-use Rattle.history_core.specs.Log.{Entry, log_end, end_of, cell, cut, head_size, log_bytes, AreImages, Change, Span, image, ranges, is_image, change_size, tag_in, IsEntryOf, IsLegal, IsFront, place_of, backend_of, writes_in, writes_at, AreInOrder}
+use Rattle.history_core.specs.Log.{sizes_after, Entry, log_end, end_of, cell, cut, head_size, log_bytes, AreImages, Change, Span, image, ranges, is_image, change_size, tag_in, IsEntryOf, IsLegal, IsFront, place_of, backend_of, writes_in, writes_at, AreInOrder}
 use Rattle.history_core.specs.State.{State, Store, CanStore, stored, stored_upto, synced_upto, failed, unsynced, last_position, opening}
 use Rattle.history_core.specs.Homes.{home_of, IsFlushedCell}
 use Rattle.history_core.specs.Lanes.{LaneKind, lane_out, sync_lane}
 use Rattle.history_core.specs.Device.{HasRisen}
 use Rattle.history_core.specs.Invariant.{HasNumber, KeptLaw}
-use Rattle.history_core.specs.Steps.{Event, pool, lane, write, enter, read, new_entry, logged_as, Step, Run}
+use Rattle.history_core.specs.Steps.{Event, pool, lane, write, enter, read, read_size, new_entry, logged_as, Step, Run}
 use Rattle.history_core.specs.Redo.{HasBeenRedo, StartsBased, FollowsImage}
 use Rattle.history_core.specs.Rest.{NoneAppended, HasRest}
 use Rattle.grid.specs.Shape.{total}
@@ -38,7 +39,7 @@ pub record IsReached (s : State) : Type 0 where
 
 -- each page that a backend read or wrote stands at its place in one history, that of the log
 abbrev pub CallsAreLegal : State → Type 0
-CallsAreLegal s = (i k : ℕ) (v : View) (c : Call) → get_elem? s.pool.core.views i ≡ some v → get_elem? v.calls k ≡ some c → IsLegal s.known s.origin s.log c
+CallsAreLegal s = (i k : ℕ) (v : View) (c : Call) → get_elem? s.pool.core.views i ≡ some v → get_elem? v.calls k ≡ some c → IsLegal s.known s.origin s.opened_sizes s.log c
 
 -- where no entry may be made of ranges each entry of the log is a whole page
 abbrev pub ImagesAlone : State → Type 0
@@ -60,6 +61,10 @@ pub record HasPages (s : State) (tag : ℕ) : Type 0 where
 abbrev pub BlocksAreThere : State → Type 0
 BlocksAreThere s = (tag : ℕ) → is_block s.pool.core tag ≡ true → s.known tag ≡ true → HasPages s tag
 
+-- the size of each fork by the log is what the entries make of the one that it had at the start
+abbrev pub SizesFollowLog : State → Type 0
+SizesFollowLog s = (fork : ℕ) → (s.pool.core.size fork).logged ≡ sizes_after s.log.entries s.opened_sizes fork
+
 -- each call is the backend's own, or that of one whose calls it took in
 abbrev pub CallsAreOwn : State → Type 0
 CallsAreOwn s = (i k : ℕ) (v : View) (c : Call) → get_elem? s.pool.core.views i ≡ some v → get_elem? v.calls k ≡ some c → HasNumber v (backend_of c)
@@ -72,9 +77,10 @@ JoinedAreApart s = KeptLaw s.pool.core.views
 abbrev pub FrontsAreReached : State → Type 0
 FrontsAreReached s = (i : ℕ) (v : View) → get_elem? s.pool.core.views i ≡ some v → v.emptied ≡ false → IsFront s.log.base v.calls v.front
 
--- the event is no read or entry of backend i, and no join that takes it in or has it take in another
+-- the event is no read or entry of backend i, nor a sight of a fork's size, and no join that takes it in or has it take in another
 abbrev pub LeavesCalls : Event → ℕ → Type 0
 LeavesCalls (read j f) i = i ≢ j
+LeavesCalls (read_size j fork) i = i ≢ j
 LeavesCalls (enter j f p c) i = i ≢ j
 LeavesCalls (pool (page_steps.pins_and_maps (pin_steps.join j))) i = (i ≢ 0) × (i ≢ j)
 LeavesCalls _ i = Unit {0}
@@ -154,6 +160,26 @@ pub record WriteStands (s t : State) (f : ℕ) (p : Page) (change : Change) (v w
   pub position : lsn_of p ≡ t.end
   pub is_cell : (is_image change ≡ true) ⊎ (s.known (s.pool.core.frame f).tag ≡ true) → cell t.origin t.log.entries (s.pool.core.frame f).tag ≡ Some p
   pub above : v.front < t.end
+
+-- What holds where the view v of a state s has given the size of a fork that it has seen its place, and is w then
+pub record SizeStands (s : State) (fork : ℕ) (v w : View) : Type 0 where
+  pub blocks : ℕ
+  -- it has kept the fork at its size since it found this one
+  pub shared : (size_hold v fork).right ≡ size_right.Shared
+  pub found : (size_hold v fork).blocks ≡ blocks
+  -- one call is added, at the log's end, which is the view's front then
+  pub added : w.calls ≡ v.calls ++ Sized v.number fork blocks s.end ∷ []
+  pub front : w.front ≡ s.end
+  pub place_loads : w.place_loads ≡ v.place_loads + 1
+  -- the fork has this size after the entries up to there
+  pub sees : sizes_after (cut s.end s.log.entries) s.opened_sizes fork ≡ blocks
+  -- which is after all that the backend had read, written and seen
+  pub later : (k : ℕ) (c : Call) → get_elem? v.calls k ≡ some c → place_of c ≤ s.end
+  pub above : v.front ≤ s.end
+
+-- so it is with the step that does so
+abbrev pub SizesStand : State → Type 0
+SizesStand s = (i fork : ℕ) (t : State) → Step (read_size i fork) s t → (v : View) × (w : View) × (get_elem? s.pool.core.views i ≡ some v) × (get_elem? t.pool.core.views i ≡ some w) × SizeStands s fork v w
 
 abbrev pub ReadsStand : State → Type 0
 ReadsStand s = (i f : ℕ) (t : State) → Step (read i f) s t → (v : View) × (w : View) × (get_elem? s.pool.core.views i ≡ some v) × (get_elem? t.pool.core.views i ≡ some w) × ReadStands s f v w

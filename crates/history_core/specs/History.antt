@@ -9,11 +9,11 @@ use Rattle.history_core.specs.Log.{Entry, Log, LogLaw, end_of, IsLegal, writes_i
 use Rattle.history_core.specs.State.{State}
 
 -- The calls of backends are one history of a log, where `origin` is what the lanes held at the start
-pub record IsHistory (known : ℕ → Bool) (origin : ℕ → Option Page) (log : Log) (calls : List Call) : Type 0 where
+pub record IsHistory (known : ℕ → Bool) (origin : ℕ → Option Page) (sizes : ℕ → ℕ) (log : Log) (calls : List Call) : Type 0 where
   -- the entries follow one another, from the base on, and each is valid
   pub law : LogLaw log
   -- each call is legal: a write is an entry of its backend, at its end; a read's page is the block's page after the entries up to its place, where the contents of the block's lane are known
-  pub legal : (k : ℕ) (c : Call) → get_elem? calls k ≡ some c → IsLegal known origin log c
+  pub legal : (k : ℕ) (c : Call) → get_elem? calls k ≡ some c → IsLegal known origin sizes log c
   -- the writes are as many as the entries, and each entry is one write
   pub counted : writes_in calls ≡ length log.entries
   pub once : (k : ℕ) (e : Entry) → get_elem? log.entries k ≡ some e → writes_at (end_of e) calls ≡ 1
@@ -26,4 +26,4 @@ OthersEnded s = (i : ℕ) (v : View) → i ≢ 0 → get_elem? s.pool.core.views
 
 -- then the calls of the first backend's view, with those that it took in, are a history of the log
 abbrev pub EndsInHistory : State → Type 0
-EndsInHistory s = (v : View) → get_elem? s.pool.core.views 0 ≡ some v → OthersEnded s → IsHistory s.known s.origin s.log v.calls
+EndsInHistory s = (v : View) → get_elem? s.pool.core.views 0 ≡ some v → OthersEnded s → IsHistory s.known s.origin s.opened_sizes s.log v.calls

@@ -10,7 +10,7 @@ use Rattle.page_core.specs.Invariant as pages
 use Rattle.std.specs.Option.{is_some}
 use Rattle.history_core.specs.Log.{Entry, Log, LogLaw, IsEntryOf, HasImage, log_end, head_size, log_bytes, end_of, cell, cut, IsLegal, place_of, backend_of, writes_in, writes_at, HasPlace, AreInOrder}
 use Rattle.history_core.specs.State.{State, last_position}
-use Rattle.history_core.specs.Sizes.{sizes_after}
+use Rattle.history_core.specs.Log.{sizes_after}
 use Rattle.history_core.specs.Lanes.{lane_shape, lane_part}
 use Rattle.history_core.specs.Device.{Written, log_shape, log_part}
 use Rattle.history_core.specs.Homes.{home_of, home_shape, home_part, IsClean, IsUnframed, IsFlushedCell}
@@ -21,9 +21,9 @@ abbrev pub HasNumber : View → ℕ → Type 0
 HasNumber v number = number ≢ v.number → (k : ℕ) × (c : JoinedCheckpoint) × (get_elem? v.joined_checkpoints k ≡ some c) × (c.number ≡ number)
 
 -- What holds of the calls of a view
-pub record CallsLaw (known : ℕ → Bool) (origin : ℕ → Option Page) (log : Log) (flushed : ℕ) (v : View) : Type 0 where
+pub record CallsLaw (known : ℕ → Bool) (origin : ℕ → Option Page) (sizes : ℕ → ℕ) (log : Log) (flushed : ℕ) (v : View) : Type 0 where
   -- each is legal with the log
-  pub legal : (k : ℕ) (c : Call) → get_elem? v.calls k ≡ some c → IsLegal known origin log c
+  pub legal : (k : ℕ) (c : Call) → get_elem? v.calls k ≡ some c → IsLegal known origin sizes log c
   -- each is the view's backend's, or that of one that it took in
   pub own : (k : ℕ) (c : Call) → get_elem? v.calls k ≡ some c → HasNumber v (backend_of c)
   -- none has a place above the front
@@ -48,8 +48,8 @@ pub record KeptLaw (views : List View) : Type 0 where
   pub apart : (i j k : ℕ) (v : View) (c d : JoinedCheckpoint) → get_elem? views i ≡ some v → get_elem? v.joined_checkpoints j ≡ some c → get_elem? v.joined_checkpoints k ≡ some d → c.number ≡ d.number → j ≡ k
 
 -- What holds of the calls of all views
-pub record HistoryLaw (known : ℕ → Bool) (origin : ℕ → Option Page) (log : Log) (flushed : ℕ) (views : List View) : Type 0 where
-  pub calls : (i : ℕ) (v : View) → get_elem? views i ≡ some v → CallsLaw known origin log flushed v
+pub record HistoryLaw (known : ℕ → Bool) (origin : ℕ → Option Page) (sizes : ℕ → ℕ) (log : Log) (flushed : ℕ) (views : List View) : Type 0 where
+  pub calls : (i : ℕ) (v : View) → get_elem? views i ≡ some v → CallsLaw known origin sizes log flushed v
   pub kept : KeptLaw views
   -- the writes in all views are as many as the entries
   pub counted : total (λ (v : View). writes_in v.calls) views ≡ length log.entries
@@ -87,7 +87,7 @@ pub record HistoryInvariant (s : State) : Type 0 where
   -- each entry that ends at the flushed position or before it is durable: the position p is at the byte `head_size + (p - base)`
   pub durable : s.log.base < s.flushed → head_size + s.flushed ≤ s.log.base + s.device.synced
   pub device : Grid log_shape log_part 1 (λ _. s.device) (λ _. written_of s) s.pool.core.views
-  pub history : HistoryLaw s.known s.origin s.log s.flushed s.pool.core.views
+  pub history : HistoryLaw s.known s.origin s.opened_sizes s.log s.flushed s.pool.core.views
   pub lanes : Grid lane_shape lane_part s.lanes s.lane (λ _. s.flushed) s.pool.core.views
   -- a view has a hold for each lane
   pub wide : (i : ℕ) (v : View) → get_elem? s.pool.core.views i ≡ some v → v.emptied ≡ false → length v.lanes ≡ s.lanes

@@ -6,7 +6,7 @@ use Rattle.byteorder.specs.Endian.{little_bytes}
 use Rattle.page_layout.specs.Fields.{lsn_of, with_lsn}
 use Rattle.page_layout.specs.Soundness.{is_new_page, is_sound_page}
 use Rattle.pin_core.specs.declared.view.Call.{Call}
-use Rattle.pin_core.specs.declared.view.Call.TheVariants.{Read, Write}
+use Rattle.pin_core.specs.declared.view.Call.TheVariants.{Read, Write, Size, Sized}
 use Rattle.pin_core.specs.declared.view.ImageTest.{ImageTest}
 use Rattle.pin_core.specs.declared.view.WriteRecord.{WriteRecord}
 use Rattle.pin_core.specs.State.{Page, tag_fork, tag_block, first_block}
@@ -194,6 +194,17 @@ page_after tag (e ∷ es) p = page_after tag es (changed_page e.change (end_of e
 abbrev pub cell : (ℕ → Option Page) → List Entry → ℕ → Option Page
 cell origin es tag = page_after tag es (origin tag)
 
+-- the size of each fork after a change
+abbrev pub resized_fork : Change → (ℕ → ℕ) → ℕ → ℕ
+resized_fork (image tag page) sizes fork = sizes fork
+resized_fork (ranges tag spans) sizes fork = sizes fork
+resized_fork (resize g old new) sizes fork = if nat_eq fork g then new else sizes fork
+
+-- and after entries
+unfoldable pub sizes_after : List Entry → (ℕ → ℕ) → ℕ → ℕ
+sizes_after [] sizes fork = sizes fork
+sizes_after (e ∷ es) sizes fork = sizes_after es (resized_fork e.change sizes) fork
+
 -- the block whose page a change makes, by its tag
 abbrev pub tag_in : Change → Option ℕ
 tag_in (image tag page) = Some tag
@@ -234,30 +245,58 @@ pub record IsLegalWrite (known : ℕ → Bool) (origin : ℕ → Option Page) (l
   pub tested : (t : ImageTest) → logged.test ≡ Some t → known tag ≡ true → (q : Page) × (cell origin (cut entry.start log.entries) tag ≡ Some q) × (lsn_of q ≡ t.before)
   pub writes : known tag ≡ true → cell origin (cut place log.entries) tag ≡ Some page
 
-abbrev pub IsLegal : (ℕ → Bool) → (ℕ → Option Page) → Log → Call → Type 0
-IsLegal known origin log (Read backend tag page place) = IsLegalRead known origin log tag page place
-IsLegal known origin log (Write backend tag page place logged) = IsLegalWrite known origin log backend tag page place logged
+-- A change of a fork's size is legal where it is an entry of its backend, and its place the entry's end
+pub record IsLegalSize (log : Log) (backend fork blocks place : ℕ) : Type 0 where
+  pub index : ℕ
+  pub entry : Entry
+  pub old : ℕ
+  pub there : get_elem? log.entries index ≡ some entry
+  pub change : entry.change ≡ resize fork old blocks
+  pub made : entry.backend ≡ backend
+  pub ends : end_of entry ≡ place
+
+-- A size that was seen is legal where it is the fork's after the entries up to its place, if `sizes` is what the forks had at the start
+pub record IsLegalSized (sizes : ℕ → ℕ) (log : Log) (fork blocks place : ℕ) : Type 0 where
+  pub based : log.base ≤ place
+  pub within : place ≤ log_end log
+  pub sees : sizes_after (cut place log.entries) sizes fork ≡ blocks
+
+abbrev pub IsLegal : (ℕ → Bool) → (ℕ → Option Page) → (ℕ → ℕ) → Log → Call → Type 0
+IsLegal known origin sizes log (Read backend tag page place) = IsLegalRead known origin log tag page place
+IsLegal known origin sizes log (Write backend tag page place logged) = IsLegalWrite known origin log backend tag page place logged
+IsLegal known origin sizes log (Size backend fork blocks place) = IsLegalSize log backend fork blocks place
+IsLegal known origin sizes log (Sized backend fork blocks place) = IsLegalSized sizes log fork blocks place
 
 abbrev pub place_of : Call → ℕ
 place_of (Read backend tag page place) = place
 place_of (Write backend tag page place logged) = place
+place_of (Size backend fork blocks place) = place
+place_of (Sized backend fork blocks place) = place
 
-abbrev pub tag_of : Call → ℕ
-tag_of (Read backend tag page place) = tag
-tag_of (Write backend tag page place logged) = tag
+-- the block that was read or written
+abbrev pub read_or_written : Call → Option ℕ
+read_or_written (Read backend tag page place) = Some tag
+read_or_written (Write backend tag page place logged) = Some tag
+read_or_written _ = None
 
 abbrev pub backend_of : Call → ℕ
 backend_of (Read backend tag page place) = backend
 backend_of (Write backend tag page place logged) = backend
+backend_of (Size backend fork blocks place) = backend
+backend_of (Sized backend fork blocks place) = backend
 
--- 1 for a write, and for a write at the place p
+-- 1 for a write, of a page or of a size, and for one at the place p
 abbrev pub write_weight : Call → ℕ
 write_weight (Read backend tag page place) = 0
 write_weight (Write backend tag page place logged) = 1
+write_weight (Size backend fork blocks place) = 1
+write_weight (Sized backend fork blocks place) = 0
 
 abbrev pub weight_at : ℕ → Call → ℕ
 weight_at p (Read backend tag page place) = 0
 weight_at p (Write backend tag page place logged) = if nat_eq place p then 1 else 0
+weight_at p (Size backend fork blocks place) = if nat_eq place p then 1 else 0
+weight_at p (Sized backend fork blocks place) = 0
 
 -- how many writes are among the calls, and how many at the place p
 abbrev pub writes_in : List Call → ℕ

@@ -5,7 +5,7 @@ use lib.ListN.{get_elem?}
 use Rattle.page_layout.specs.Fields.{lsn_of}
 use Rattle.page_layout.specs.Soundness.{is_sound_page}
 use Rattle.pin_core.specs.declared.view.Call.{Call}
-use Rattle.pin_core.specs.declared.view.Call.TheVariants.{Read, Write}
+use Rattle.pin_core.specs.declared.view.Call.TheVariants.{Read, Write, Size, Sized}
 use Rattle.pin_core.specs.declared.view.ImageTest.{ImageTest}
 use Rattle.pin_core.specs.declared.view.View.{View}
 use Rattle.pin_core.specs.State.{Page}
@@ -53,6 +53,8 @@ pub record IsHighestRaised (base redo : ℕ) (views : List View) : Type 0 where
 -- a call's record was chosen by a redo position that stood there, before the record
 abbrev pub ChosenBy : State → Call → Type 0
 ChosenBy s (Read backend tag page place) = Unit {0}
+ChosenBy s (Size backend fork blocks place) = Unit {0}
+ChosenBy s (Sized backend fork blocks place) = Unit {0}
 ChosenBy s (Write backend tag page place logged) = (t : ImageTest) → logged.test ≡ Some t → HasBeenRedo s t.redo × (t.redo + logged.size ≤ place)
 
 pub record RedoLaw (s : State) : Type 0 where

@@ -1,19 +1,8 @@
 -- How many blocks each fork has after entries, and which blocks are there by that.
 use Rattle.std.specs.Prelude.{◌≡◌, ◌⊎◌, ℕ, ◌+◌, ◌<◌, List, [], ◌∷◌, Option, is_some, nat_eq, nat_lt, if◌then◌else◌}
 use Rattle.pin_core.specs.State.{Page}
-use Rattle.history_core.specs.Log.{Change, image, ranges, resize, Entry, Log, LogLaw, cell, cut}
+use Rattle.history_core.specs.Log.{resized_fork, sizes_after, Change, image, ranges, resize, Entry, Log, LogLaw, cell, cut}
 use Rattle.pin_core.specs.State.{tag_fork, tag_block}
-
--- the size of each fork after a change
-abbrev pub resized_fork : Change → (ℕ → ℕ) → ℕ → ℕ
-resized_fork (image tag page) sizes fork = sizes fork
-resized_fork (ranges tag spans) sizes fork = sizes fork
-resized_fork (resize g old new) sizes fork = if nat_eq fork g then new else sizes fork
-
--- and after entries
-unfoldable pub sizes_after : List Entry → (ℕ → ℕ) → ℕ → ℕ
-sizes_after [] sizes fork = sizes fork
-sizes_after (e ∷ es) sizes fork = sizes_after es (resized_fork e.change sizes) fork
 
 -- A change is of a block that is there; or it adds one block to a fork, or cuts some away
 abbrev pub FitsSizes : Change → (ℕ → ℕ) → Type 0

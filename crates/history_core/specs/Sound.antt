@@ -6,7 +6,7 @@ use Rattle.page_layout.specs.Soundness.{is_sound_page}
 use Rattle.pin_core.specs.declared.view.Call.{Call}
 use Rattle.pin_core.specs.declared.view.View.{View}
 use Rattle.pin_core.specs.State.{Page, no_tag, link}
-use Rattle.history_core.specs.Log.{Entry, IsEntryOf, cell, cut, tag_of}
+use Rattle.history_core.specs.Log.{Entry, IsEntryOf, cell, cut, read_or_written}
 use Rattle.history_core.specs.State.{State, stored, failed}
 
 -- the page that the block's lane held at the start is sound, if the lane's contents are known
@@ -16,7 +16,7 @@ WasSound s tag = (p : Page) → s.known tag ≡ true → s.origin tag ≡ Some p
 -- Entries and calls are of blocks whose pages were sound at the start, where these are known
 pub record SoundLaw (s : State) : Type 0 where
   pub entries : (k tag : ℕ) (e : Entry) → IsEntryOf s.log.entries tag k e → WasSound s tag
-  pub calls : (i k : ℕ) (v : View) (c : Call) → get_elem? s.pool.core.views i ≡ some v → get_elem? v.calls k ≡ some c → WasSound s (tag_of c)
+  pub calls : (i k tag : ℕ) (v : View) (c : Call) → get_elem? s.pool.core.views i ≡ some v → get_elem? v.calls k ≡ some c → read_or_written c ≡ Some tag → WasSound s tag
 
 -- What a backend has that shows that a block's page was sound at the start, where that is known
 pub record ShowsSound (s : State) : Type 0 where
@@ -24,8 +24,8 @@ pub record ShowsSound (s : State) : Type 0 where
   pub seen : (i f tag : ℕ) (v : View) → get_elem? s.pool.core.views i ≡ some v → f < s.pool.core.frames → (link v f).tag ≡ Some tag → (link v f).seen_valid ≡ true → WasSound s tag
   -- a copy that was made under a content lock, where the pin remembers the block
   pub copied : (i f tag : ℕ) (v : View) → get_elem? s.pool.core.views i ≡ some v → f < s.pool.core.frames → (link v f).tag ≡ Some tag → (link v f).copied ≢ None → WasSound s tag
-  -- a call
-  pub called : (i k : ℕ) (v : View) (c : Call) → get_elem? s.pool.core.views i ≡ some v → get_elem? v.calls k ≡ some c → WasSound s (tag_of c)
+  -- a read or a write
+  pub called : (i k tag : ℕ) (v : View) (c : Call) → get_elem? s.pool.core.views i ≡ some v → get_elem? v.calls k ≡ some c → read_or_written c ≡ Some tag → WasSound s tag
 
 -- A block that is as it was at the start
 pub record IsUntouched (s : State) (tag : ℕ) : Type 0 where

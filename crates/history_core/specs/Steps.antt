@@ -16,10 +16,11 @@ use Rattle.pin_core.specs.declared.view.LoadedWord.{LoadedWord}
 use Rattle.pin_core.specs.declared.view.LoadedWord.TheVariants as seen
 use Rattle.pin_core.specs.declared.view.Link.{Link}
 use Rattle.pin_core.specs.declared.view.View.{View}
-use Rattle.pin_core.specs.declared.view.Call.TheVariants.{Read, Write}
+use Rattle.pin_core.specs.declared.view.Call.TheVariants.{Read, Write, Sized}
+use Rattle.pin_core.specs.declared.view.SizeRight.TheVariants as size_right
 use Rattle.pin_core.specs.declared.view.ImageTest.{ImageTest}
 use Rattle.pin_core.specs.declared.view.WriteRecord.{WriteRecord}
-use Rattle.pin_core.specs.State.{Page, link, lane_hold, local}
+use Rattle.pin_core.specs.State.{Page, link, lane_hold, size_hold, local}
 use Rattle.pin_core.specs.Kinds.{load_of}
 use Rattle.page_core.specs.State as page
 use Rattle.page_core.specs.State.{block_of}
@@ -47,6 +48,8 @@ pub data Event : Type 0 where
   enter : ℕ → ℕ → Page → Change → Event
   -- the log's end is loaded as the place of a read of the page that was copied from a frame
   read : ℕ → ℕ → Event
+  -- the log's end is loaded as the place of the size of a fork, which the backend has seen under its shared right
+  read_size : ℕ → ℕ → Event
   -- a step at one of the table's other words
   word : ℕ → WordKind → Event
 
@@ -251,6 +254,10 @@ unmarked l = record l { visited = false; left_to_write = false }
 abbrev pub has_read : ℕ → ℕ → Page → View → View
 has_read end tag p v = record v { calls = v.calls ++ Read v.number tag p end ∷ []; front = end; end_seen = max v.end_seen end; place_loads = v.place_loads + 1 }
 
+-- a view that has seen how many blocks a fork has
+abbrev pub has_seen_size : ℕ → ℕ → ℕ → View → View
+has_seen_size end fork blocks v = record v { calls = v.calls ++ Sized v.number fork blocks end ∷ []; front = end; end_seen = max v.end_seen end; place_loads = v.place_loads + 1 }
+
 -- what a load at a word sees, where it finds the number there; the other kinds are steps
 abbrev pub seen_by : WordKind → ℕ → Option LoadedWord
 seen_by load_end found = Some (seen.LogEnd found)
@@ -380,6 +387,9 @@ pub data Step : Event → State → State → Type 0 where
   -- backend i gives the read of the page p its place
   reads : {s : State} (i f tag : ℕ) (p : Page) (v : View) → get_elem? s.pool.core.views i ≡ some v → v.emptied ≡ false → f < s.pool.core.frames → CanRead tag p (link v f)
       → Step (read i f) s (record s { pool = aside s.pool i (looked (seen.LogEnd s.end) (has_read s.end tag p v)) })
+  -- backend i, which keeps the fork at its size, gives what it has seen of that its place
+  reads_size : {s : State} (i fork : ℕ) (v : View) → get_elem? s.pool.core.views i ≡ some v → v.emptied ≡ false → (size_hold v fork).right ≡ size_right.Shared
+      → Step (read_size i fork) s (record s { pool = aside s.pool i (looked (seen.LogEnd s.end) (has_seen_size s.end fork (size_hold v fork).blocks v)) })
   -- a step at one of the other words by backend i, whose view is v
   words : {s : State} (i : ℕ) (k : WordKind) (v : View) → get_elem? s.pool.core.views i ≡ some v → v.emptied ≡ false → WordAllowed k s v → Step (word i k) s (state_after_word k s i v)
 

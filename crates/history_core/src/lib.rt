@@ -8,7 +8,7 @@
 
 ghost use Rattle.std.specs.Prelude.{◌≡◌, ℕ, ◌<◌, List};
 ghost use Rattle.pin_core.specs.State.{CanOpen, Config, Page};
-ghost use Rattle.pin_core.specs.Schedules.{TagsAreUnique, PinsRemember};
+ghost use Rattle.pin_core.specs.Schedules.{TagsAreUnique, PinsRemember, SizeRights, SizesAreLogged, SeenBlocksStay};
 ghost use Rattle.page_core.specs.Histories.{CleanupIsAlone};
 ghost use Rattle.history_core.specs.State.{CanStore, State, Store, opening};
 ghost use Rattle.history_core.specs.Laws.{Laws};
@@ -31,7 +31,8 @@ ghost use Rattle.history_core.specs.Put.{PutRuns};
 ghost use Rattle.history_core.specs.Faults.{FaultRuns};
 ghost use Rattle.history_core.specs.Checkpoints.{CheckpointRuns};
 ghost use Rattle.history_core.specs.Evictions.{EvictionRuns, WaitRuns};
-ghost use Rattle.history_core.specs.Histories.{IsReached, BlocksAreThere, CallsAreLegal, EntriesAreOfBlocks, ImagesAlone, RangesFollowImages, ReadsAtBase, SyncsMakeDurable, SyncsCover, JoinedAreApart, CallsAreOwn, FrontsAreReached, CallsStay, CallsAreInOrder, LoadedIsFlushed, LanesGoOutFlushed, HoldsKeepFlushed, NotedWritesAreDone, LogIsHeld, HintsNameFrames, WritesAreEntries, ReadsStand, WritesStand, LogBeforeData, LanesHoldFlushedPages, CleanBlocksAreStored, FramesAreSound, FramesHoldCells, LogWords, EntriesAreDurable, DeviceHoldsLog, LanesAreHeld};
+ghost use Rattle.page_core.specs.Histories.{NewBlocksAreZero};
+ghost use Rattle.history_core.specs.Histories.{SizesFollowLog, IsReached, BlocksAreThere, CallsAreLegal, EntriesAreOfBlocks, ImagesAlone, RangesFollowImages, ReadsAtBase, SyncsMakeDurable, SyncsCover, JoinedAreApart, CallsAreOwn, FrontsAreReached, CallsStay, CallsAreInOrder, LoadedIsFlushed, LanesGoOutFlushed, HoldsKeepFlushed, NotedWritesAreDone, LogIsHeld, HintsNameFrames, WritesAreEntries, ReadsStand, SizesStand, WritesStand, LogBeforeData, LanesHoldFlushedPages, CleanBlocksAreStored, FramesAreSound, FramesHoldCells, LogWords, EntriesAreDurable, DeviceHoldsLog, LanesAreHeld};
 
 /// What every list of events keeps, whatever the backends do and in whatever order.
 pub fn all_histories()
@@ -57,6 +58,7 @@ pub fn all_histories()
     ensures of_blocks { (s : State) → Laws s → EntriesAreOfBlocks s }
     ensures at_base { (s : State) → Laws s → ReadsAtBase s }
     ensures reads_stand { (s : State) → Laws s → ReadsStand s }
+    ensures sizes_stand { (s : State) → Laws s → SizesStand s }
     ensures writes_stand { (s : State) → Laws s → WritesStand s }
 
     // of the log and the lanes:
@@ -81,6 +83,13 @@ pub fn all_histories()
     ensures dirty_have { (s : State) → Laws s → DirtyHaveEntries s }
     ensures written_have { (s : State) → Laws s → WrittenHaveEntries s }
     ensures crashes { (s : State) → Laws s → CrashesRedo s }
+
+    // of the sizes of forks:
+    ensures size_rights { (s : State) (fork : ℕ) → Laws s → SizeRights s.pool.core fork }
+    ensures sizes_logged { (s : State) (fork : ℕ) → Laws s → SizesAreLogged s.pool.core fork }
+    ensures seen_blocks { (s : State) → Laws s → SeenBlocksStay s.pool.core }
+    ensures new_blocks { (s : State) → Laws s → NewBlocksAreZero s.pool }
+    ensures by_log { (s : State) → Laws s → SizesFollowLog s }
 
     // and of the frames:
     ensures sound { (s : State) → Laws s → FramesAreSound s }

@@ -246,7 +246,7 @@ pub struct WriteRecord {
     pub test: Option<ImageTest>,
 }
 
-/// A page that a backend read or wrote, and its place in the log.
+/// What a backend read or wrote, of a page or of a fork's size, and its place in the log.
 pub enum Call {
     Read {
         backend: u64,
@@ -261,6 +261,20 @@ pub enum Call {
         place: u64,
         /// How it is in the log.
         logged: WriteRecord,
+    },
+    /// The backend changed how many blocks a fork has.
+    Size {
+        backend: u64,
+        fork: u64,
+        blocks: u64,
+        place: u64,
+    },
+    /// It saw how many a fork has.
+    Sized {
+        backend: u64,
+        fork: u64,
+        blocks: u64,
+        place: u64,
     },
 }
 

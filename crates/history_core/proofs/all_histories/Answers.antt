@@ -1,6 +1,6 @@
 use Rattle.history_core.proofs.Laws.{laws_after, laws_open, laws}
 use Rattle.pin_core.proofs.Schedules as pins
-use Rattle.history_core.proofs.Histories.{legal, at_base, syncs, own, apart, fronts, in_order, go_out_flushed, loaded_flushed, noted_done, log_held, entries, reads_stand, writes_stand, log_first, lanes_hold, clean_stored, sound, hold_cells, words, held, durable, device_holds}
+use Rattle.history_core.proofs.Histories.{legal, at_base, syncs, own, apart, fronts, in_order, go_out_flushed, loaded_flushed, noted_done, log_held, entries, reads_stand, sizes_stand, writes_stand, log_first, lanes_hold, clean_stored, sound, hold_cells, words, held, durable, device_holds}
 use Rattle.history_core.proofs.Staying.{calls_stay}
 use Rattle.history_core.proofs.KeptFlushed.{holds_keep}
 use Rattle.history_core.proofs.Lasting.{opening_stays, log_grows}
@@ -13,6 +13,8 @@ use Rattle.history_core.proofs.Crashes.{dirty_have, written_have, crashes_redo}
 use Rattle.history_core.proofs.Counters.{counters_sums}
 use Rattle.history_core.proofs.Residents.{residents_stay, lost_cleared}
 use Rattle.history_core.proofs.Listed.{pins_listed}
+use Rattle.pin_core.proofs.SizeSchedules as sized
+use Rattle.page_core.proofs.Histories.{new_blocks}
 use Rattle.history_core.proofs.all_histories.Goals as goal
 
 pub returns-clause-holds_keep : goal.returns-clause-holds_keep
@@ -35,6 +37,9 @@ returns-clause-entries c = λ s r. entries s r.invariant
 
 pub returns-clause-reads_stand : goal.returns-clause-reads_stand
 returns-clause-reads_stand c = λ s r. reads_stand s r.invariant
+
+pub returns-clause-sizes_stand : goal.returns-clause-sizes_stand
+returns-clause-sizes_stand c = λ s r. sizes_stand s r.invariant
 
 pub returns-clause-writes_stand : goal.returns-clause-writes_stand
 returns-clause-writes_stand c = λ s r. writes_stand s r.invariant
@@ -161,3 +166,18 @@ returns-clause-residents_stay c = residents_stay
 
 pub returns-clause-sighted : goal.returns-clause-sighted
 returns-clause-sighted c = pins_listed
+
+pub returns-clause-size_rights : goal.returns-clause-size_rights
+returns-clause-size_rights c = λ s fork r. sized.rights s.pool.core fork r.invariant.pool.sizes
+
+pub returns-clause-sizes_logged : goal.returns-clause-sizes_logged
+returns-clause-sizes_logged c = λ s fork r. sized.logged s.pool.core fork r.invariant.pool.sizes
+
+pub returns-clause-seen_blocks : goal.returns-clause-seen_blocks
+returns-clause-seen_blocks c = λ s r. sized.seen_blocks s.pool.core r.invariant.pool.core r.invariant.pool.sizes
+
+pub returns-clause-new_blocks : goal.returns-clause-new_blocks
+returns-clause-new_blocks c = λ s r. new_blocks s.pool r.invariant.pool
+
+pub returns-clause-by_log : goal.returns-clause-by_log
+returns-clause-by_log c = λ s r. r.invariant.sizes
