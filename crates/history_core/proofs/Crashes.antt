@@ -16,7 +16,7 @@ use Rattle.pin_core.specs.State.{Config, Frame, Page, link, lane_hold, is_block}
 use Rattle.page_core.specs.State.{Block, block_of}
 use Rattle.page_core.specs.Tallies.{Tally, sharers, applied_locks, unapplied_locks, weigh, page_shape}
 use Rattle.page_core.specs.Invariant.{PageFrame}
-use Rattle.history_core.specs.Log.{Entry, Change, Span, image, ranges, resize, IsChange, AreValid, IsEntryOf, end_of, tag_in, changed_page, page_after, cell}
+use Rattle.history_core.specs.Log.{is_of_page, AreOfPages, Entry, Change, Span, image, ranges, resize, IsChange, AreValid, IsEntryOf, end_of, tag_in, changed_page, page_after, cell}
 use Rattle.history_core.specs.State.{Lane, State, Store, opening, stored_upto, failed, unsynced}
 use Rattle.history_core.specs.Lanes as lane_kinds
 use Rattle.history_core.specs.Lanes.{LaneKind, lane_after}
@@ -33,6 +33,7 @@ use Rattle.history_core.proofs.Logs.{is_of, changed_image, cell_absent, after_no
 use Rattle.history_core.proofs.Owing.{output_position}
 use Rattle.history_core.proofs.Always.{KeptByLaws, always}
 use Rattle.history_core.proofs.Unentered.{noted_kept, IsUnenteredLaw, unentered_kept, unentered_open}
+use Rattle.history_core.proofs.Stepping.{plain}
 use Rattle.grid.specs.Shape.{put, tallies}
 use Rattle.grid.proofs.Lists.{at_longer, at_end, put_at, put_else}
 use Rattle.grid.proofs.Sums.{term_le}
@@ -206,8 +207,18 @@ either_way : (b : Bool) {A : Type 0} → (b ≡ true → A) → (b ≡ false →
 either_way true x y = x refl
 either_way false x y = y refl
 
+-- what redo can do after the log's entries is of a page, since no resize is appended yet
+follows_page : (s : State) (c : Change) → CanFollow s c → is_of_page c ≡ true
+follows_page s (image t q) x = refl
+follows_page s (ranges t spans) x = refl
+follows_page s (resize fork old new) x = absurd x
+
 module _ (s : State) (h : HistoryInvariant s) where
   -- what survives are entries as entries may be
+  pages_left : (es : List Entry) → Survives s es → AreOfPages es
+  pages_left _ (first es rest is high) k e at = plain s h k e (subst (λ (l : List Entry). get_elem? l k ≡ some e) (sym is) (at_longer es rest k e at))
+  pages_left _ (one_more x more bytes whole starts valid follow) k e at = ⊎_elim (λ (t : get_elem? s.log.entries k ≡ some e). plain s h k e t) (λ (t : (x ≡ e) × (k ≡ length s.log.entries)). subst (λ (y : Entry). is_of_page y.change ≡ true) t.0 (follows_page s x.change follow)) (at_end s.log.entries x e k at)
+
   valid_left : (es : List Entry) → Survives s es → AreValid es
   valid_left _ (first es rest is high) k e at = h.log.valid k e (subst (λ (l : List Entry). get_elem? l k ≡ some e) (sym is) (at_longer es rest k e at))
   valid_left _ (one_more x more bytes whole starts valid follow) k e at = ⊎_elim (λ (t : get_elem? s.log.entries k ≡ some e). h.log.valid k e t) (λ (t : (x ≡ e) × (k ≡ length s.log.entries)). subst (λ (y : Entry). IsChange (end_of y) y.change) t.0 valid) (at_end s.log.entries x e k at)
@@ -237,9 +248,9 @@ module _ (s : State) (h : HistoryInvariant s) where
 
   -- none does, and the block was not written since the last sync, nor did its last write fail: it is as at the start
   by_none : (pages : ℕ → Option Page) (es : List Entry) → Crashed s pages es → (tag : ℕ) → is_block s.pool.core tag ≡ true → s.known tag ≡ true → ((k : ℕ) (e : Entry) → IsEntryOf es tag k e → ⊥) → unsynced s tag ≡ false → failed s tag ≡ false → cell pages es tag ≡ cell s.origin es tag
-  by_none pages es c tag block known none synced done = let valid = valid_left es c.log in let cells = h.flushed_cells tag in
+  by_none pages es c tag block known none synced done = let valid = pages_left es c.log in let cells = h.flushed_cells tag in
       cell_absent pages es tag valid none ∙ c.stays tag synced ∙ cells.is_cell block known done
-      ∙ after_none tag (stored_upto s tag) s.log.entries (s.origin tag) h.log.valid (λ k e of. ⊎_elim (λ (high : stored_upto s tag < end_of e). high) (λ (low : end_of e ≤ stored_upto s tag). absurd (let x = early_left es c.log tag k e of (let w = cells.within in omega arith) in none x.0 x.1 x.2)) (cases_lt (stored_upto s tag) (end_of e)))
+      ∙ after_none tag (stored_upto s tag) s.log.entries (s.origin tag) (plain s h) (λ k e of. ⊎_elim (λ (high : stored_upto s tag < end_of e). high) (λ (low : end_of e ≤ stored_upto s tag). absurd (let x = early_left es c.log tag k e of (let w = cells.within in omega arith) in none x.0 x.1 x.2)) (cases_lt (stored_upto s tag) (end_of e)))
       ∙ sym (cell_absent s.origin es tag valid none)
 
   module _ (m : WrittenHaveEntries s) (redo : RedoLaw s) where

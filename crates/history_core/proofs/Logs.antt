@@ -1,5 +1,5 @@
 -- A longer log, and what its entries make of the blocks' pages.
-use Rattle.std.proofs.Common.{◌≡◌, ◌≢◌, ◌⊎◌, inl, inr, ℕ, zero, suc, ◌+◌, ◌-◌, ◌*◌, ◌<◌, ◌≤◌, Bool, true, false, cond, eq-eqb, ne_eqb, List, [], ◌∷◌, ◌++◌, length, length-append, append-nil, Option, Some, None, sym, refl, ap, ◌∙◌, subst, ⊎_elim, arith, lit<}
+use Rattle.std.proofs.Common.{◌≡◌, ◌≢◌, ◌⊎◌, inl, inr, ℕ, zero, suc, ◌+◌, ◌-◌, ◌*◌, ◌<◌, ◌≤◌, Bool, true, false, cond, eq-eqb, ne_eqb, List, [], ◌∷◌, ◌++◌, length, length-append, length-take, take, append-nil, Option, Some, None, sym, refl, ap, ◌∙◌, subst, ⊎_elim, arith, lit<}
 use Rattle.std.specs.Prelude.{option_map, replicate}
 use Rattle.std.specs.Option.{is_some}
 use Rattle.std.proofs.lemmas.Bool.{le-leb, lt-leb, cases_lt, both_ways}
@@ -12,8 +12,8 @@ use lib.ListN.{get_elem?, length-replicate}
 use Rattle.byteorder.specs.Endian.{little_bytes}
 use Rattle.page_layout.specs.Fields.{lsn_of, with_lsn}
 use Rattle.page_layout.specs.Soundness.{is_sound_page}
-use Rattle.pin_core.specs.State.{Page}
-use Rattle.history_core.specs.Log.{Span, Change, image, ranges, resize, spans_size, rounded, change_size, is_image, span_places, span_bytes, change_bytes, record_bytes, records, head_bytes, head_size, log_bytes, Entry, Log, record_size, end_of, end_from, log_end, AreChained, IsChange, AreImages, AreValid, LogLaw, cut, with_spans, changed_page, page_after, cell, tag_in, IsEntryOf, HasImage}
+use Rattle.pin_core.specs.State.{Page, first_block}
+use Rattle.history_core.specs.Log.{is_of_page, AreOfPages, Span, Change, image, ranges, resize, spans_size, rounded, change_size, is_image, span_places, span_bytes, change_bytes, record_bytes, records, head_bytes, head_size, log_bytes, Entry, Log, record_size, end_of, end_from, log_end, AreChained, IsChange, AreImages, AreValid, LogLaw, cut, with_spans, changed_page, page_after, cell, tag_in, IsEntryOf, HasImage}
 use Rattle.grid.proofs.Lists.{at_end}
 
 -- an entry takes bytes of the log
@@ -29,11 +29,11 @@ is_of (ranges t spans) tag = dite (ℕ_discrete t tag) (λ e. inl (ap (λ (z : �
 is_of (resize fork old new) tag = inr (λ z. cc)
 
 -- an entry of another block leaves the page of a block
-pub changed_else : (c : Change) (end tag : ℕ) (p : Option Page) → IsChange end c → tag_in c ≢ Some tag → changed_page c end tag p ≡ p
+pub changed_else : (c : Change) (end tag : ℕ) (p : Option Page) → is_of_page c ≡ true → tag_in c ≢ Some tag → changed_page c end tag p ≡ p
 unfolding changed_page
 changed_else (image t q) end tag p valid other = ap (λ (b : Bool). cond b (Some q) p) (ne_eqb tag t (λ e. other (ap (λ (z : ℕ). Some z) (sym e))))
 changed_else (ranges t spans) end tag p valid other = ap (λ (b : Bool). cond b (option_map (λ (q : Page). with_lsn end (with_spans spans q)) p) p) (ne_eqb tag t (λ e. other (ap (λ (z : ℕ). Some z) (sym e))))
-changed_else (resize fork old new) end tag p valid other = absurd valid
+changed_else (resize fork old new) end tag p valid other = absurd (cc)
 
 -- the image is the page of its block
 pub changed_image : (t end tag : ℕ) (q : Page) (p : Option Page) → tag ≡ t → changed_page (image t q) end tag p ≡ Some q
@@ -49,9 +49,9 @@ changed_ranges t end tag spans p same = ap (λ (b : Bool). cond b (Some (with_ls
 before_image : (c : Change) (end tag : ℕ) (p : Option Page) (q : Page) → IsChange end c → is_image c ≡ true → changed_page c end tag p ≡ Some q → is_sound_page q ≡ false → p ≡ Some q
 before_image (image t r) end tag p q valid whole is unsound = dite (ℕ_discrete tag t)
     (λ (e : tag ≡ t). absurd (both_ways _ unsound (ap is_sound_page (sym (same_Some r q (sym (changed_image t end tag r p e) ∙ is))) ∙ valid.sound)))
-    (λ (o : tag ≢ t). sym (changed_else (image t r) end tag p valid (λ z. o (sym (same_Some t tag z)))) ∙ is)
+    (λ (o : tag ≢ t). sym (changed_else (image t r) end tag p refl (λ z. o (sym (same_Some t tag z)))) ∙ is)
 before_image (ranges t spans) end tag p q valid whole is unsound = absurd (cc)
-before_image (resize fork old new) end tag p q valid whole is unsound = absurd valid
+before_image (resize fork old new) end tag p q valid whole is unsound = absurd (cc)
 
 -- the page of a block after one entry more, whatever it was before
 pub after_longer : (tag : ℕ) (es : List Entry) (e : Entry) (p : Option Page) → page_after tag (es ++ e ∷ []) p ≡ changed_page e.change (end_of e) tag (page_after tag es p)
@@ -115,12 +115,12 @@ entry_longer es x tag k e h = ⊎_elim
     (at_end es x e k h.there)
 
 -- the page of a block that has no entry
-pub after_absent : (tag : ℕ) (es : List Entry) (x : Option Page) → AreValid es → ((k : ℕ) (e : Entry) → IsEntryOf es tag k e → ⊥) → page_after tag es x ≡ x
+pub after_absent : (tag : ℕ) (es : List Entry) (x : Option Page) → AreOfPages es → ((k : ℕ) (e : Entry) → IsEntryOf es tag k e → ⊥) → page_after tag es x ≡ x
 unfolding page_after
 after_absent tag [] x valid none = refl
 after_absent tag (e ∷ es) x valid none = after_absent tag es (changed_page e.change (end_of e) tag x) (λ k d at. valid (suc k) d at) (λ k d h. none (suc k) d (deeper e es tag k d h)) ∙ changed_else e.change (end_of e) tag x (valid 0 e refl) (λ of. none 0 e (record { there = refl; of = of }))
 
-pub cell_absent : (origin : ℕ → Option Page) (es : List Entry) (tag : ℕ) → AreValid es → ((k : ℕ) (e : Entry) → IsEntryOf es tag k e → ⊥) → cell origin es tag ≡ origin tag
+pub cell_absent : (origin : ℕ → Option Page) (es : List Entry) (tag : ℕ) → AreOfPages es → ((k : ℕ) (e : Entry) → IsEntryOf es tag k e → ⊥) → cell origin es tag ≡ origin tag
 cell_absent origin es tag valid none = after_absent tag es (origin tag) valid none
 
 -- the pages where there is no entry
@@ -129,7 +129,7 @@ unfolding page_after
 cell_none origin tag = refl
 
 -- the page of a block that has no entry up to the position
-pub after_none : (tag p : ℕ) (es : List Entry) (x : Option Page) → AreValid es → ((k : ℕ) (e : Entry) → IsEntryOf es tag k e → p < end_of e) → page_after tag (cut p es) x ≡ x
+pub after_none : (tag p : ℕ) (es : List Entry) (x : Option Page) → AreOfPages es → ((k : ℕ) (e : Entry) → IsEntryOf es tag k e → p < end_of e) → page_after tag (cut p es) x ≡ x
 unfolding page_after cut
 after_none tag p [] x valid none = refl
 after_none tag p (e ∷ es) x valid none = let rest : (y : Option Page) → page_after tag (cut p es) y ≡ y = (λ y. after_none tag p es y (λ k d at. valid (suc k) d at) (λ k d h. none (suc k) d (deeper e es tag k d h))) in in_or_out p e
@@ -137,7 +137,7 @@ after_none tag p (e ∷ es) x valid none = let rest : (y : Option Page) → page
     (λ (high : p < end_of e). ap (λ (l : List Entry). page_after tag l x) (cut_out p e es high) ∙ rest x)
 
 -- a block that has a page has one after a change
-changed_some : (c : Change) (end tag : ℕ) (p : Option Page) → IsChange end c → is_some p ≡ true → is_some (changed_page c end tag p) ≡ true
+changed_some : (c : Change) (end tag : ℕ) (p : Option Page) → is_of_page c ≡ true → is_some p ≡ true → is_some (changed_page c end tag p) ≡ true
 changed_some (image t q) end tag p valid is = dite (ℕ_discrete tag t)
     (λ (e : tag ≡ t). ap (λ (o : Option Page). is_some o) (changed_image t end tag q p e))
     (λ (o : tag ≢ t). ap (λ (z : Option Page). is_some z) (changed_else (image t q) end tag p valid (λ z. o (sym (same_Some t tag z)))) ∙ is)
@@ -145,10 +145,10 @@ changed_some (ranges t spans) end tag None valid is = absurd (cc)
 changed_some (ranges t spans) end tag (Some p) valid is = dite (ℕ_discrete tag t)
     (λ (e : tag ≡ t). ap (λ (o : Option Page). is_some o) (changed_ranges t end tag spans p e))
     (λ (o : tag ≢ t). ap (λ (z : Option Page). is_some z) (changed_else (ranges t spans) end tag (Some p) valid (λ z. o (sym (same_Some t tag z)))) ∙ is)
-changed_some (resize fork old new) end tag p valid is = absurd valid
+changed_some (resize fork old new) end tag p valid is = absurd (cc)
 
 -- and after entries up to a position
-pub after_some : (tag p : ℕ) (es : List Entry) (x : Option Page) → AreValid es → is_some x ≡ true → is_some (page_after tag (cut p es) x) ≡ true
+pub after_some : (tag p : ℕ) (es : List Entry) (x : Option Page) → AreOfPages es → is_some x ≡ true → is_some (page_after tag (cut p es) x) ≡ true
 unfolding page_after cut
 after_some tag p [] x valid is = is
 after_some tag p (e ∷ es) x valid is =
@@ -166,7 +166,7 @@ after_images tag p (e ∷ es) x q valid images is unsound =
     (λ (high : p < end_of e). rest x (sym (ap (λ (l : List Entry). page_after tag l x) (cut_out p e es high)) ∙ is))
 
 -- entries between two positions, where none of them is of the block
-pub after_between : (tag p q : ℕ) (es : List Entry) (x : Option Page) → p ≤ q → AreValid es → ((k : ℕ) (e : Entry) → IsEntryOf es tag k e → (end_of e ≤ p) ⊎ (q < end_of e)) → page_after tag (cut p es) x ≡ page_after tag (cut q es) x
+pub after_between : (tag p q : ℕ) (es : List Entry) (x : Option Page) → p ≤ q → AreOfPages es → ((k : ℕ) (e : Entry) → IsEntryOf es tag k e → (end_of e ≤ p) ⊎ (q < end_of e)) → page_after tag (cut p es) x ≡ page_after tag (cut q es) x
 unfolding page_after cut
 after_between tag p q [] x le valid none = refl
 after_between tag p q (e ∷ es) x le valid none = let rest : (y : Option Page) → page_after tag (cut p es) y ≡ page_after tag (cut q es) y = (λ y. after_between tag p q es y le (λ k d at. valid (suc k) d at) (λ k d h. none (suc k) d (deeper e es tag k d h))) in in_or_out p e
@@ -207,11 +207,11 @@ last_upto (x ∷ es) tag place = ⊎_elim
     without b (inl t) = let e = t.1 in inl (suc t.0, e, record { entered = deeper x es tag t.0 e t.2.entered; upto = t.2.upto; last = each_entry x es tag (λ (d : Entry). (end_of d ≤ end_of e) ⊎ (place < end_of d)) (λ of. inr (b of)) t.2.last })
 
 -- What the entries up to a place make of a block: its page after the last of its entries there
-pub cell_upto : (origin : ℕ → Option Page) (es : List Entry) (tag place k : ℕ) (e : Entry) → AreValid es → IsLastUpto es tag place k e → cell origin (cut (end_of e) es) tag ≡ cell origin (cut place es) tag
+pub cell_upto : (origin : ℕ → Option Page) (es : List Entry) (tag place k : ℕ) (e : Entry) → AreOfPages es → IsLastUpto es tag place k e → cell origin (cut (end_of e) es) tag ≡ cell origin (cut place es) tag
 cell_upto origin es tag place k e valid m = after_between tag (end_of e) place es (origin tag) m.upto valid m.last
 
 -- a page of a block whose position in the log is at most p is its page after the entries up to p, where no entry ends past `end`
-pub cell_at_position : (origin : ℕ → Option Page) (es : List Entry) (tag p end : ℕ) (page : Page) → AreValid es → ((k : ℕ) (e : Entry) → get_elem? es k ≡ some e → end_of e ≤ end) → ((k : ℕ) (e : Entry) → IsEntryOf es tag k e → HasImage (end_of e) (cell origin (cut (end_of e) es) tag)) → cell origin es tag ≡ Some page → lsn_of page ≤ p → cell origin (cut p es) tag ≡ Some page
+pub cell_at_position : (origin : ℕ → Option Page) (es : List Entry) (tag p end : ℕ) (page : Page) → AreOfPages es → ((k : ℕ) (e : Entry) → get_elem? es k ≡ some e → end_of e ≤ end) → ((k : ℕ) (e : Entry) → IsEntryOf es tag k e → HasImage (end_of e) (cell origin (cut (end_of e) es) tag)) → cell origin es tag ≡ Some page → lsn_of page ≤ p → cell origin (cut p es) tag ≡ Some page
 cell_at_position origin es tag p end page valid within images is low = ⊎_elim
     (λ (m : (k : ℕ) × (e : Entry) × IsLastUpto es tag end k e). let e = m.1 in let h = images m.0 e m.2.entered in let all = cell_upto origin es tag end m.0 e valid m.2 ∙ ap (λ (l : List Entry). cell origin l tag) (cut_all end es within) in
     let same : h.shown ≡ page = same_Some h.shown page (sym h.is ∙ all ∙ is) in let ends : lsn_of page ≡ end_of e = ap lsn_of (sym same) ∙ h.valid.ends in
@@ -258,7 +258,7 @@ image_size (resize fork old new) e = absurd (cc)
 pub image_of_size : (end : ℕ) (c : Change) → IsChange end c → change_size c ≡ record_size → is_image c ≡ true
 image_of_size end (image tag page) valid e = refl
 image_of_size end (ranges tag spans) valid e = absurd (let low = valid.shorter in omega arith)
-image_of_size end (resize fork old new) valid e = absurd valid
+image_of_size end (resize fork old new) valid e = absurd (omega arith)
 
 -- where a log of whole pages alone ends
 pub images_end : (from : ℕ) (es : List Entry) → AreChained from es → ((k : ℕ) (e : Entry) → get_elem? es k ≡ some e → is_image e.change ≡ true) → end_from from es ≡ from + record_size * length es
@@ -334,7 +334,17 @@ record_length names at end (ranges tag spans) named valid = let kind : length (l
       spans_length spans,
       named tag,
     )
-record_length names at end (resize fork old new) named valid = absurd valid
+record_length names at end (resize fork old new) named valid = let kind : length (little_bytes 4 2) ≡ 4 = refl in let start : length (little_bytes 8 at) ≡ 8 = refl in let now : length (little_bytes 4 new) ≡ 4 = refl in let was : length (little_bytes 4 old) ≡ 4 = refl in let zeros : length (little_bytes 4 0) ≡ 4 = refl in
+    omega (
+      arith,
+      length-append (little_bytes 4 2) (take 16 (names (first_block fork)) ++ (little_bytes 4 new ++ (little_bytes 8 at ++ (little_bytes 4 old ++ little_bytes 4 0)))),
+      length-append (take 16 (names (first_block fork))) (little_bytes 4 new ++ (little_bytes 8 at ++ (little_bytes 4 old ++ little_bytes 4 0))),
+      length-append (little_bytes 4 new) (little_bytes 8 at ++ (little_bytes 4 old ++ little_bytes 4 0)),
+      length-append (little_bytes 8 at) (little_bytes 4 old ++ little_bytes 4 0),
+      length-append (little_bytes 4 old) (little_bytes 4 0),
+      length-take 16 (names (first_block fork)),
+      named (first_block fork),
+    )
 
 records_length : (names : ℕ → List ℕ) (from : ℕ) (es : List Entry) → ((tag : ℕ) → length (names tag) ≡ 20) → AreChained from es → AreValid es → length (records names es) + from ≡ end_from from es
 unfolding records AreChained end_from

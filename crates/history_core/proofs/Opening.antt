@@ -45,6 +45,7 @@ opens c store page can stores = let w : View = first_view c.base c.frames c.part
   logged = λ tag is. ap (λ (b : Bool). below_sizes c.sizes (λ _. cond b (store.origin tag) None) tag) is ∙ sym (cell_none (below_sizes c.sizes store.origin) tag);
   sizes = λ fork. sym (sizes_none c.sizes fork);
   quiet = stores.quiet;
+  of_pages = λ _ k e t. absurd (some-ne-none e (sym t));
   there = λ tag block is. ap (λ (o : Option Page). is_some o) (cell_none (below_sizes c.sizes store.origin) tag ∙ ap (λ (b : Bool). cond b (store.origin tag) None) block) ∙ stores.there tag block is;
   pages = λ k tag e of. absurd (some-ne-none e (sym of.there));
   known = λ tag. refl;

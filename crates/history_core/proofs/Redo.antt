@@ -34,7 +34,7 @@ use Rattle.history_core.specs.Steps.{Event, new_entry, stepped, looked, pool_not
 use Rattle.history_core.proofs.Calls.{at_both, index_below}
 use Rattle.history_core.proofs.Logs.{cut_all, ends_below, some_size, cell_absent, last_upto, IsLastUpto, cell_upto}
 use Rattle.history_core.proofs.Sound.{locked_sound}
-use Rattle.history_core.proofs.Stepping.{copied_cell}
+use Rattle.history_core.proofs.Stepping.{copied_cell, plain}
 use Rattle.history_core.proofs.Unentered.{at_right}
 use Rattle.grid.specs.Shape.{total}
 use Rattle.grid.proofs.Lists.{at_set, at_end, at_last, at_longer, at_only, set_here, set_else}
@@ -302,7 +302,7 @@ module _ (s : State) (h : HistoryInvariant s) (n : SoundLaw s) (m : RedoLaw s) (
   image_behind : (r : ℕ) → HasBeenRedo s r → HasBehind s.log.entries tag_here r
   image_behind r been = ⊎_elim
       (λ (l : (k : ℕ) × (e : Entry) × IsLastUpto s.log.entries tag_here (log_end s.log) k e). let k = l.0 in let e = l.1 in let last = l.2 in let x = h.pages k tag_here e last.entered known in
-      let same : x.shown ≡ past.before = same_Some x.shown past.before (sym x.is ∙ cell_upto s.origin s.log.entries tag_here (log_end s.log) k e h.log.valid last ∙ ap (λ (es : List Entry). cell s.origin es tag_here) (cut_all (log_end s.log) s.log.entries all_end) ∙ is_cell) in
+      let same : x.shown ≡ past.before = same_Some x.shown past.before (sym x.is ∙ cell_upto s.origin s.log.entries tag_here (log_end s.log) k e (plain s h) last ∙ ap (λ (es : List Entry). cell s.origin es tag_here) (cut_all (log_end s.log) s.log.entries all_end) ∙ is_cell) in
       let ends : lsn_of past.before ≡ end_of e = ap lsn_of (sym same) ∙ x.valid.ends in
       ⊎_elim (λ (low : end_of e ≤ r). absurd (let a = past.past in let b = redo_is in let c = been_low s m r been in omega arith))
       (λ (high : r ≤ e.start). by_change r been k e e.change refl last.entered.there last.entered.of high)
@@ -317,7 +317,7 @@ module _ (s : State) (h : HistoryInvariant s) (n : SoundLaw s) (m : RedoLaw s) (
 
       -- a page without an entry is one of the start, whose position is at most the base
       first_page : ((k : ℕ) (e : Entry) → IsEntryOf s.log.entries tag_here k e → log_end s.log < end_of e) → ⊥
-      first_page none = let absent = cell_absent s.origin s.log.entries tag_here h.log.valid (λ k e of. let a = none k e of in let b = all_end k e of.there in omega arith) in let origin_is = sym absent ∙ is_cell in
+      first_page none = let absent = cell_absent s.origin s.log.entries tag_here (plain s h) (λ k e of. let a = none k e of in let b = all_end k e of.there in omega arith) in let origin_is = sym absent ∙ is_cell in
           let sound = locked_sound s h n.entries i f v there inside (exclusive_locked locked) past.before known origin_is in let low = based tag_here past.before known origin_is sound in
           let a = past.past in let b = redo_is in let c = m.highest.from in omega arith
 

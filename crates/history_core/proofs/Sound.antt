@@ -32,7 +32,7 @@ use Rattle.history_core.specs.Steps.{Event, new_entry, stepped, looked, pool_not
 use Rattle.history_core.proofs.Calls.{at_both}
 use Rattle.history_core.proofs.Histories.{clean_stored}
 use Rattle.history_core.proofs.Logs.{cut_all, ends_below, cell_absent, after_none, after_images, entry_longer, IsLastUpto, last_upto, cell_upto}
-use Rattle.history_core.proofs.Stepping.{makes_of, page_of, logged_there, frame_block}
+use Rattle.history_core.proofs.Stepping.{makes_of, page_of, logged_there, frame_block, plain}
 use Rattle.grid.specs.Shape.{total}
 use Rattle.grid.proofs.Lists.{at_set, at_end, at_only}
 use Rattle.grid.proofs.Sums.{some_term}
@@ -52,7 +52,7 @@ module _ (s : State) (h : HistoryInvariant s) (entries : (k tag : ℕ) (e : Entr
 
   -- the page after the log of such a block
   first_page : (tag : ℕ) (p : Page) → s.known tag ≡ true → s.origin tag ≡ Some p → is_sound_page p ≡ false → s.pool.logged tag ≡ Some p
-  first_page tag p known is unsound = h.logged tag known ∙ cell_absent s.origin s.log.entries tag h.log.valid (none_of tag p known is unsound) ∙ is
+  first_page tag p known is unsound = h.logged tag known ∙ cell_absent s.origin s.log.entries tag (plain s h) (none_of tag p known is unsound) ∙ is
 
   -- the block of a valid frame
   valid_sound : (f : ℕ) → f < s.pool.core.frames → (s.pool.core.frame f).tag ≢ no_tag → (s.pool.core.frame f).word.valid ≡ true → WasSound s (s.pool.core.frame f).tag
@@ -143,7 +143,7 @@ stay_untouched s h m tag p named known is unsound = record { unentered = none; i
     none = none_of s h m.entries tag p known is unsound
 
     cell_is : cell s.origin s.log.entries tag ≡ s.origin tag
-    cell_is = cell_absent s.origin s.log.entries tag h.log.valid none
+    cell_is = cell_absent s.origin s.log.entries tag (plain s h) none
 
     invalid : (f : ℕ) → f < s.pool.core.frames → (s.pool.core.frame f).tag ≡ tag → (s.pool.core.frame f).word.valid ≡ false
     invalid f below same = either_way (s.pool.core.frame f).word.valid (λ valid. absurd (both_ways _ unsound (subst (WasSound s) same (valid_sound s h m.entries f below (λ e. named (sym same ∙ e)) valid) p known is))) (λ e. e)
@@ -172,8 +172,8 @@ unsound_first s h alone = record {
     known_cells : (tag place : ℕ) (p : Page) → s.known tag ≡ true → cell s.origin (cut place s.log.entries) tag ≡ Some p → is_sound_page p ≡ false → s.origin tag ≡ Some p
     known_cells tag place p known is unsound = ⊎_elim
         (λ (m : (k : ℕ) × (e : Entry) × IsLastUpto s.log.entries tag place k e). let x = h.pages m.0 tag m.1 m.2.entered known in
-        let same : x.shown ≡ p = same_Some x.shown p (sym x.is ∙ cell_upto s.origin s.log.entries tag place m.0 m.1 h.log.valid m.2 ∙ is) in absurd (both_ways _ unsound (ap is_sound_page (sym same) ∙ x.valid.sound)))
-        (λ (none : (k : ℕ) (e : Entry) → IsEntryOf s.log.entries tag k e → place < end_of e). sym (after_none tag place s.log.entries (s.origin tag) h.log.valid none) ∙ is)
+        let same : x.shown ≡ p = same_Some x.shown p (sym x.is ∙ cell_upto s.origin s.log.entries tag place m.0 m.1 (plain s h) m.2 ∙ is) in absurd (both_ways _ unsound (ap is_sound_page (sym same) ∙ x.valid.sound)))
+        (λ (none : (k : ℕ) (e : Entry) → IsEntryOf s.log.entries tag k e → place < end_of e). sym (after_none tag place s.log.entries (s.origin tag) (plain s h) none) ∙ is)
         (last_upto s.log.entries tag place)
 
     cells : (tag place : ℕ) (p : Page) → (s.known tag ≡ true) ⊎ (s.ranges ≡ false) → cell s.origin (cut place s.log.entries) tag ≡ Some p → is_sound_page p ≡ false → s.origin tag ≡ Some p

@@ -45,7 +45,7 @@ use Rattle.page_core.proofs.Stepping.{quiet_logged}
 use Rattle.page_core.proofs.Cases.{tag_kept}
 use Rattle.page_core.proofs.Stepping as page_stepping
 use Rattle.page_core.proofs.Stepping.{new_none}
-use Rattle.history_core.specs.Log.{Entry, IsImage, change_size, cell, log_bytes, record_bytes, Change, image, ranges, resize, IsChange, IsEntryOf, HasImage, end_of, log_end, tag_in, changed_page, cut}
+use Rattle.history_core.specs.Log.{is_of_page, AreOfPages, Entry, IsImage, change_size, cell, log_bytes, record_bytes, Change, image, ranges, resize, IsChange, IsEntryOf, HasImage, end_of, log_end, tag_in, changed_page, cut}
 use Rattle.history_core.specs.State.{Lane, Device, State, stored, stored_upto, failed}
 use Rattle.history_core.specs.Lanes as lane_kinds
 use Rattle.history_core.specs.Lanes.{swept_by, LaneKind, LaneAllowed, lane_after, lane_hold_after, lane_shape, lane_part}
@@ -70,6 +70,10 @@ use Rattle.grid.proofs.Lists.{put_here, put_at, put_else, put_same, set_else, at
 use Rattle.grid.proofs.Sums.{term_le}
 use Rattle.grid.proofs.Grids.{Keeps, Relinks, both_grids, touch, sweep, steady, steady_alike, reblock, grows}
 use Rattle.history_core.proofs.Sizes.{sizes_longer, sizes_still}
+
+-- each entry is of a page, since forks don't grow and shrink yet
+pub plain : (s : State) → HistoryInvariant s → AreOfPages s.log.entries
+plain s h = h.of_pages h.quiet
 
 -- the laws of a state, by what they speak of
 pub outer_of : (s : State) → HistoryInvariant s → Outer s.known s.origin s.opened_sizes s.log s.lanes s.lane s.flushed (written_of s) s.device s.pool.core.views
@@ -102,6 +106,7 @@ assemble s h pool' lane' law logged known kept outer blocks = record {
   logged = logged;
   sizes = λ fork. kept.sizes fork ∙ h.sizes fork;
   quiet = kept.resizes ∙ h.quiet;
+  of_pages = λ e. h.of_pages (sym kept.resizes ∙ e);
   there = λ tag block is. h.there tag (ap (λ (n : ℕ). nat_lt (tag_block tag) n) (sym (kept.sizes (tag_fork tag))) ∙ block) is;
   pages = h.pages;
   known = known;
@@ -195,8 +200,8 @@ logged_there s h tag block known = h.logged tag known ∙ some_of (cell s.origin
 pub flags_differ : false ≡ true → ⊥
 flags_differ e = absurd (cc)
 
-no_resize : (g o n end : ℕ) → IsChange end (resize g o n) → ⊥
-no_resize g o n end x = x
+no_resize : (g o n : ℕ) → is_of_page (resize g o n) ≡ true → ⊥
+no_resize g o n x = absurd (cc)
 
 -- What a change makes
 pub makes_of : (c : Change) (end tag : ℕ) (p : Page) (l : Link) → MakesPage c end tag p l → tag_in c ≡ Some tag
@@ -208,6 +213,11 @@ pub makes_valid : (c : Change) (end tag : ℕ) (p : Page) (l : Link) → IsImage
 makes_valid (image t q) end tag p l v m = subst (IsImage end) (sym m.1) v
 makes_valid (ranges t spans) end tag p l v m = m.1.valid
 makes_valid (resize fork old new) end tag p l v m = absurd m
+
+pub makes_page_entry : (c : Change) (end tag : ℕ) (p : Page) (l : Link) → MakesPage c end tag p l → is_of_page c ≡ true
+makes_page_entry (image t q) end tag p l m = refl
+makes_page_entry (ranges t spans) end tag p l m = refl
+makes_page_entry (resize fork old new) end tag p l m = absurd m
 
 pub makes_whole : (c : Change) (end tag : ℕ) (p : Page) (l : Link) → MakesPage c end tag p l → (t : ℕ) (q : Page) → c ≡ image t q → q ≡ p
 makes_whole (image u r) end tag p l m t q e = let same : r ≡ p = m.1 in cc
@@ -351,7 +361,7 @@ module _ (s : State) (h : HistoryInvariant s) where
 
 -- a block is below its fork's size at the start
 pub below_opened : (s : State) → HistoryInvariant s → (tag : ℕ) → is_block s.pool.core tag ≡ true → pins.is_below s.opened_sizes tag ≡ true
-below_opened s h tag block = ap (λ (n : ℕ). nat_lt (tag_block tag) n) (sym (h.sizes (tag_fork tag) ∙ sizes_still s.log.entries s.opened_sizes (tag_fork tag) (λ k e at g o n is. no_resize g o n (end_of e) (subst (IsChange (end_of e)) is (h.log.valid k e at))))) ∙ block
+below_opened s h tag block = ap (λ (n : ℕ). nat_lt (tag_block tag) n) (sym (h.sizes (tag_fork tag) ∙ sizes_still s.log.entries s.opened_sizes (tag_fork tag) (λ k e at g o n is. no_resize g o n (subst (λ (c : Change). is_of_page c ≡ true) is (plain s h k e at))))) ∙ block
 
 -- and so do the blocks' pages after the log, but for an entry
 pub logged_stays : (s : State) → HistoryInvariant s → {e : pin_steps.Event} {core' : pins.State} → pin_steps.Step e s.pool.core core' → logged_by e s.pool ≡ s.pool.logged
@@ -517,7 +527,7 @@ module _ (s : State) (h : HistoryInvariant s) (i q f : ℕ) (v : View) (there : 
   is_flushed out = let early = is_early out in let was = h.flushed_cells tag in let same : (s.lane q).stored_upto tag ≡ stored_upto s tag = ap (λ (z : ℕ). (s.lane z).stored_upto tag) (sym x.lane) in record {
     based = (let z = was.based in omega arith);
     within = (let z = was.within in omega arith);
-    is_cell = λ block known ok. sym (cell_at_position s.origin s.log.entries tag upto (log_end s.log) written_frame.page h.log.valid (ends_below s.log (new_entry s 0 (image tag [])) h.log) (λ k e of. h.pages k tag e of known) (is_cell_now known) (omega arith));
+    is_cell = λ block known ok. sym (cell_at_position s.origin s.log.entries tag upto (log_end s.log) written_frame.page (plain s h) (ends_below s.log (new_entry s 0 (image tag [])) h.log) (λ k e of. h.pages k tag e of known) (is_cell_now known) (omega arith));
   }
 
   -- the lane after the write holds the page p for the block, and the block's entries up to u
@@ -619,6 +629,7 @@ raised_state t k durable = let more : t.flushed ≤ max t.flushed t.end = omega 
   logged = k.logged;
   sizes = k.sizes;
   quiet = k.quiet;
+  of_pages = k.of_pages;
   there = k.there;
   pages = k.pages;
   known = k.known;
@@ -664,6 +675,7 @@ logs_step s h i k v there a = let w : View = view_logged k v in let views = s.po
       logged = h.logged;
       sizes = h.sizes;
       quiet = h.quiet;
+      of_pages = h.of_pages;
       there = h.there;
       pages = h.pages;
       known = h.known;
@@ -719,6 +731,9 @@ module _ (s : State) (h : HistoryInvariant s) (i f : ℕ) (p : Page) (ch : Chang
   valid : IsChange end' ch
   valid = makes_valid ch end' tag_of p (link v f) is_image x.makes
 
+  of_page : is_of_page ch ≡ true
+  of_page = makes_page_entry ch end' tag_of p (link v f) x.makes
+
   pub of_block : tag_in ch ≡ Some tag_of
   of_block = makes_of ch end' tag_of p (link v f) x.makes
 
@@ -757,7 +772,7 @@ module _ (s : State) (h : HistoryInvariant s) (i f : ℕ) (p : Page) (ch : Chang
   cell_now known = cell_longer s.origin s.log.entries entry tag_of ∙ makes_page ch x.makes known
 
   cell_else : (t : ℕ) → t ≢ tag_of → cell s.origin (s.log.entries ++ entry ∷ []) t ≡ cell s.origin s.log.entries t
-  cell_else t other = cell_longer s.origin s.log.entries entry t ∙ changed_else ch end' t (cell s.origin s.log.entries t) valid (other_block t other)
+  cell_else t other = cell_longer s.origin s.log.entries entry t ∙ changed_else ch end' t (cell s.origin s.log.entries t) of_page (other_block t other)
 
   logged_longer : (t : ℕ) → s.known t ≡ true → put s.pool.logged tag_of (Some p) t ≡ cell s.origin (s.log.entries ++ entry ∷ []) t
   logged_longer t known = dite (ℕ_discrete t tag_of)
@@ -788,8 +803,9 @@ module _ (s : State) (h : HistoryInvariant s) (i f : ℕ) (p : Page) (ch : Chang
         pool = pool_touched s.pool h.pool i f (make_entry p) v after there live inside x.right x.around same;
         logged = logged_longer;
         there = there_longer;
-        sizes = λ fork. h.sizes fork ∙ sym (sizes_longer s.log.entries entry s.opened_sizes fork (λ g o n e. no_resize g o n end' (subst (IsChange end') e valid)));
+        sizes = λ fork. h.sizes fork ∙ sym (sizes_longer s.log.entries entry s.opened_sizes fork (λ g o n e. no_resize g o n (subst (λ (c : Change). is_of_page c ≡ true) e of_page)));
         quiet = h.quiet;
+        of_pages = λ _ k e at. ⊎_elim (λ (t : get_elem? s.log.entries k ≡ some e). plain s h k e t) (λ (t : (entry ≡ e) × (k ≡ length s.log.entries)). subst (λ (y : Entry). is_of_page y.change ≡ true) t.0 of_page) (at_end s.log.entries entry e k at);
         pages = pages_longer;
         known = h.known;
         log = log_longer s.log entry h.log h.ends valid;
@@ -866,6 +882,7 @@ module _ (s : State) (h : HistoryInvariant s) (i : ℕ) (v : View) (there : get_
     logged = x.logged;
     sizes = x.sizes;
     quiet = x.quiet;
+    of_pages = x.of_pages;
     there = x.there;
     pages = x.pages;
     known = x.known;
@@ -902,6 +919,7 @@ module _ (s : State) (h : HistoryInvariant s) (i : ℕ) (v : View) (there : get_
         logged = x.logged;
         sizes = x.sizes;
     quiet = x.quiet;
+    of_pages = x.of_pages;
     there = x.there;
         pages = x.pages;
         known = x.known;

@@ -7,7 +7,7 @@ use Rattle.history_core.specs.State.{State, stored_upto}
 use Rattle.history_core.specs.Laws.{Laws}
 use Rattle.history_core.specs.Histories.{BlocksAreThere}
 use Rattle.history_core.proofs.Laws.{begun}
-use Rattle.history_core.proofs.Stepping.{below_opened}
+use Rattle.history_core.proofs.Stepping.{below_opened, plain}
 use Rattle.history_core.proofs.Logs.{after_some}
 
 pub blocks_are_there : (s : State) → Laws s → BlocksAreThere s
@@ -19,4 +19,4 @@ blocks_are_there s h tag block known = record { first = first; last = h.invarian
         ap (λ (g : ℕ → Option Page). is_some (g tag)) same.origin ∙ ap (λ (b : Bool). is_some (cond b (r.store.origin tag) None)) below ∙ r.stores.there tag below (sym (ap (λ (g : ℕ → Bool). g tag) same.known) ∙ known)
 
     upto : (place : ℕ) → is_some (cell s.origin (cut place s.log.entries) tag) ≡ true
-    upto place = after_some tag place s.log.entries (s.origin tag) h.invariant.log.valid first
+    upto place = after_some tag place s.log.entries (s.origin tag) (plain s h.invariant) first

@@ -8,7 +8,7 @@ use Rattle.pin_core.specs.declared.view.View.{View}
 use Rattle.pin_core.specs.State.{Page, no_tag, is_block}
 use Rattle.page_core.specs.Invariant as pages
 use Rattle.std.specs.Option.{is_some}
-use Rattle.history_core.specs.Log.{Entry, Log, LogLaw, IsEntryOf, HasImage, log_end, head_size, log_bytes, end_of, cell, cut, IsLegal, place_of, backend_of, writes_in, writes_at, HasPlace, AreInOrder}
+use Rattle.history_core.specs.Log.{AreOfPages, Entry, Log, LogLaw, IsEntryOf, HasImage, log_end, head_size, log_bytes, end_of, cell, cut, IsLegal, place_of, backend_of, writes_in, writes_at, HasPlace, AreInOrder}
 use Rattle.history_core.specs.State.{State, last_position}
 use Rattle.history_core.specs.Log.{sizes_after}
 use Rattle.history_core.specs.Lanes.{lane_shape, lane_part}
@@ -68,6 +68,8 @@ pub record HistoryInvariant (s : State) : Type 0 where
   -- the size of a fork by the log is what the entries make of the one that it had at the start; forks don't grow or shrink yet
   pub sizes : (fork : ℕ) → (s.pool.core.size fork).logged ≡ sizes_after s.log.entries s.opened_sizes fork
   pub quiet : s.pool.core.resizes ≡ false
+  -- where forks don't grow and shrink each entry is of a page
+  pub of_pages : s.pool.core.resizes ≡ false → AreOfPages s.log.entries
   -- there is a page of each block of the relations
   pub there : (tag : ℕ) → is_block s.pool.core tag ≡ true → s.known tag ≡ true → is_some (cell s.origin s.log.entries tag) ≡ true
   -- after an entry a block's page is one with content, whose position is the entry's end

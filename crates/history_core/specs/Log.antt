@@ -1,5 +1,5 @@
 -- The write-ahead log, the pages of blocks that follow from it, and what backends read and wrote.
-use Rattle.std.specs.Prelude.{◌≡◌, ◌≢◌, ℕ, ◌+◌, ◌-◌, ◌*◌, ◌/◌, ◌%◌, ◌<◌, ◌≤◌, Bool, true, false, ◌&&◌, List, [], ◌∷◌, ◌++◌, length, take, drop, replicate, nat_eq, nat_le, nat_lt, Option, Some, None, option_map, if◌then◌else◌}
+use Rattle.std.specs.Prelude.{◌≡◌, ◌≢◌, ◌⊎◌, ℕ, ◌+◌, ◌-◌, ◌*◌, ◌/◌, ◌%◌, ◌<◌, ◌≤◌, Bool, true, false, ◌&&◌, List, [], ◌∷◌, ◌++◌, length, take, drop, replicate, nat_eq, nat_le, nat_lt, Option, Some, None, option_map, if◌then◌else◌}
 use mathlib.Core.Option.{some}
 use lib.ListN.{get_elem?}
 use Rattle.byteorder.specs.Endian.{little_bytes}
@@ -102,17 +102,33 @@ pub record AreRanges (spans : List Span) : Type 0 where
   pub apart : StandApart 8 spans
   pub shorter : rounded (36 + spans_size spans) < record_size
 
--- What a change may be in an entry that ends at the position `end`; no step resizes a fork yet
+-- A fork gets one block more, or fewer than it had; the numbers are of 32 bits
+pub record IsResize (old new : ℕ) : Type 0 where
+  pub old_fits : old ≤ 4294967295
+  pub new_fits : new ≤ 4294967295
+  pub moves : (new ≡ old + 1) ⊎ (new < old)
+
+-- What a change may be in an entry that ends at the position `end`
 abbrev pub IsChange : ℕ → Change → Type 0
 IsChange end (image tag page) = IsImage end page
 IsChange end (ranges tag spans) = AreRanges spans
-IsChange end (resize fork old new) = ⊥
+IsChange end (resize fork old new) = IsResize old new
 
--- whether an entry may be made of a change: of an image it may; of ranges where `may` says so; of a resize not yet
+-- whether an entry of a page may be made of a change: of an image it may; of ranges where `may` says so
 abbrev pub MayMake : Bool → Change → Type 0
 MayMake may (image tag page) = Unit {0}
 MayMake may (ranges tag spans) = may ≡ true
 MayMake may (resize fork old new) = ⊥
+
+-- whether it is of a page, not of the size of a fork
+abbrev pub is_of_page : Change → Bool
+is_of_page (image tag page) = true
+is_of_page (ranges tag spans) = true
+is_of_page (resize fork old new) = false
+
+-- each entry is
+abbrev pub AreOfPages : List Entry → Type 0
+AreOfPages es = (k : ℕ) (e : Entry) → get_elem? es k ≡ some e → is_of_page e.change ≡ true
 
 -- each entry is a whole page
 abbrev pub AreImages : List Entry → Type 0
