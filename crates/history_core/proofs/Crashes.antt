@@ -33,7 +33,7 @@ use Rattle.history_core.proofs.Logs.{is_of, changed_image, cell_absent, after_no
 use Rattle.history_core.proofs.Owing.{output_position}
 use Rattle.history_core.proofs.Always.{KeptByLaws, always}
 use Rattle.history_core.proofs.Unentered.{noted_kept, IsUnenteredLaw, unentered_kept, unentered_open}
-use Rattle.history_core.proofs.Stepping.{plain}
+use Rattle.history_core.proofs.Stepping.{plain, lane_cell}
 use Rattle.grid.specs.Shape.{put, tallies}
 use Rattle.grid.proofs.Lists.{at_longer, at_end, put_at, put_else}
 use Rattle.grid.proofs.Sums.{term_le}
@@ -219,10 +219,6 @@ module _ (s : State) (h : HistoryInvariant s) where
   pages_left _ (first es rest is high) k e at = plain s h k e (subst (λ (l : List Entry). get_elem? l k ≡ some e) (sym is) (at_longer es rest k e at))
   pages_left _ (one_more x more bytes whole starts valid follow) k e at = ⊎_elim (λ (t : get_elem? s.log.entries k ≡ some e). plain s h k e t) (λ (t : (x ≡ e) × (k ≡ length s.log.entries)). subst (λ (y : Entry). is_of_page y.change ≡ true) t.0 (follows_page s x.change follow)) (at_end s.log.entries x e k at)
 
-  valid_left : (es : List Entry) → Survives s es → AreValid es
-  valid_left _ (first es rest is high) k e at = h.log.valid k e (subst (λ (l : List Entry). get_elem? l k ≡ some e) (sym is) (at_longer es rest k e at))
-  valid_left _ (one_more x more bytes whole starts valid follow) k e at = ⊎_elim (λ (t : get_elem? s.log.entries k ≡ some e). h.log.valid k e t) (λ (t : (x ≡ e) × (k ≡ length s.log.entries)). subst (λ (y : Entry). IsChange (end_of y) y.change) t.0 valid) (at_end s.log.entries x e k at)
-
   -- an entry that is flushed survives
   early_left : (es : List Entry) → Survives s es → (tag k : ℕ) (e : Entry) → IsEntryOf s.log.entries tag k e → end_of e ≤ s.flushed → IsEntered es tag
   early_left _ (first es rest is high) tag k e of low = ⊎_elim
@@ -249,7 +245,7 @@ module _ (s : State) (h : HistoryInvariant s) where
   -- none does, and the block was not written since the last sync, nor did its last write fail: it is as at the start
   by_none : (pages : ℕ → Option Page) (es : List Entry) → Crashed s pages es → (tag : ℕ) → is_block s.pool.core tag ≡ true → s.known tag ≡ true → ((k : ℕ) (e : Entry) → IsEntryOf es tag k e → ⊥) → unsynced s tag ≡ false → failed s tag ≡ false → cell pages es tag ≡ cell s.origin es tag
   by_none pages es c tag block known none synced done = let valid = pages_left es c.log in let cells = h.flushed_cells tag in
-      cell_absent pages es tag valid none ∙ c.stays tag synced ∙ cells.is_cell block known done
+      cell_absent pages es tag valid none ∙ c.stays tag synced ∙ lane_cell s h tag block known done
       ∙ after_none tag (stored_upto s tag) s.log.entries (s.origin tag) (plain s h) (λ k e of. ⊎_elim (λ (high : stored_upto s tag < end_of e). high) (λ (low : end_of e ≤ stored_upto s tag). absurd (let x = early_left es c.log tag k e of (let w = cells.within in omega arith) in none x.0 x.1 x.2)) (cases_lt (stored_upto s tag) (end_of e)))
       ∙ sym (cell_absent s.origin es tag valid none)
 

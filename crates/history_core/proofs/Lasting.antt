@@ -33,12 +33,12 @@ pages_last : {e : page_steps.Event} {s t : page.State} → page_steps.Step e s t
 pages_last (page_steps.cores x) = pins_last x
 pages_last (page_steps.touches i f k u there live inside a around) = record { frames = refl; backends = refl; partitions = refl; partition_of = refl; is_fork = refl; resizes = refl }
 
-of_pool : {s t : State} → IsSamePool s.pool.core t.pool.core → t.lanes ≡ s.lanes → t.lane_of ≡ s.lane_of → t.known ≡ s.known → t.opened_sizes ≡ s.opened_sizes → t.origin ≡ s.origin → t.unsynced_at_start ≡ s.unsynced_at_start → t.log.base ≡ s.log.base → t.names ≡ s.names → t.ranges ≡ s.ranges → t.log_faults ≡ s.log_faults → IsSameOpening s t
-of_pool p count lane_of known sizes origin unsynced base names ranges faults = record { frames = p.frames; backends = p.backends; partitions = p.partitions; partition_of = p.partition_of; is_fork = p.is_fork; resizes = p.resizes; opened_sizes = sizes; lanes = count; lane_of = lane_of; known = known; origin = origin; unsynced = unsynced; base = base; names = names; ranges = ranges; log_faults = faults }
+of_pool : {s t : State} → IsSamePool s.pool.core t.pool.core → t.lanes ≡ s.lanes → t.lane_of ≡ s.lane_of → t.known ≡ s.known → t.opened_sizes ≡ s.opened_sizes → t.origin ≡ s.origin → t.held ≡ s.held → t.unsynced_at_start ≡ s.unsynced_at_start → t.log.base ≡ s.log.base → t.names ≡ s.names → t.ranges ≡ s.ranges → t.log_faults ≡ s.log_faults → IsSameOpening s t
+of_pool p count lane_of known sizes origin held unsynced base names ranges faults = record { frames = p.frames; backends = p.backends; partitions = p.partitions; partition_of = p.partition_of; is_fork = p.is_fork; resizes = p.resizes; opened_sizes = sizes; lanes = count; lane_of = lane_of; known = known; origin = origin; held = held; unsynced = unsynced; base = base; names = names; ranges = ranges; log_faults = faults }
 
 pub opening_stays : (s : State) → OpeningStays s
-opening_stays s e t (pools x a) = of_pool (pages_last x) refl refl refl refl refl refl refl refl refl refl
-opening_stays s e t _ = of_pool record { frames = refl; backends = refl; partitions = refl; partition_of = refl; is_fork = refl; resizes = refl } refl refl refl refl refl refl refl refl refl refl
+opening_stays s e t (pools x a) = of_pool (pages_last x) refl refl refl refl refl refl refl refl refl refl refl
+opening_stays s e t _ = of_pool record { frames = refl; backends = refl; partitions = refl; partition_of = refl; is_fork = refl; resizes = refl } refl refl refl refl refl refl refl refl refl refl refl
 
 -- the device after a call
 record DeviceGrows (d d' : Device) : Type 0 where

@@ -74,6 +74,7 @@ same_on a b = record {
   lane_of = b.lane_of ∙ a.lane_of;
   known = b.known ∙ a.known;
   origin = b.origin ∙ a.origin;
+  held = b.held ∙ a.held;
   unsynced = b.unsynced ∙ a.unsynced;
   base = b.base ∙ a.base;
   names = b.names ∙ a.names;
@@ -82,7 +83,7 @@ same_on a b = record {
 }
 
 opening_lasts : {es : List Event} {s t : State} → Run es s t → IsSameOpening s t
-opening_lasts rests = record { frames = refl; backends = refl; partitions = refl; partition_of = refl; is_fork = refl; resizes = refl; opened_sizes = refl; lanes = refl; lane_of = refl; known = refl; origin = refl; unsynced = refl; base = refl; names = refl; ranges = refl; log_faults = refl }
+opening_lasts rests = record { frames = refl; backends = refl; partitions = refl; partition_of = refl; is_fork = refl; resizes = refl; opened_sizes = refl; lanes = refl; lane_of = refl; known = refl; origin = refl; held = refl; unsynced = refl; base = refl; names = refl; ranges = refl; log_faults = refl }
 opening_lasts (goes {e = e} {s = s} {t = t} x r) = same_on (opening_stays s e t x) (opening_lasts r)
 
 -- so a state that is reached has what its buffer pool was opened with

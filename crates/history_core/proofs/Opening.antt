@@ -1,10 +1,10 @@
 -- The law holds at the start.
-use Rattle.std.proofs.Common.{◌≡◌, ℕ, [], ◌∷◌, length, sym, refl, ap, ◌∙◌, subst, arith, ◌++◌, List, Bool, cond, Option, None, append-nil}
+use Rattle.std.proofs.Common.{◌≡◌, ℕ, [], ◌∷◌, length, sym, refl, ap, ◌∙◌, subst, arith, ◌++◌, List, Bool, cond, Option, None, append-nil, ◌⊎◌, inl, inr, true, false}
 use Rattle.std.specs.Option.{is_some}
 use mathlib.Core.Option.{some, some-ne-none}
 use lib.ListN.{get_elem?, length-replicate}
 use Rattle.pin_core.specs.declared.view.View.{View}
-use Rattle.pin_core.specs.State.{Config, CanOpen, Page, link, no_lane, lane_hold, first_view, empty_frame, no_tag}
+use Rattle.pin_core.specs.State.{Config, CanOpen, Page, link, no_lane, lane_hold, first_view, empty_frame, no_tag, is_below}
 use Rattle.pin_core.proofs.Views.{link_new}
 use Rattle.page_core.specs.State.{below_sizes}
 use Rattle.page_core.proofs.Opening as pages
@@ -12,7 +12,7 @@ use Rattle.history_core.proofs.Sizes.{sizes_none}
 use Rattle.history_core.specs.Log.{Log, cell, cut, write_weight, writes_in, records, head_bytes}
 use Rattle.history_core.specs.State.{Store, CanStore, is_known, known_origin, fresh_lane, fresh_device, opening}
 use Rattle.history_core.specs.Lanes.{holders, LaneLink, lane_shape}
-use Rattle.history_core.specs.Homes.{Home, HomeFrame, HomeLink, home_of}
+use Rattle.history_core.specs.Homes.{Home, HomeFrame, HomeLink, home_of, IsFresh}
 use Rattle.history_core.specs.Invariant.{CallsLaw, written_of, HistoryInvariant}
 use Rattle.history_core.specs.Device.{LogTally, holders, appenders, log_weigh, LogLink}
 use Rattle.history_core.proofs.Device.{no_log_law}
@@ -82,5 +82,10 @@ opens c store page can stores = let w : View = first_view c.base c.frames c.part
     cells = λ i v f there below. subst (λ (x : View). HomeLink (home_of (opening c store page) no_tag) (empty_frame page) (link x f)) (at_only w v i there).0 (subst (HomeLink (home_of (opening c store page) no_tag) (empty_frame page)) (sym (link_new c.frames c.partitions c.lanes 0 c.base f)) (no_link (home_of (opening c store page) no_tag) (empty_frame page)));
   };
   unframed = λ tag named none. record { done = λ block. refl; stored = λ block is. ap (λ (b : Bool). cond b (cond (is_known store tag) (store.origin tag) None) None) block ∙ ap (λ (b : Bool). cond b (store.origin tag) None) is };
-  flushed_cells = λ tag. record { based = omega arith; within = omega arith; is_cell = λ block is ok. sym (cell_none (below_sizes c.sizes store.origin) tag ∙ ap (λ (b : Bool). cond b (store.origin tag) None) block) ∙ ap (λ es. cell (below_sizes c.sizes store.origin) es tag) (sym (cut_none c.base)) };
+  flushed_cells = λ tag. record { based = omega arith; within = omega arith; is_cell = λ is ok. by_size tag (is_below c.sizes tag) refl (λ block. sym (cell_none (below_sizes c.sizes store.origin) tag ∙ ap (λ (b : Bool). cond b (store.origin tag) None) block) ∙ ap (λ es. cell (below_sizes c.sizes store.origin) es tag) (sym (cut_none c.base))) };
 }
+  where
+    -- past the sizes a lane holds what it held
+    by_size : (tag : ℕ) (b : Bool) → is_below c.sizes tag ≡ b → (is_below c.sizes tag ≡ true → store.origin tag ≡ cell (below_sizes c.sizes store.origin) (cut c.base []) tag) → (store.origin tag ≡ cell (below_sizes c.sizes store.origin) (cut c.base []) tag) ⊎ IsFresh [] tag (home_of (opening c store page) tag)
+    by_size tag true e is = inl (is e)
+    by_size tag false e is = inr (record { fresh = inl e; page = inr refl })

@@ -18,6 +18,7 @@ use Rattle.pin_core.specs.Steps as pin_steps
 use Rattle.page_core.specs.Steps as page_steps
 use Rattle.page_core.proofs.Histories.{cleanup_alone}
 use Rattle.history_core.specs.Steps.{pools}
+use Rattle.history_core.proofs.Stepping.{lane_cell}
 use Rattle.history_core.proofs.Logs.{entry_at}
 use Rattle.history_core.proofs.Histories.{framed, durable, loaded_flushed}
 
@@ -34,7 +35,7 @@ seen_durable s h i upto v there seen k e at low = let x = loaded_flushed s h i v
 
 module _ (s : State) (h : HistoryInvariant s) (d : DebtsLaw s) (blocks : EntriesAreOfBlocks s) where
   in_lane : (k tag : ℕ) (e : Entry) → IsEntryOf s.log.entries tag k e → failed s tag ≡ false → end_of e ≤ stored_upto s tag → IsInLane s e tag
-  in_lane k tag e of ok low = let x = h.flushed_cells tag in record { place = stored_upto s tag; later = low; flushed = x.within; durable = durable s h k e of.there (let y = x.within in omega arith); holds = λ known. x.is_cell (blocks tag k e of) known ok }
+  in_lane k tag e of ok low = let x = h.flushed_cells tag in record { place = stored_upto s tag; later = low; flushed = x.within; durable = durable s h k e of.there (let y = x.within in omega arith); holds = λ known. lane_cell s h tag (blocks tag k e of) known ok }
 
   -- a block whose last write failed has a frame, which is dirty
   unwritten : (tag : ℕ) → tag ≢ no_tag → is_block s.pool.core tag ≡ true → failed s tag ≡ true → IsUnwritten s tag

@@ -1,5 +1,5 @@
 -- Each step keeps the law, and so does each list of steps.
-use Rattle.std.proofs.Common.{◌≡◌, ◌≢◌, ℕ, ◌+◌, ◌<◌, ◌≤◌, cond, Bool, true, false, List, [], ◌∷◌, ◌++◌, length, set, Option, Some, None, length-set, get_or-set_same, get_or-set_other, sym, refl, ap, ◌∙◌, subst, arith, lit<, ⊎_elim}
+use Rattle.std.proofs.Common.{◌≡◌, ◌≢◌, ℕ, inl, inr, ◌+◌, ◌<◌, ◌≤◌, cond, Bool, true, false, List, [], ◌∷◌, ◌++◌, length, set, Option, Some, None, length-set, get_or-set_same, get_or-set_other, sym, refl, ap, ◌∙◌, subst, arith, lit<, ⊎_elim}
 use Rattle.std.proofs.lemmas.Option.{same_Some}
 use Rattle.std.specs.Prelude.{max, unwrap_or, nat_lt, ◌⊎◌}
 use Rattle.std.specs.Option.{is_some}
@@ -31,7 +31,7 @@ use Rattle.pin_core.specs.Steps as pin_steps
 use Rattle.pin_core.proofs.Views.{link_new}
 use Rattle.pin_core.proofs.Stepping as pin_stepping
 use Rattle.page_core.specs.State as page
-use Rattle.page_core.specs.State.{Block, block_of}
+use Rattle.page_core.specs.State.{Block, block_of, zero_page}
 use Rattle.page_core.specs.Tallies.{sharers, weigh, page_shape}
 use Rattle.page_core.specs.Invariant as page_law
 use Rattle.page_core.specs.Invariant.{PageLink}
@@ -49,7 +49,7 @@ use Rattle.history_core.specs.Log.{is_of_page, AreOfPages, Entry, IsImage, chang
 use Rattle.history_core.specs.State.{Lane, Device, State, stored, stored_upto, failed}
 use Rattle.history_core.specs.Lanes as lane_kinds
 use Rattle.history_core.specs.Lanes.{swept_by, LaneKind, LaneAllowed, lane_after, lane_hold_after, lane_shape, lane_part}
-use Rattle.history_core.specs.Homes.{Home, home_of, IsClean, HomeLink, home_shape, home_part, IsUnframed, IsFlushedCell}
+use Rattle.history_core.specs.Homes.{Home, home_of, IsClean, HomeLink, home_shape, home_part, IsUnframed, Extends, IsFresh, IsFlushedCell}
 use Rattle.history_core.specs.Invariant.{HistoryLaw, written_of, HistoryInvariant}
 use Rattle.history_core.specs.Steps.{has_seen_size, Event, IsPlain, PoolAllowed, stepped, looked, aside, pool_after, pool_noting, CanNoteLaneRead, paged, laned, LaneAlone, CanWrite, MayWriteLane, Notes, new_entry, CanEnter, CanRead, has_read, logged_as, test_of, has_written, Step, pools, lanes, writes, notes, enters, reads, logs, Run, rests, goes, words, after_word, state_after_word, has_raised, MakesPage, reads_size}
 use Rattle.history_core.specs.Words.{WordKind, load_end, begin_checkpoint, load_flushed, raise_flushed, load_redo, raise_redo, WordAllowed}
@@ -66,7 +66,7 @@ use Rattle.history_core.proofs.Beginning.{BegunHere, pool_begun, homes_begun}
 use Rattle.history_core.proofs.Outer.{Outer, outer_same, outer_grows, outer_joins, lanes_touched, wide_set}
 use Rattle.history_core.proofs.Blocks.{plain_keeps, plain_block, StoresClean, pins_keep, tag_goes, lacked, written_is_logged, Blocks, no_link, home_forgets, unframed_put, still_unframed}
 use Rattle.grid.specs.Shape.{Grid, put, tallies}
-use Rattle.grid.proofs.Lists.{put_here, put_at, put_else, put_same, set_else, at_end}
+use Rattle.grid.proofs.Lists.{at_longer, put_here, put_at, put_else, put_same, set_else, at_end}
 use Rattle.grid.proofs.Sums.{term_le}
 use Rattle.grid.proofs.Grids.{Keeps, Relinks, both_grids, touch, sweep, steady, steady_alike, reblock, grows}
 use Rattle.history_core.proofs.Sizes.{sizes_longer, sizes_still}
@@ -87,7 +87,7 @@ knows s h = let g = page_stepping.knows s.pool h.pool in both_grids (record { co
 
 -- what is known of each block with these pages after the log, and these lanes
 abbrev homes_with : State → (ℕ → Option Page) → (ℕ → Lane) → ℕ → Home
-homes_with s logged lane tag = record { inside = is_block s.pool.core tag; block = block_of logged tag; known = s.known tag; stored = (lane (s.lane_of tag)).stored tag; stored_upto = (lane (s.lane_of tag)).stored_upto tag; failed = (lane (s.lane_of tag)).failed tag }
+homes_with s logged lane tag = record { inside = is_block s.pool.core tag; block = block_of logged tag; known = s.known tag; stored = (lane (s.lane_of tag)).stored tag; stored_upto = (lane (s.lane_of tag)).stored_upto tag; failed = (lane (s.lane_of tag)).failed tag; held = s.held tag }
 
 -- what pools begin with, and the sizes of forks by the log, are the same
 record SameSizes (s t : pins.State) : Type 0 where
@@ -164,6 +164,7 @@ homes_same s logged q ln same = λ j tag. record {
   stored = sym (lane_put (λ (x : Lane). x.stored tag) s.lane q ln (λ i. same.stored i tag) (s.lane_of tag)) j;
   stored_upto = sym (lane_put (λ (x : Lane). x.stored_upto tag) s.lane q ln (λ i. same.upto i tag) (s.lane_of tag)) j;
   failed = sym (lane_put (λ (x : Lane). x.failed tag) s.lane q ln (λ i. same.failed i tag) (s.lane_of tag)) j;
+  held = s.held tag;
 }
 
 -- a kind at a lane that is no write leaves what the lane holds
@@ -202,6 +203,20 @@ flags_differ e = absurd (cc)
 
 no_resize : (g o n : ℕ) → is_of_page (resize g o n) ≡ true → ⊥
 no_resize g o n x = absurd (cc)
+
+-- a block that was fresh stays so, where the log has one entry more, of a page
+fresh_longer : (es : List Entry) (x : Entry) (tag : ℕ) (a b : Home) → is_of_page x.change ≡ true → b.inside ≡ a.inside → b.stored_upto ≡ a.stored_upto → b.stored ≡ a.stored → b.held ≡ a.held → IsFresh es tag a → IsFresh (es ++ x ∷ []) tag b
+fresh_longer es x tag a b of_page inside upto stored held is = record {
+  fresh = ⊎_elim (λ (y : a.inside ≡ false). inl (inside ∙ y)) (λ (y : Extends es a.stored_upto tag). inr (record {
+    index = y.index;
+    entry = y.entry;
+    there = at_longer es (x ∷ []) y.index y.entry y.there;
+    grows = y.grows;
+    past = subst (λ (n : ℕ). n < end_of y.entry) (sym upto) y.past;
+    kept = λ j d fork old new lt at c less. ⊎_elim (λ (t : get_elem? es j ≡ some d). y.kept j d fork old new lt t c less) (λ (t : (x ≡ d) × (j ≡ length es)). absurd (no_resize fork old new (subst (λ (z : Change). is_of_page z ≡ true) (ap (λ (z : Entry). z.change) t.0 ∙ c) of_page))) (at_end es x d j at);
+  })) is.fresh;
+  page = ⊎_elim (λ (y : a.stored ≡ Some zero_page). inl (stored ∙ y)) (λ (y : a.stored ≡ a.held). inr (stored ∙ y ∙ sym held)) is.page;
+}
 
 -- What a change makes
 pub makes_of : (c : Change) (end tag : ℕ) (p : Page) (l : Link) → MakesPage c end tag p l → tag_in c ≡ Some tag
@@ -421,7 +436,11 @@ module _ (s : State) (h : HistoryInvariant s) (i q f : ℕ) (noted : Bool) (k : 
         homes = touched s h i f v w fr (link_after k noting_block noting_frame (link v f)) there live inside refl (homes_with s logged s.lane) else
             (subst (λ (y : ℕ). Keeps home_shape known home_part (home_of s noting_frame.tag) (homes_with s logged s.lane y) tt tt noting_frame (link v f) fr (link_after k noting_block noting_frame (link v f))) (sym tag_same) keeps);
         unframed = λ t given none. let was = still_unframed s.pool.core.frames s.pool.core.frame f fr t tag_same inside none in subst IsClean (sym (free t (λ e. was f inside (sym e)))) (h.unframed t given was);
-        flushed_cells = λ t. let x = h.flushed_cells t in record { based = x.based; within = x.within; is_cell = x.is_cell };
+        flushed_cells = λ t. let x = h.flushed_cells t in record {
+          based = x.based;
+          within = x.within;
+          is_cell = λ known ok. ⊎_elim (λ (is : stored s t ≡ cell s.origin (cut (stored_upto s t) s.log.entries) t). inl is) (λ (is : IsFresh s.log.entries t (home_of s t)). inr (record { fresh = is.fresh; page = is.page })) (x.is_cell known ok);
+        };
       })))
 
 -- a frame for input has a tag, and is neither valid nor dirty
@@ -527,7 +546,7 @@ module _ (s : State) (h : HistoryInvariant s) (i q f : ℕ) (v : View) (there : 
   is_flushed out = let early = is_early out in let was = h.flushed_cells tag in let same : (s.lane q).stored_upto tag ≡ stored_upto s tag = ap (λ (z : ℕ). (s.lane z).stored_upto tag) (sym x.lane) in record {
     based = (let z = was.based in omega arith);
     within = (let z = was.within in omega arith);
-    is_cell = λ block known ok. sym (cell_at_position s.origin s.log.entries tag upto (log_end s.log) written_frame.page (plain s h) (ends_below s.log (new_entry s 0 (image tag [])) h.log) (λ k e of. h.pages k tag e of known) (is_cell_now known) (omega arith));
+    is_cell = λ known ok. inl (sym (cell_at_position s.origin s.log.entries tag upto (log_end s.log) written_frame.page (plain s h) (ends_below s.log (new_entry s 0 (image tag [])) h.log) (λ k e of. h.pages k tag e of known) (is_cell_now known) (omega arith)));
   }
 
   -- the lane after the write holds the page p for the block, and the block's entries up to u
@@ -550,6 +569,7 @@ module _ (s : State) (h : HistoryInvariant s) (i q f : ℕ) (v : View) (there : 
       stored = (written_at (λ (y : Lane). y.stored) p stores t ∙ put_else (stored s) tag p t other) j;
       stored_upto = (written_at (λ (y : Lane). y.stored_upto) u uptos t ∙ put_else (stored_upto s) tag u t other) j;
       failed = (written_at (λ (y : Lane). y.failed) done fails t ∙ put_else (failed s) tag done t other) j;
+      held = s.held t;
     }
 
     here : home' tag ≡ record (home_of s tag) { stored = p; stored_upto = u; failed = done }
@@ -560,6 +580,7 @@ module _ (s : State) (h : HistoryInvariant s) (i q f : ℕ) (v : View) (there : 
       stored = (written_at (λ (y : Lane). y.stored) p stores tag ∙ put_here (stored s) tag p) j;
       stored_upto = (written_at (λ (y : Lane). y.stored_upto) u uptos tag ∙ put_here (stored_upto s) tag u) j;
       failed = (written_at (λ (y : Lane). y.failed) done fails tag ∙ put_here (failed s) tag done) j;
+      held = s.held tag;
     }
 
     pub write_keeps : HistoryInvariant (record s { pool = pool_after begin_write s.pool i f (laned k q v (paged begin_write s.pool f v)); lane = lane' })
@@ -584,7 +605,7 @@ writes_step s h i q f (lane_kinds.write_block g tag p) v there live low inside b
     let y : CanWrite s q f tag page (lane_hold v q) (link v f) = record { tagged = x.tagged; lane = x.lane; page = refl; right = x.right; log_first = subst (λ (z : Page). lsn_of z ≤ (lane_hold v q).flushed) (sym x.page) x.log_first } in
     write_keeps s h i q f v there live low inside tag y (lane_kinds.write_block g tag p) (Some p) (upto_of p) false back refl refl refl (subst (λ (z : Page). IsFlushedCell s.origin s.log s.flushed tag (record (home_of s tag) { stored = Some z; stored_upto = upto_of z; failed = false })) x.page (is_flushed s h i q f v there live low inside tag y back.out))
 writes_step s h i q f (lane_kinds.fail_write g tag p faults) v there live low inside back (at, x) = let was = h.flushed_cells tag in let u = (s.lane q).stored_upto tag in let same : u ≡ stored_upto s tag = ap (λ (z : ℕ). (s.lane z).stored_upto tag) (sym x.lane) in
-    write_keeps s h i q f v there live low inside tag x (lane_kinds.fail_write g tag p faults) (Some p) u true back refl (λ j t. sym (put_same (s.lane q).stored_upto tag u t refl) j) refl (record { based = (let z = was.based in omega arith); within = (let z = was.within in omega arith); is_cell = λ block known ok. absurd (cc) })
+    write_keeps s h i q f v there live low inside tag x (lane_kinds.fail_write g tag p faults) (Some p) u true back refl (λ j t. sym (put_same (s.lane q).stored_upto tag u t refl) j) refl (record { based = (let z = was.based in omega arith); within = (let z = was.within in omega arith); is_cell = λ known ok. absurd (cc) })
 writes_step s h i q f lane_kinds.take_lane v there live low inside back x = absurd x
 writes_step s h i q f lane_kinds.leave_lane v there live low inside back x = absurd x
 writes_step s h i q f (lane_kinds.lane_out taken) v there live low inside back x = absurd x
@@ -621,6 +642,12 @@ reads_size_step : (s : State) → HistoryInvariant s → (i fork : ℕ) (v : Vie
 reads_size_step s h i fork v there right = let w : View = looked (seen.LogEnd s.end) (has_seen_size s.end fork (size_hold v fork).blocks v) in
     with_view s h i v w there (record { backend = record { emptied = refl; number = refl; next = refl; links = refl; partitions = refl }; joined = refl; links = refl; partitions = refl; sizes = refl }) refl refl refl
     (history_sized s.known s.origin s.opened_sizes s.log s.flushed s.pool.core.views h.history h.log i v w there fork (size_hold v fork).blocks (sym (h.sizes fork) ∙ sym (shared_finds s.pool.core h.pool.sizes i fork v there right)) (new_entry s 0 (image 0 [])) (ap (λ (z : ℕ). v.calls ++ Sized v.number fork (size_hold v fork).blocks z ∷ []) h.ends) h.ends refl refl refl refl)
+
+-- The lane holds the block's page after the entries up to what it is noted to have, since forks don't grow yet
+pub lane_cell : (s : State) → HistoryInvariant s → (tag : ℕ) → is_block s.pool.core tag ≡ true → s.known tag ≡ true → failed s tag ≡ false → stored s tag ≡ cell s.origin (cut (stored_upto s tag) s.log.entries) tag
+lane_cell s h tag block known ok = ⊎_elim (λ (is : stored s tag ≡ cell s.origin (cut (stored_upto s tag) s.log.entries) tag). is) (λ (x : IsFresh s.log.entries tag (home_of s tag)). absurd (⊎_elim
+    (λ (out : is_block s.pool.core tag ≡ false). flags_differ (sym out ∙ block))
+    (λ (y : Extends s.log.entries (stored_upto s tag) tag). no_resize (tag_fork tag) (tag_block tag) (tag_block tag + 1) (subst (λ (c : Change). is_of_page c ≡ true) y.grows (plain s h y.index y.entry y.there))) x.fresh)) ((h.flushed_cells tag).is_cell known ok)
 
 -- the flushed position rises to the log's end, whose bytes are durable
 raised_state : (t : State) → HistoryInvariant t → length (log_bytes t.names t.log) ≤ t.device.synced → HistoryInvariant (record t { flushed = max t.flushed t.end })
@@ -828,7 +855,8 @@ module _ (s : State) (h : HistoryInvariant s) (i f : ℕ) (p : Page) (ch : Chang
         flushed_cells = λ t. let y = h.flushed_cells t in record {
           based = y.based;
           within = y.within;
-          is_cell = λ block known ok. y.is_cell block known ok ∙ ap (λ (es : List Entry). cell s.origin es t) (sym (cut_longer (stored_upto s t) s.log.entries entry (let a = y.within in let c = h.flushed_to in omega (arith, some_size ch))));
+          is_cell = λ known ok. ⊎_elim (λ (is : stored s t ≡ cell s.origin (cut (stored_upto s t) s.log.entries) t). inl (is ∙ ap (λ (es : List Entry). cell s.origin es t) (sym (cut_longer (stored_upto s t) s.log.entries entry (let a = y.within in let c = h.flushed_to in omega (arith, some_size ch))))))
+              (λ (is : IsFresh s.log.entries t (home_of s t)). inr (fresh_longer s.log.entries entry t (home_of s t) (home_of entered t) of_page refl refl refl refl is)) (y.is_cell known ok);
         };
       }
 

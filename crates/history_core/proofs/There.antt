@@ -7,11 +7,11 @@ use Rattle.history_core.specs.State.{State, stored_upto}
 use Rattle.history_core.specs.Laws.{Laws}
 use Rattle.history_core.specs.Histories.{BlocksAreThere}
 use Rattle.history_core.proofs.Laws.{begun}
-use Rattle.history_core.proofs.Stepping.{below_opened, plain}
+use Rattle.history_core.proofs.Stepping.{below_opened, lane_cell, plain}
 use Rattle.history_core.proofs.Logs.{after_some}
 
 pub blocks_are_there : (s : State) → Laws s → BlocksAreThere s
-blocks_are_there s h tag block known = record { first = first; last = h.invariant.there tag block known; upto = upto; held = λ done. ap (λ (o : Option Page). is_some o) ((h.invariant.flushed_cells tag).is_cell block known done) ∙ upto (stored_upto s tag) }
+blocks_are_there s h tag block known = record { first = first; last = h.invariant.there tag block known; upto = upto; held = λ done. ap (λ (o : Option Page). is_some o) (lane_cell s h.invariant tag block known done) ∙ upto (stored_upto s tag) }
   where
     first : is_some (s.origin tag) ≡ true
     first = let r = h.reached in let same = begun s r in

@@ -1,13 +1,16 @@
 -- The blocks of the frames: what their lanes hold.
-use Rattle.std.specs.Prelude.{◌≡◌, ◌≢◌, ℕ, ◌<◌, ◌≤◌, Bool, true, false, Option, Some}
+use Rattle.std.specs.Prelude.{◌≡◌, ◌≢◌, ◌⊎◌, ℕ, ◌+◌, ◌<◌, ◌≤◌, Bool, true, false, List, Option, Some}
 use Rattle.pin_core.specs.declared.view.LastWrite.TheVariants.{Done}
 use Rattle.pin_core.specs.declared.view.Link.{Link}
 use Rattle.pin_core.specs.declared.view.View.{View}
-use Rattle.pin_core.specs.State.{Frame, Page, no_tag, link, is_block}
+use Rattle.pin_core.specs.State.{Frame, Page, no_tag, link, tag_fork, tag_block, is_block, is_cut}
+use Rattle.page_core.specs.State.{zero_page}
 use Rattle.page_core.specs.State as page
 use Rattle.page_core.specs.State.{block_of}
 use Rattle.page_core.specs.Tallies.{Tally, weigh, page_shape}
-use Rattle.history_core.specs.Log.{Log, cell, cut}
+use mathlib.Core.Option.{some}
+use lib.ListN.{get_elem?}
+use Rattle.history_core.specs.Log.{Entry, Log, resize, end_of, cell, cut}
 use Rattle.history_core.specs.State.{State, stored, stored_upto, failed}
 use Rattle.grid.specs.Shape.{Shape, Part}
 
@@ -21,9 +24,11 @@ pub record Home : Type 0 where
   pub stored : Option Page
   pub stored_upto : ℕ
   pub failed : Bool
+  -- the page that the lane held at the start, where its contents are known, or none
+  pub held : Option Page
 
 abbrev pub home_of : State → ℕ → Home
-home_of s tag = record { inside = is_block s.pool.core tag; block = block_of s.pool.logged tag; known = s.known tag; stored = stored s tag; stored_upto = stored_upto s tag; failed = failed s tag }
+home_of s tag = record { inside = is_block s.pool.core tag; block = block_of s.pool.logged tag; known = s.known tag; stored = stored s tag; stored_upto = stored_upto s tag; failed = failed s tag; held = s.held tag }
 
 -- if the block is there its last write didn't fail, and the lane holds its page after the log, where its contents are known
 pub record IsClean (h : Home) : Type 0 where
@@ -60,10 +65,25 @@ home_part = record { column = λ h fr t. HomeFrame h fr; cell = λ h fr _ l. Hom
 abbrev pub IsUnframed : ℕ → (ℕ → Frame) → ℕ → Type 0
 IsUnframed frames frame tag = (f : ℕ) → f < frames → (frame f).tag ≢ tag
 
+-- an entry of the log adds the block to its fork, ends past the position, and no later entry cuts the block away
+pub record Extends (es : List Entry) (upto tag : ℕ) : Type 0 where
+  pub index : ℕ
+  pub entry : Entry
+  pub there : get_elem? es index ≡ some entry
+  pub grows : entry.change ≡ resize (tag_fork tag) (tag_block tag) (tag_block tag + 1)
+  pub past : upto < end_of entry
+  pub kept : (j : ℕ) (d : Entry) (fork old new : ℕ) → index < j → get_elem? es j ≡ some d → d.change ≡ resize fork old new → new < old → is_cut fork new tag ≡ false
+
+-- The block isn't there, or what added it to its fork isn't in the lane's page
+pub record IsFresh (es : List Entry) (tag : ℕ) (h : Home) : Type 0 where
+  pub fresh : (h.inside ≡ false) ⊎ Extends es h.stored_upto tag
+  -- the lane holds zeros then, or what it held at the start
+  pub page : (h.stored ≡ Some zero_page) ⊎ (h.stored ≡ h.held)
+
 -- The lane holds no page of the block that is ahead of the flushed log
 pub record IsFlushedCell (origin : ℕ → Option Page) (log : Log) (flushed tag : ℕ) (h : Home) : Type 0 where
   -- the position up to which the block's entries are in its page is flushed
   pub based : log.base ≤ h.stored_upto
   pub within : h.stored_upto ≤ flushed
-  -- if the block is there, where the lane's contents are known, and the block's last write didn't fail, its page is the block's after the entries up to there
-  pub is_cell : h.inside ≡ true → h.known ≡ true → h.failed ≡ false → h.stored ≡ cell origin (cut h.stored_upto log.entries) tag
+  -- where the lane's contents are known, and the block's last write didn't fail, its page is the block's after the entries up to there, or it is fresh
+  pub is_cell : h.known ≡ true → h.failed ≡ false → (h.stored ≡ cell origin (cut h.stored_upto log.entries) tag) ⊎ IsFresh log.entries tag h

@@ -17,6 +17,7 @@ pub record IsSameOpening (s t : State) : Type 0 where
   pub lane_of : t.lane_of ≡ s.lane_of
   pub known : t.known ≡ s.known
   pub origin : t.origin ≡ s.origin
+  pub held : t.held ≡ s.held
   pub unsynced : t.unsynced_at_start ≡ s.unsynced_at_start
   pub base : t.log.base ≡ s.log.base
   pub names : t.names ≡ s.names

@@ -70,6 +70,8 @@ pub record State : Type 0 where
   -- how many blocks each fork had at the start, and the pages that the lanes held of them then, where their contents are known
   pub opened_sizes : ℕ → ℕ
   pub origin : ℕ → Option Page
+  -- the pages that the lanes held then, below the sizes and past them
+  pub held : ℕ → Option Page
   -- the blocks that had been written since their lanes' last sync at the start
   pub unsynced_at_start : ℕ → Bool
   pub log : Log
@@ -174,6 +176,7 @@ opening c store p = record {
   known = is_known store;
   opened_sizes = c.sizes;
   origin = page.below_sizes c.sizes store.origin;
+  held = store.origin;
   unsynced_at_start = store.unsynced;
   log = record { base = c.base; entries = [] };
   names = store.names;
