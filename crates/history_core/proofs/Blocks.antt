@@ -43,6 +43,7 @@ plain_keeps kinds.overwrite_logged h fr l q is x a = homes.overwrite_logged_keep
 plain_keeps (kinds.overwrite_read p) h fr l q is x a = homes.overwrite_read_keeps h fr l p a
 plain_keeps kinds.page_back h fr l q is x a = homes.page_back_keeps h fr l a
 plain_keeps (kinds.note_read p) h fr l q is x a = absurd x
+plain_keeps kinds.note_zero h fr l q is x a = homes.note_zero_keeps h fr l a
 plain_keeps kinds.begin_write h fr l q is x a = absurd x
 plain_keeps (kinds.note_write done) h fr l q is x a = absurd x
 plain_keeps (kinds.make_entry p) h fr l q is x a = absurd x

@@ -69,6 +69,7 @@ pages_clean kinds.overwrite_logged b fr e h = h
 pages_clean (kinds.overwrite_read p) b fr e h = h
 pages_clean kinds.page_back b fr e h = h
 pages_clean (kinds.note_read p) b fr e h = h
+pages_clean kinds.note_zero b fr e h = h
 pages_clean kinds.begin_write b fr e h = h
 pages_clean (kinds.note_write done) b fr e h = h
 pages_clean (kinds.make_entry p) b fr e h = h

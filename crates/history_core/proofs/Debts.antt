@@ -130,6 +130,7 @@ module _ (t : Taken) where
     pages_move (kinds.overwrite_read p) x a h = stays refl (λ e. e) (λ e. e)
     pages_move kinds.page_back x a h = stays refl (λ e. e) (λ e. e)
     pages_move (kinds.note_read p) x a h = absurd x
+    pages_move kinds.note_zero x a h = stays refl (λ e. e) (λ e. e)
     pages_move kinds.begin_write x a h = absurd x
     pages_move (kinds.note_write done) x a h = absurd x
     pages_move (kinds.make_entry p) x a h = absurd x
@@ -159,6 +160,7 @@ module _ (t : Taken) where
     pages_link (kinds.overwrite_read p) x a h = record { stored_or_left = h.stored_or_left; done = h.done }
     pages_link kinds.page_back x a h = record { stored_or_left = h.stored_or_left; done = h.done }
     pages_link (kinds.note_read p) x a h = absurd x
+    pages_link kinds.note_zero x a h = record { stored_or_left = h.stored_or_left; done = h.done }
     pages_link kinds.begin_write x a h = absurd x
     pages_link (kinds.note_write done) x a h = absurd x
     pages_link (kinds.make_entry p) x a h = absurd x

@@ -218,6 +218,13 @@ module _ (h : Home) (fr : Frame) (l : Link) where
     others = λ t n m q c le d. grind (arith, q, c, d, failed, stored);
   }
 
+  pub note_zero_keeps : Allowed kinds.note_zero h.block fr l → Keeps_by kinds.note_zero h (pages_home_after kinds.note_zero h) fr l
+  note_zero_keeps a = record {
+    column = λ t t' q c sums le _. grind (arith, q, c, a);
+    cell = λ t q le c. grind (arith, q, c, a);
+    others = λ t n m q c le d. grind (arith, q, c, d, a);
+  }
+
   pub begin_write_keeps : (h' : Home) → h'.block ≡ h.block → Allowed kinds.begin_write h.block fr l → Keeps_by kinds.begin_write h h' fr l
   begin_write_keeps h' same a = record {
     column = λ t t' q c sums le _. grind (arith, q, c, a, same);

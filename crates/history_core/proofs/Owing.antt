@@ -221,6 +221,7 @@ module _ (s : State) (h : HistoryInvariant s) (d : DebtsLaw s) where
       subst (λ (g : ℕ → Option Page). Debts t n (put frame f fr) s.end g (set views i w)) (λ j z. sym (put_same s.pool.logged fr.tag (s.pool.logged fr.tag) z refl) j)
       (noted_owe i f v w (link_after (note_write false) (block_of s.pool.logged fr.tag) fr (link v f)) there live inside refl refl refl refl refl (λ e. absurd (cc)))
   notes_owe i q f noted begin_write v there live low inside x = absurd x
+  notes_owe i q f noted kinds.note_zero v there live low inside x = absurd x
   notes_owe i q f noted (make_entry p) v there live low inside x = absurd x
   notes_owe i q f noted kinds.load_content v there live low inside x = absurd x
   notes_owe i q f noted kinds.mark_dirty v there live low inside x = absurd x

@@ -458,7 +458,7 @@ module _ (s : State) (h : HistoryInvariant s) (i q f : ℕ) (noted : Bool) (v : 
   note_known : s.known read_frame.tag ≡ true → HistoryInvariant (record s { pool = pool_after (note_read p) s.pool i f (laned (lane_kinds.lane_back noted) q v (paged (note_read p) s.pool f v)); lane = put s.lane q (s.lane q) })
   note_known e = let hm = home_of s read_frame.tag in let clean = (h.homes.columns f inside).clean is_input.0 is_input.1 in
       let held = (h.lanes.cells i v q there low).hold.read read_frame.tag p x.was_read (ap (λ (z : ℕ). (s.lane z).known) (sym x.lane) ∙ h.known read_frame.tag ∙ e) in let is : hm.stored ≡ Some p = ap (λ (z : ℕ). (s.lane z).stored read_frame.tag) x.lane ∙ held in
-      noted_keeps s h i q f noted (note_read p) v there live low inside back s.pool.logged h.pool (λ tag z. refl) (λ tag z. refl) (λ g below other. refl) (record { right = x.right; fresh = x.fresh; given = λ r z. same_Some r p (sym z ∙ clean.stored (frame_block s h f inside is_input.0) e ∙ is); zero = λ z. absurd (flags_differ (sym x.unnoted ∙ z)) }) tt refl
+      noted_keeps s h i q f noted (note_read p) v there live low inside back s.pool.logged h.pool (λ tag z. refl) (λ tag z. refl) (λ g below other. refl) (record { right = x.right; fresh = x.fresh; given = λ r z. same_Some r p (sym z ∙ clean.stored (frame_block s h f inside is_input.0) e ∙ is); unnoted = x.unnoted }) tt refl
       (homes.note_read_keeps hm read_frame (link v f) p hm refl refl refl (λ z. (z, refl)) x.right)
 
   -- where the contents aren't known the block's page is forgotten
@@ -467,7 +467,7 @@ module _ (s : State) (h : HistoryInvariant s) (i q f : ℕ) (noted : Bool) (v : 
       let else : (t : ℕ) → t ≢ tag → homes_with s g s.lane t ≡ home_of s t = (λ t other. ap (λ (o : Option Page). record (home_of s t) { block = record { logged = o } }) (put_else s.pool.logged tag None t other)) in
       noted_keeps s h i q f noted (note_read p) v there live low inside back g (forgets s.pool f h.pool inside is_input.0 is_input.2) (λ t z. put_else s.pool.logged tag None t (λ same. absurd (apart (sym (ap s.known same) ∙ z) e))) else
       (λ k below other. else (s.pool.core.frame k).tag (λ same. other (sym (h.pool.core.apart f k inside below is_input.0 (sym same)))))
-      (record { right = x.right; fresh = x.fresh; given = λ r z. let none = sym z ∙ put_here s.pool.logged tag None in absurd (cc); zero = λ z. absurd (flags_differ (sym x.unnoted ∙ z)) }) tt refl
+      (record { right = x.right; fresh = x.fresh; given = λ r z. let none = sym z ∙ put_here s.pool.logged tag None in absurd (cc); unnoted = x.unnoted }) tt refl
       (homes.note_read_keeps hm read_frame (link v f) p (homes_with s g s.lane tag) refl refl refl (λ z. absurd (apart z e)) x.right)
     where
       apart : {b : Bool} → b ≡ true → b ≡ false → ⊥
@@ -487,6 +487,7 @@ notes_step s h i q f noted (note_write true) v there live low inside back (p, x)
 notes_step s h i q f noted (note_write false) v there live low inside back x = let fr = s.pool.core.frame f in
     noted_keeps s h i q f noted (note_write false) v there live low inside back s.pool.logged h.pool (λ tag z. refl) (λ tag z. refl) (λ g below other. refl) x.right tt refl (homes.note_failed_keeps (home_of s fr.tag) fr (link v f) x.right)
 notes_step s h i q f noted begin_write v there live low inside back x = absurd x
+notes_step s h i q f noted kinds.note_zero v there live low inside back x = absurd x
 notes_step s h i q f noted (make_entry p) v there live low inside back x = absurd x
 notes_step s h i q f noted kinds.load_content v there live low inside back x = absurd x
 notes_step s h i q f noted kinds.mark_dirty v there live low inside back x = absurd x

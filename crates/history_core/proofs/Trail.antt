@@ -82,6 +82,7 @@ pages_list kinds.overwrite_logged f b fr cs = lists_none f fr.word cs
 pages_list (kinds.overwrite_read p) f b fr cs = lists_none f fr.word cs
 pages_list kinds.page_back f b fr cs = lists_none f fr.word cs
 pages_list (kinds.note_read p) f b fr cs = lists_none f fr.word cs
+pages_list kinds.note_zero f b fr cs = lists_none f fr.word cs
 pages_list kinds.begin_write f b fr cs = lists_none f fr.word cs
 pages_list (kinds.note_write done) f b fr cs = lists_none f fr.word cs
 pages_list (kinds.make_entry p) f b fr cs = lists_none f fr.word cs

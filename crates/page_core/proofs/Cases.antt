@@ -8,7 +8,7 @@ use Rattle.pin_core.specs.State.{Frame, Page}
 use Rattle.pin_core.specs.Kinds as pin_kinds
 use Rattle.page_core.specs.State.{Block}
 use Rattle.page_core.specs.Invariant.{page_part, pin_part}
-use Rattle.page_core.specs.Kinds.{Kind, load_content, mark_dirty, share, exclude, unshare, unexclude, take_copy, leave_copy, page_out, overwrite_logged, overwrite_read, page_back, note_read, begin_write, note_write, make_entry, start_input, start_output, clear_just_dirtied, end_io, set_waiter, clear_waiter, need_checkpoint, Allowed, frame_after, block_after, link_after}
+use Rattle.page_core.specs.Kinds.{Kind, load_content, mark_dirty, share, exclude, unshare, unexclude, take_copy, leave_copy, page_out, overwrite_logged, overwrite_read, page_back, note_read, note_zero, begin_write, note_write, make_entry, start_input, start_output, clear_just_dirtied, end_io, set_waiter, clear_waiter, need_checkpoint, Allowed, frame_after, block_after, link_after}
 use Rattle.page_core.proofs.KeepingPages as pages
 use Rattle.page_core.proofs.KeepingPages.{Keeps_by, Keeps_by_pins}
 use Rattle.page_core.proofs.KeepingPins as pins
@@ -28,6 +28,7 @@ pages_kept overwrite_logged b fr l a = pages.overwrite_logged_keeps b fr l a
 pages_kept (overwrite_read p) b fr l a = pages.overwrite_read_keeps b fr l p a
 pages_kept page_back b fr l a = pages.page_back_keeps b fr l a
 pages_kept (note_read p) b fr l a = pages.note_read_keeps b fr l p a
+pages_kept note_zero b fr l a = pages.note_zero_keeps b fr l a
 pages_kept begin_write b fr l a = pages.begin_write_keeps b fr l a
 pages_kept (note_write done) b fr l a = pages.note_write_keeps b fr l done a
 pages_kept (make_entry p) b fr l a = pages.make_entry_keeps b fr l p a
@@ -55,6 +56,7 @@ pins_kept overwrite_logged b fr l a = pins.overwrite_logged_keeps b fr l a
 pins_kept (overwrite_read p) b fr l a = pins.overwrite_read_keeps b fr l p a
 pins_kept page_back b fr l a = pins.page_back_keeps b fr l a
 pins_kept (note_read p) b fr l a = pins.note_read_keeps b fr l p a
+pins_kept note_zero b fr l a = pins.note_zero_keeps b fr l a
 pins_kept begin_write b fr l a = pins.begin_write_keeps b fr l a
 pins_kept (note_write done) b fr l a = pins.note_write_keeps b fr l done a
 pins_kept (make_entry p) b fr l a = pins.make_entry_keeps b fr l p a
@@ -83,6 +85,7 @@ tag_kept overwrite_logged b fr = refl
 tag_kept (overwrite_read p) b fr = refl
 tag_kept page_back b fr = refl
 tag_kept (note_read p) b fr = refl
+tag_kept note_zero b fr = refl
 tag_kept begin_write b fr = refl
 tag_kept (note_write done) b fr = refl
 tag_kept (make_entry p) b fr = refl
@@ -109,6 +112,7 @@ role_kept overwrite_logged b fr l = refl
 role_kept (overwrite_read p) b fr l = refl
 role_kept page_back b fr l = refl
 role_kept (note_read p) b fr l = refl
+role_kept note_zero b fr l = refl
 role_kept begin_write b fr l = refl
 role_kept (note_write done) b fr l = refl
 role_kept (make_entry p) b fr l = refl
@@ -135,6 +139,7 @@ noted_kept overwrite_logged b fr l = refl
 noted_kept (overwrite_read p) b fr l = refl
 noted_kept page_back b fr l = refl
 noted_kept (note_read p) b fr l = refl
+noted_kept note_zero b fr l = refl
 noted_kept begin_write b fr l = refl
 noted_kept (note_write done) b fr l = refl
 noted_kept (make_entry p) b fr l = refl
@@ -160,6 +165,7 @@ inside_kept overwrite_logged b fr l = refl
 inside_kept (overwrite_read p) b fr l = refl
 inside_kept page_back b fr l = refl
 inside_kept (note_read p) b fr l = refl
+inside_kept note_zero b fr l = refl
 inside_kept begin_write b fr l = refl
 inside_kept (note_write done) b fr l = refl
 inside_kept (make_entry p) b fr l = refl
@@ -187,6 +193,7 @@ wait_kept overwrite_logged b fr l = inr refl
 wait_kept (overwrite_read p) b fr l = inr refl
 wait_kept page_back b fr l = inr refl
 wait_kept (note_read p) b fr l = inr refl
+wait_kept note_zero b fr l = inr refl
 wait_kept begin_write b fr l = inr refl
 wait_kept (note_write done) b fr l = inr refl
 wait_kept (make_entry p) b fr l = inr refl

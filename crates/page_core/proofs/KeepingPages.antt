@@ -117,6 +117,13 @@ module _ (b : Block) (fr : Frame) (l : Link) where
     others = λ t n m q c le d. grind (arith, q, c, d, a);
   }
 
+  pub note_zero_keeps : Allowed kinds.note_zero b fr l → Keeps_by page_part kinds.note_zero b fr l
+  note_zero_keeps a = record {
+    column = λ t t' q c sums le _. grind (arith, q, c, a, sums sharers, sums applied_locks, sums unapplied_locks, sums copies, sums works, sums outs, sums (waits_as fr.word.waiter));
+    cell = λ t q le c. grind (arith, q, c, a);
+    others = λ t n m q c le d. grind (arith, q, c, d, a);
+  }
+
   pub begin_write_keeps : Allowed kinds.begin_write b fr l → Keeps_by page_part kinds.begin_write b fr l
   begin_write_keeps a = record {
     column = λ t t' q c sums le _. grind (arith, q, c, a, sums sharers, sums applied_locks, sums unapplied_locks, sums copies, sums works, sums outs, sums (waits_as fr.word.waiter));

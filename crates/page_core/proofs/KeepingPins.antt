@@ -103,6 +103,13 @@ module _ (b : Block) (fr : Frame) (l : Link) where
     others = λ t n m q c le d. grind (arith, q, c, d, a);
   }
 
+  pub note_zero_keeps : Allowed kinds.note_zero b fr l → Keeps_by pin_part kinds.note_zero b fr l
+  note_zero_keeps a = record {
+    column = λ t t' q c sums le _. grind (arith, q, c, a, sums (pin pins.pins), sums (pin pins.headers), sums (pin pins.pendings), sums (pin pins.settled_pins), sums (pin pins.settled_headers));
+    cell = λ t q le c. grind (arith, q, c, a);
+    others = λ t n m q c le d. grind (arith, q, c, d, a);
+  }
+
   pub begin_write_keeps : Allowed kinds.begin_write b fr l → Keeps_by pin_part kinds.begin_write b fr l
   begin_write_keeps a = record {
     column = λ t t' q c sums le _. grind (arith, q, c, a, sums (pin pins.pins), sums (pin pins.headers), sums (pin pins.pendings), sums (pin pins.settled_pins), sums (pin pins.settled_headers));

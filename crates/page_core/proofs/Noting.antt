@@ -16,7 +16,7 @@ use Rattle.pin_core.specs.Kinds as pin_kinds
 use Rattle.page_core.specs.State.{Block, zero_page}
 use Rattle.page_core.specs.Tallies.{Tally}
 use Rattle.page_core.specs.Invariant.{PageLink, NotedPage}
-use Rattle.page_core.specs.Kinds.{Kind, load_content, mark_dirty, share, exclude, unshare, unexclude, take_copy, leave_copy, page_out, overwrite_logged, overwrite_read, page_back, note_read, begin_write, note_write, make_entry, start_input, start_output, clear_just_dirtied, end_io, set_waiter, clear_waiter, need_checkpoint, Allowed, frame_after, link_after}
+use Rattle.page_core.specs.Kinds.{Kind, load_content, mark_dirty, share, exclude, unshare, unexclude, take_copy, leave_copy, page_out, overwrite_logged, overwrite_read, page_back, note_read, note_zero, begin_write, note_write, make_entry, start_input, start_output, clear_just_dirtied, end_io, set_waiter, clear_waiter, need_checkpoint, Allowed, frame_after, link_after}
 
 -- what a view notes of a frame, after a step of its own
 pub noted_own : (k : Kind) (b : Block) (fr : Frame) (l : Link) → Allowed k b fr l → PageLink b fr l → b.logged ≡ None → l.noted ≡ true → NotedPage fr l → NotedPage (frame_after k b fr) (link_after k b fr l)
@@ -33,6 +33,7 @@ noted_own overwrite_logged b fr l a c e n h = absurd ((c.unapplied a.unapplied).
 noted_own (overwrite_read p) b fr l a c e n h = grind (arith, h, a)
 noted_own page_back b fr l a c e n h = grind (arith, h)
 noted_own (note_read p) b fr l a c e n h = grind (arith, h, a, n)
+noted_own note_zero b fr l a c e n h = grind (arith, h, a, n)
 noted_own begin_write b fr l a c e n h = grind (arith, h)
 noted_own (note_write done) b fr l a c e n h = grind (arith, h)
 noted_own (make_entry p) b fr l a c e n h = grind (arith, h)
@@ -61,6 +62,7 @@ noted_other overwrite_logged b fr l m a c e n h = absurd ((c.unapplied a.unappli
 noted_other (overwrite_read p) b fr l m a c e n h = absurd (n a.right)
 noted_other page_back b fr l m a c e n h = grind (arith, h)
 noted_other (note_read p) b fr l m a c e n h = grind (arith, h)
+noted_other note_zero b fr l m a c e n h = grind (arith, h)
 noted_other begin_write b fr l m a c e n h = grind (arith, h)
 noted_other (note_write done) b fr l m a c e n h = grind (arith, h)
 noted_other (make_entry p) b fr l m a c e n h = grind (arith, h)
@@ -92,6 +94,7 @@ input_was overwrite_logged b fr l e = inl e
 input_was (overwrite_read p) b fr l e = inl e
 input_was page_back b fr l e = inl e
 input_was (note_read p) b fr l e = inl e
+input_was note_zero b fr l e = inl e
 input_was begin_write b fr l e = inl e
 input_was (note_write done) b fr l e = inl e
 input_was (make_entry p) b fr l e = inl e

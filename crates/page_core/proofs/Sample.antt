@@ -189,7 +189,7 @@ read_in = goes (cores (pin_steps.turns 0 0 take_turn (view_of sample_start) refl
     (goes (cores (pin_steps.turns 0 0 leave_turn (view_of s9) refl refl (lit< tt) (record { held = refl; home = refl; no_change = refl })))
     (goes (cores (pin_steps.touches 0 0 pins.lock_header (view_of s10) refl refl (lit< tt) (record { unlocked = refl }) (at_frame (λ (l : Link). l.header ≡ None) (view_of s10) _ refl refl refl)))
     (goes (touches 0 0 start_input (view_of s11) refl refl (lit< tt) (record { held = refl; settled = refl; pinned = λ e. cc; clear = refl; tagged = refl; invalid = refl }) (record { block = λ _. in_fork; none = at_frame (λ (l : Link). l.io ≡ Quiet) (view_of s11) _ refl refl refl }))
-    (goes (touches 0 0 (note_read example_page) (view_of s12) refl refl (lit< tt) (record { right = refl; fresh = refl; given = λ q e. same_page example_page q (sym (ap (λ (b : Bool). cond b (Some example_page) None) in_fork) ∙ e); zero = λ e. never e }) tt)
+    (goes (touches 0 0 (note_read example_page) (view_of s12) refl refl (lit< tt) (record { right = refl; fresh = refl; given = λ q e. same_page example_page q (sym (ap (λ (b : Bool). cond b (Some example_page) None) in_fork) ∙ e); unnoted = refl }) tt)
     (goes (touches 0 0 page_out (view_of s13) refl refl (lit< tt) (record { page_home = refl; shared = λ e. absurd (cc); unlocked = λ e. refl }) tt)
     (goes (touches 0 0 (overwrite_read example_page) (view_of s14) refl refl (lit< tt) (record { out = λ e. cc; once = refl; right = refl; read = refl }) tt)
     (goes (touches 0 0 page_back (view_of s15) refl refl (lit< tt) (record { out = λ e. cc }) tt)

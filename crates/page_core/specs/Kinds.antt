@@ -46,6 +46,8 @@ pub data Kind : Type 0 where
   page_back : Kind
   -- the lane gave this page of the block (`smgrread`)
   note_read : Page → Kind
+  -- the page of a block by which the fork is to grow is noted as if the lane had given it: it is all zero (`smgrzeroextend`)
+  note_zero : Kind
   -- a write of the frame's page to its lane begins: what was noted of an earlier one goes (`smgrwrite`)
   begin_write : Kind
   -- the lane took the frame's page, or failed to
@@ -125,12 +127,19 @@ pub record CanOverwriteRead (p : Page) (fr : Frame) (l : Link) : Type 0 where
 pub record CanReturnPage (fr : Frame) (l : Link) : Type 0 where
   pub out : l.out ≢ None
 
--- the page is the block's page after the log, where that is known, and no earlier read is just being put into the frame; the page of a block by which the fork is to grow is all zero
+-- the page is the block's page after the log, where that is known, and no earlier read is just being put into the frame; the block isn't one by which the fork is to grow
 pub record CanNoteRead (p : Page) (b : Block) (fr : Frame) (l : Link) : Type 0 where
   pub right : l.io ≡ Input
   pub fresh : l.overwritten ≡ None
   pub given : (q : Page) → b.logged ≡ Some q → q ≡ p
-  pub zero : l.noted ≡ true → p ≡ zero_page
+  pub unnoted : l.noted ≡ false
+
+-- no page of the block is in the log
+pub record CanNoteZero (b : Block) (fr : Frame) (l : Link) : Type 0 where
+  pub right : l.io ≡ Input
+  pub fresh : l.overwritten ≡ None
+  pub noted : l.noted ≡ true
+  pub given : (q : Page) → b.logged ≡ Some q → q ≡ zero_page
 
 pub record CanNoteWrite (fr : Frame) (l : Link) : Type 0 where
   pub right : l.io ≡ Output
@@ -221,6 +230,7 @@ Allowed overwrite_logged b fr l = CanOverwriteLogged fr l
 Allowed (overwrite_read p) b fr l = CanOverwriteRead p fr l
 Allowed page_back b fr l = CanReturnPage fr l
 Allowed (note_read p) b fr l = CanNoteRead p b fr l
+Allowed note_zero b fr l = CanNoteZero b fr l
 Allowed begin_write b fr l = CanNoteWrite fr l
 Allowed (note_write done) b fr l = CanNoteWrite fr l
 Allowed (make_entry p) b fr l = CanMakeEntry p fr l
@@ -300,6 +310,7 @@ link_after overwrite_logged b fr l = record l { overwritten = Some (image_over b
 link_after (overwrite_read p) b fr l = record l { overwritten = Some p }
 link_after page_back b fr l = record l { out = None; overwritten = None; copied = copied_after l.content l.unapplied fr.page l.copied; read_is_home = home_after l.io l.overwritten l.read_is_home }
 link_after (note_read p) b fr l = record l { read = Some p; read_is_home = false }
+link_after note_zero b fr l = record l { read = Some zero_page; read_is_home = false }
 link_after begin_write b fr l = record l { last_write = Unwritten }
 link_after (note_write done) b fr l = record l { last_write = write_noted done }
 link_after (make_entry p) b fr l = record l { entered = true; unapplied = true; image = Some p; copied = None }
