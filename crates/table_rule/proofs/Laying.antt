@@ -9,7 +9,7 @@ use lib.ListN.{get_elem?}
 use Rattle.std.specs.Option.{option_to_list}
 use Rattle.grid.proofs.Lists.{at_end, at_longer}
 use Rattle.atomic_table.proofs.Lists.{at_last}
-use Rattle.history_core.specs.Log.{zero_page}
+use Rattle.page_core.specs.State.{zero_page}
 use Rattle.table_rule.specs.declared.value.Value.{Value}
 use Rattle.table_rule.specs.declared.value.Value.TheVariants as value
 use Rattle.pin_core.specs.Turns.{found}

@@ -5,3 +5,4 @@ pub mod TakenBlocks
 pub mod LanesOut
 pub mod Opens
 pub mod Emptying
+pub mod Sizes

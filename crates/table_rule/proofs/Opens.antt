@@ -1,5 +1,5 @@
 -- The table at the start shows the state at the start.
-use Rattle.std.proofs.Common.{◌≡◌, ℕ, zero, suc, ◌+◌, ◌*◌, ◌-◌, ◌<◌, ◌≤◌, ◌%◌, ◌^◌, Bool, false, true, Option, Some, None, List, [], ◌∷◌, ◌++◌, map, replicate, length, get_or, length-append, append_assoc, sym, refl, ap, ◌∙◌, subst, arith}
+use Rattle.std.proofs.Common.{◌≡◌, ℕ, zero, suc, ◌+◌, ◌*◌, ◌-◌, ◌<◌, ◌≤◌, ◌%◌, ◌^◌, Bool, false, true, cond, Option, Some, None, List, [], ◌∷◌, ◌++◌, map, replicate, length, get_or, length-append, append_assoc, sym, refl, ap, ◌∙◌, subst, arith}
 use Rattle.std.specs.Option.{is_some}
 use Rattle.std.specs.Prelude.{slice_get, Vec}
 use Rattle.std.specs.Global.{Global}
@@ -19,7 +19,8 @@ use Rattle.pin_core.specs.State.{Page, zero_word, empty_frame}
 use Rattle.pin_core.specs.State as pin_state
 use Rattle.history_core.specs.State.{State, Store}
 use Rattle.history_core.specs.State as history
-use Rattle.history_core.specs.Log.{head_bytes, zero_page}
+use Rattle.page_core.specs.State.{zero_page}
+use Rattle.history_core.specs.Log.{head_bytes}
 use Rattle.history_core.specs.Words.{Word, end_word, flushed_word, redo_word, hand_word, counter_word, counter_count, hint_word, hint_count, word_of}
 use Rattle.history_core.proofs.Laws.{laws_open}
 use Rattle.table_rule.specs.declared.noted_log.NotedLog.{NotedLog}
@@ -32,9 +33,10 @@ use Rattle.table_rule.specs.declared.turn.Turn.{Turn}
 use Rattle.table_rule.specs.declared.turn.Turn.TheVariants as turn
 use Rattle.pin_core.specs.Tallies.{flag_weight}
 use Rattle.table_rule.specs.Layout.{latch_place, latch_count, word_place, HasWord, opening_numbers, word_count, first_lane_slot, log_slot, list_slot, slot_count, tag_partition, partition_of_tag, tag_lane, lane_of_tag}
-use Rattle.table_rule.specs.Blocks.{is_block, log_name, name_of, name_in}
+use Rattle.table_rule.specs.Blocks.{fork_size, is_fork, log_name, name_of, name_in}
 use Rattle.table_rule.specs.Shows.{is_taken, HasTurn, ShowsFrame, IsHome, Devices, IsPlaced, IsLane, IsLog, AreLanes, IsNewLog, GivesMap, IsPlaceIn, HasValue, RuleHolds, starting}
 use Rattle.table_rule.specs.Laid.{AreOpening, AreSlots, EndsWith, home_lane, home_lanes, home_log, lanes_among, HasNoDevices}
+use Rattle.table_rule.proofs.Sizes.{named_below}
 use Rattle.table_rule.proofs.Laying.{lanes_append, plain_both, lanes_pages, plain_pages, lanes_aways, plain_aways, lanes_lanes, plain_lanes, lanes_counted, lane_numbered, lanes_maps, plain_maps, lanes_before, snoc_same}
 
 zero_fields : zero_word ≡ fields 0
@@ -281,7 +283,7 @@ module _ {L G : Type 0} (d : Devices L G) (n : ℕ) (lanes : List L) (log : G) (
 
 module _ {L G : Type 0} (d : Devices L G) (o : Opening L G) where
   abbrev config_of : pin_state.Config
-  config_of = record { frames = o.config.frames; partitions = 128; partition_of = tag_partition; is_block = is_block o.catalog.value; lanes = o.config.lanes; backends = o.config.passes; base = o.base }
+  config_of = record { frames = o.config.frames; partitions = 128; partition_of = tag_partition; is_fork = is_fork o.catalog.value; sizes = fork_size o.catalog.value; resizes = false; lanes = o.config.lanes; backends = o.config.passes; base = o.base }
 
   abbrev start : State
   start = history.opening config_of (store_of d o.catalog.value o.lanes.value.items o.log.value o.base) zero_page
@@ -339,7 +341,9 @@ module _ {L G : Type 0} (d : Devices L G) (o : Opening L G) where
         base = refl;
         partitions = refl;
         partition_of = refl;
-        is_block = refl;
+        is_fork = refl;
+        sizes = refl;
+        resizes = refl;
         names = refl;
         ranges = refl;
         lanes = refl;
@@ -348,7 +352,7 @@ module _ {L G : Type 0} (d : Devices L G) (o : Opening L G) where
         few_lanes = (let a = h.few in omega arith);
         known = λ q l word at placed. ap (λ (k : ℕ). known_in d o.catalog.value lanes o.log.value o.base (get_elem? lanes k)) (ap (λ (m : ℕ). tag_lane m word) count ∙ placed) ∙ ap (known_in d o.catalog.value lanes o.log.value o.base) at;
         held = λ q l known word tag at told placed. are.held q l known word tag at told (subst (λ (m : ℕ). IsPlaced o.catalog.value m q word tag) (sym count) placed);
-        origin = λ q l known word tag at told placed. origin_is d o.catalog.value lanes o.log.value o.base are q l known word tag at told (subst (λ (m : ℕ). IsPlaced o.catalog.value m q word tag) (sym count) placed);
+        origin = λ q l known word tag at told placed. origin_is d o.catalog.value lanes o.log.value o.base are q l known word tag at told (subst (λ (m : ℕ). IsPlaced o.catalog.value m q word tag) (sym count) placed) ∙ sym (ap (λ (b : Bool). cond b (store.origin word) None) (named_below o.catalog.value word tag placed.named placed.listed));
         unsynced = λ q l word tag at placed. unsynced_is d o.catalog.value lanes o.log.value o.base q l word tag at (subst (λ (m : ℕ). IsPlaced o.catalog.value m q word tag) (sym count) placed);
         reads = λ q l at. ap (faults_in d o.catalog.value lanes o.log.value o.base d.read_faults) at;
         writes = λ q l at. ap (faults_in d o.catalog.value lanes o.log.value o.base d.write_faults) at;
@@ -365,7 +369,7 @@ module _ {L G : Type 0} (d : Devices L G) (o : Opening L G) where
       homes = homes ys h count are new;
       list = record { list = h.list; home = at_map some ys (list_slot n) (value.Lanes h.list) (list_at d n lanes o.log.value ys h); empty = h.empty; room = (let a = h.list_room in omega arith); spare = λ q from below. at_map some ys (first_lane_slot n + q) value.Away (spare_at d n lanes o.log.value ys h q (omega arith) below) };
     };
-    laws = laws_open config_of store zero_page (record { some_backend = some_backend; placed = λ word. partition_low (unpacked_tag word) }) (record { placed = λ word. subst (λ (m : ℕ). tag_lane m word < o.config.lanes) (sym count) (lane_low o.config.lanes some_lane (unpacked_tag word)); based = based; named = names_long o.catalog.value; synced = synced_low d o.catalog.value lanes o.log.value o.base new; there = λ word block known. refl });
+    laws = laws_open config_of store zero_page (record { some_backend = some_backend; placed = λ word. partition_low (unpacked_tag word) }) (record { placed = λ word. subst (λ (m : ℕ). tag_lane m word < o.config.lanes) (sym count) (lane_low o.config.lanes some_lane (unpacked_tag word)); based = based; named = names_long o.catalog.value; synced = synced_low d o.catalog.value lanes o.log.value o.base new; there = λ word block known. refl; quiet = refl });
   }
 
   -- the same, where the devices are given beside the key

@@ -1,5 +1,5 @@
 -- What a catalogue says of blocks, by the numbers of their tags.
-use Rattle.std.specs.Prelude.{ℕ, Bool, false, nat_lt, List, ◌++◌, replicate, slice_get, Option, Some, None}
+use Rattle.std.specs.Prelude.{ℕ, ◌-◌, ◌*◌, ◌^◌, Bool, false, nat_lt, List, ◌++◌, replicate, length, slice_get, Option, Some, None, if◌then◌else◌}
 use Rattle.byteorder.specs.Endian.{little_bytes}
 use Rattle.block_tag.specs.declared.tag.Tag.{Tag}
 use Rattle.block_tag.specs.declared.catalogue.RelEntry.{RelEntry}
@@ -17,6 +17,26 @@ has_named relations (Some tag) = has_block relations tag
 -- by the tag's number; false for a number that is no tag
 unfoldable pub is_block : List RelEntry → ℕ → Bool
 is_block relations word = has_named relations (unpacked_tag word)
+
+-- how many blocks the fork of a tag has, and whether there is one
+abbrev pub size_named : List RelEntry → Option Tag → ℕ
+size_named relations None = 0
+size_named relations (Some tag) = blocks_at relations tag.rel.0 tag.fork
+
+abbrev pub is_in : List RelEntry → Option Tag → Bool
+is_in relations None = false
+is_in relations (Some tag) = nat_lt tag.rel.0 (length relations)
+
+-- at most so many blocks, by the fork's number: the last block number is the invalid one
+abbrev pub fewer : ℕ → ℕ
+fewer n = if nat_lt n (2 ^ 32 - 1) then n else 2 ^ 32 - 1
+
+unfoldable pub fork_size : List RelEntry → ℕ → ℕ
+fork_size relations fork = fewer (size_named relations (unpacked_tag (fork * 2 ^ 32)))
+
+-- a fork is numbered by the relation's place and its own number
+unfoldable pub is_fork : List RelEntry → ℕ → Bool
+is_fork relations fork = is_in relations (unpacked_tag (fork * 2 ^ 32))
 
 -- How the log names a block: the relation's three numbers, the fork, and the block, in 4 bytes each
 abbrev pub block_name : RelEntry → Tag → List ℕ

@@ -7,7 +7,8 @@ use Rattle.pin_core.specs.State.{no_tag}
 use Rattle.table_rule.specs.declared.value.Value.{Value}
 use Rattle.table_rule.specs.declared.value.Value.TheVariants as value
 use Rattle.table_rule.specs.Layout.{state_place, tag_place, content_place, latch_count, opening_numbers}
-use Rattle.history_core.specs.Log.{record_size, zero_page}
+use Rattle.page_core.specs.State.{zero_page}
+use Rattle.history_core.specs.Log.{record_size}
 use Rattle.table_rule.specs.declared.build.Room.{Room}
 use Rattle.table_rule.specs.declared.noted_lane.LaneCall.TheVariants as lane_call
 use Rattle.table_rule.specs.declared.noted_log.LogCall.TheVariants as log_call

@@ -31,7 +31,7 @@ use Rattle.table_rule.specs.declared.turn.Place.{Place}
 use Rattle.table_rule.specs.declared.turn.Place.TheVariants as place
 use Rattle.table_rule.specs.declared.turn.Turn.{Turn}
 use Rattle.table_rule.specs.declared.turn.Turn.TheVariants as turn
-use Rattle.table_rule.specs.Blocks.{has_block, is_block, log_name}
+use Rattle.table_rule.specs.Blocks.{has_block, fork_size, is_fork, log_name}
 use Rattle.table_rule.specs.Layout.{state_place, tag_place, content_place, latch_place, word_place, HasWord, word_count, slot_of, list_slot, slot_count, tag_partition, tag_lane}
 
 -- What the words say of the frame f
@@ -69,7 +69,10 @@ pub record Fixed : Type 0 where
   pub base : ℕ
   pub partitions : ℕ
   pub partition_of : ℕ → ℕ
-  pub is_block : ℕ → Bool
+  -- the forks, their sizes at the start, and whether they may grow and shrink
+  pub is_fork : ℕ → Bool
+  pub sizes : ℕ → ℕ
+  pub resizes : Bool
   pub names : ℕ → List ℕ
   -- whether entries may be made of ranges
   pub ranges : Bool
@@ -91,7 +94,9 @@ fixed_of s = record {
   base = s.log.base;
   partitions = s.pool.core.partitions;
   partition_of = s.pool.core.partition_of;
-  is_block = s.pool.core.is_block;
+  is_fork = s.pool.core.is_fork;
+  sizes = s.opened_sizes;
+  resizes = s.pool.core.resizes;
   names = s.names;
   ranges = s.ranges;
   lanes = s.lanes;
@@ -235,8 +240,10 @@ module _ {L G : Type 0} where
     pub base : s.base ≡ o.base
     pub partitions : s.partitions ≡ 128
     pub partition_of : s.partition_of ≡ tag_partition
-    -- the blocks are those of the catalogue, and the log names them by it
-    pub is_block : s.is_block ≡ is_block o.catalog.value
+    -- the blocks are those of the catalogue, and the log names them by it; forks don't grow or shrink on the table
+    pub is_fork : s.is_fork ≡ is_fork o.catalog.value
+    pub sizes : s.sizes ≡ fork_size o.catalog.value
+    pub resizes : s.resizes ≡ false
     pub names : s.names ≡ log_name o.catalog.value
     -- no entry of ranges is made on the table
     pub ranges : s.ranges ≡ false

@@ -1,7 +1,7 @@
 //! What a table is built of.
 ghost use Rattle.std.specs.Prelude.{◌≡◌, ◌+◌, ◌<◌, Vec, ◌≤◌, List, [], ◌∷◌, ◌++◌, length, replicate, vec_len, vec_capacity, IfOk};
 ghost use Rattle.std.specs.Global.{Global};
-ghost use Rattle.history_core.specs.Log.{zero_page};
+ghost use Rattle.page_core.specs.State.{zero_page};
 ghost use Rattle.table_rule.specs.declared.noted_log.NotedLog.{NotedLog};
 ghost use Rattle.table_rule.specs.declared.value.Value.{Value};
 ghost use Rattle.table_rule.specs.declared.value.Value.TheVariants as value;

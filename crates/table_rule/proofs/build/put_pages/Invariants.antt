@@ -1,7 +1,7 @@
 use Rattle.std.proofs.Common.{◌≡◌, ◌≤◌, ◌+◌, ◌++◌, replicate}
 use Rattle.std.specs.Prelude.{vec_len, vec_capacity}
 use Rattle.table_rule.specs.declared.value.Value.TheVariants as value
-use Rattle.history_core.specs.Log.{zero_page}
+use Rattle.page_core.specs.State.{zero_page}
 use Rattle.table_rule.proofs.build.put_pages.Given as goal
 
 abbrev pub invariant-loop-page : goal.invariant-loop-page

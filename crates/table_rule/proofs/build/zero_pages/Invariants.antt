@@ -1,5 +1,5 @@
 use Rattle.std.proofs.Common.{◌≡◌, replicate}
-use Rattle.history_core.specs.Log.{zero_page}
+use Rattle.page_core.specs.State.{zero_page}
 use Rattle.table_rule.proofs.build.zero_pages.Given as goal
 
 abbrev pub invariant-loop : goal.invariant-loop
