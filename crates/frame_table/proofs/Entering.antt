@@ -38,6 +38,7 @@ use Rattle.table_rule.proofs.Places.{latch_apart, said}
 use Rattle.table_rule.specs.Shows.{ShowsFrame, ShowsLatches, is_out, is_taken, Devices, Shows, RuleHolds}
 use Rattle.frame_table.specs.Entering.{MayBecomeEntry, IsRecord, MayStoreEnd, DidEnter, view_entered, tells_end}
 use Rattle.frame_table.proofs.Frames.{frame_else, lane_none, device_none, same_at, home_before, gives_same}
+use Rattle.history_core.proofs.Stepping.{frame_block}
 use Rattle.frame_table.proofs.LogNames.{record_is}
 
 -- a view with the content lock of a frame has a link there
@@ -56,7 +57,7 @@ module _ (s : State) (id : ℕ) (v : View) (laws : Laws s) (there : get_elem? s.
     inside = inside;
     tagged = ((laws.invariant.pool.core.grid.cells id v f there inside).remembers (packed_tag tag) e.remembered).1;
     right = record { right = e.right; dirtied = e.dirtied; applied = e.applied f; sound = e.sound; used = e.used };
-    around = e.applied;
+    around = record { block = frame_block s laws.invariant f inside ((laws.invariant.pool.core.grid.cells id v f there inside).remembers (packed_tag tag) e.remembered).0.named; none = e.applied };
     full = e.full;
     ends = e.ends ∙ ap (λ (n : ℕ). n + record_size) same;
     room = (let z = e.room in omega arith);

@@ -1,5 +1,5 @@
 -- Operations on state words of content locks, of input and output, of waits and of checkpoints, and what they leave.
-use Rattle.std.proofs.Common.{◌≡◌, ℕ, ◌<◌, eqb, Bool, true, false, Some, sym, refl, ap, ◌∙◌, subst, arith}
+use Rattle.std.proofs.Common.{◌≡◌, ◌≢◌, ℕ, ◌<◌, ◌≤◌, eqb, Bool, true, false, Some, sym, refl, ap, ◌∙◌, subst, arith}
 use mathlib.Core.Option.{none, some}
 use lib.ListN.{get_elem?}
 use prog.Atomic.{either}
@@ -10,7 +10,11 @@ use Rattle.state_word.specs.Fields.{fields, unlocked_fields, dirtied_fields, io_
 use Rattle.pin_core.specs.declared.view.View.{View}
 use Rattle.pin_core.specs.declared.view.Link.{Link}
 use Rattle.pin_core.specs.declared.view.Content.TheVariants.{Exclusive}
-use Rattle.pin_core.specs.State.{link}
+use Rattle.pin_core.specs.State.{Frame, link, no_tag}
+use Rattle.pin_core.specs.Tallies.{Tally, settled_headers, weigh, frame_shape}
+use Rattle.pin_core.specs.Invariant.{FrameLaw}
+use Rattle.grid.specs.Shape.{tallies}
+use Rattle.grid.proofs.Sums.{term_le}
 use Rattle.page_core.specs.Kinds as paged
 use Rattle.page_core.specs.Steps.{HasNoIo, HasNoWriteOut, MayWait}
 use Rattle.history_core.specs.Laws.{Laws}
@@ -18,6 +22,7 @@ use Rattle.history_core.specs.State.{State}
 use Rattle.table_rule.specs.declared.value.Value.{Value}
 use Rattle.table_rule.specs.declared.opening.Opening.{Opening}
 use Rattle.table_rule.specs.Layout.{state_place}
+use Rattle.history_core.proofs.Stepping.{frame_block}
 use Rattle.frame_table.specs.Kinds.{FrameKind, pages, state_word, part_of}
 use Rattle.table_rule.specs.Shows.{Devices, RuleHolds}
 use Rattle.frame_table.specs.Seats.{Looked}
@@ -53,14 +58,18 @@ pub start_part : (input : Bool) → part_of (pages (start_of input)) ≡ state_w
 start_part true = refl
 start_part false = refl
 
+-- under the header BM_TAG_VALID says that there is a tag
+tagged_held : (fr : Frame) (l : Link) (t : Tally → ℕ) → FrameLaw fr t → weigh settled_headers l ≤ t settled_headers → l.header ≡ Some fr.word → l.pending ≡ false → fr.word.tag_valid ≡ true → fr.tag ≢ no_tag
+tagged_held fr l t q le held settled tagged = grind (arith, q, le, held, settled, tagged)
+
 module _ {L G : Type 0} (d : Devices L G) (o : Opening L G) where
   -- a step of the kind k under the header, whose word becomes `new`
   pub gives_up : (k : FrameKind) → part_of k ≡ state_word → (slots id f word new : ℕ) (me : Me (Value L G) View) → f < o.config.frames → me.0.emptied ≡ false → (link me.0 f).header ≡ Some (fields word)
-      → ((s : State) → (s.pool.core.frame f).word ≡ fields word → (link me.0 f).header ≡ Some (s.pool.core.frame f).word → AsksWord k s f new me.0)
+      → ((s : State) → Laws s → get_elem? s.pool.core.views id ≡ some me.0 → f < s.pool.core.frames → (s.pool.core.frame f).word ≡ fields word → (link me.0 f).header ≡ Some (s.pool.core.frame f).word → AsksWord k s f new me.0)
       → Allows (RuleHolds d o) slots id me (state_place f) (λ _. new) (tells (always k) (step slots (state_place f) new 0 none) me)
   gives_up k part slots id f word new me below live held asked = subst (λ (i : ℕ). Allows (RuleHolds d o) slots id me i (λ _. new) (tells (always k) (step slots i new 0 none) me)) at (acts d o (always k) slots id f new 0 (λ _. new) me below live
       (λ t s h laws there small. let is = word_held s id f word me.0 laws there (let e = h.fixed.frames in omega arith) held in
-      subst (λ (i : ℕ). Asks k t s f i new me.0) (sym at) (at_word d o k t s f new me.0 below h (asked s is (held ∙ ap (λ (w : StateWord). Some w) (sym is))))))
+      subst (λ (i : ℕ). Asks k t s f i new me.0) (sym at) (at_word d o k t s f new me.0 below h (asked s laws there (let e = h.fixed.frames in omega arith) is (held ∙ ap (λ (w : StateWord). Some w) (sym is))))))
     where
       at : part_place (part_of k) f ≡ state_place f
       at = ap (λ p. part_place p f) part
@@ -77,14 +86,14 @@ module _ {L G : Type 0} (d : Devices L G) (o : Opening L G) where
 
   pub begins_there : (input : Bool) (slots id f word new : ℕ) (me : Me (Value L G) View) → f < o.config.frames → me.0.emptied ≡ false → CanBeginIo input word (link me.0 f) → HasNoIo me.0 → fields new ≡ unlocked_fields (io_started_fields (fields word))
       → Allows (RuleHolds d o) slots id me (state_place f) (λ _. new) (tells (always (pages (start_of input))) (step slots (state_place f) new 0 none) me)
-  begins_there true slots id f word new me below live may quiet made = gives_up (pages paged.start_input) refl slots id f word new me below live may.held (λ s is held. let r = may.to_read refl in record {
+  begins_there true slots id f word new me below live may quiet made = gives_up (pages paged.start_input) refl slots id f word new me below live may.held (λ s laws there inside is held. let r = may.to_read refl in record {
     allowed = (tt, record { held = held; settled = may.settled; pinned = may.pinned; clear = ap (λ (w : StateWord). w.in_progress) is ∙ may.clear; tagged = ap (λ (w : StateWord). w.tag_valid) is ∙ r.0; invalid = ap (λ (w : StateWord). w.valid) is ∙ r.1 });
-    around = quiet;
+    around = record { block = λ _. frame_block s laws.invariant f inside (tagged_held (s.pool.core.frame f) (link me.0 f) (tallies frame_shape s.pool.core.views f) (laws.invariant.pool.core.grid.columns f inside) (term_le (λ (u : View). weigh settled_headers (link u f)) s.pool.core.views id me.0 there) held may.settled (ap (λ (w : StateWord). w.tag_valid) is ∙ r.0)); none = quiet };
     word = ap (λ (w : StateWord). unlocked_fields (io_started_fields w)) is ∙ sym made;
     rest = record { tag = refl; sharers = refl; exclusive = refl; copying = refl; page = refl };
     out = refl;
   })
-  begins_there false slots id f word new me below live may quiet made = gives_up (pages paged.start_output) refl slots id f word new me below live may.held (λ s is held. let r = may.to_write refl in record {
+  begins_there false slots id f word new me below live may quiet made = gives_up (pages paged.start_output) refl slots id f word new me below live may.held (λ s laws there inside is held. let r = may.to_write refl in record {
     allowed = (tt, record { held = held; settled = may.settled; pinned = may.pinned; clear = ap (λ (w : StateWord). w.in_progress) is ∙ may.clear; dirty = ap (λ (w : StateWord). w.dirty) is ∙ r.0; right = r.1 });
     around = quiet;
     word = ap (λ (w : StateWord). unlocked_fields (io_started_fields w)) is ∙ sym made;
@@ -94,7 +103,7 @@ module _ {L G : Type 0} (d : Devices L G) (o : Opening L G) where
 
   pub finishes_there : (end : IoEnd) (slots id f word new : ℕ) (me : Me (Value L G) View) → f < o.config.frames → me.0.emptied ≡ false → CanFinishIo end word (link me.0 f) → HasNoWriteOut me.0 f → fields new ≡ unlocked_fields (io_ended_fields end (fields word))
       → Allows (RuleHolds d o) slots id me (state_place f) (λ _. new) (tells (always (pages (paged.end_io end))) (step slots (state_place f) new 0 none) me)
-  finishes_there end slots id f word new me below live may no_write made = gives_up (pages (paged.end_io end)) refl slots id f word new me below live may.held (λ s is held. record {
+  finishes_there end slots id f word new me below live may no_write made = gives_up (pages (paged.end_io end)) refl slots id f word new me below live may.held (λ s laws there inside is held. record {
     allowed = (tt, record { held = held; page_home = may.page_home; ends = may.ends });
     around = no_write;
     word = ap (λ (w : StateWord). unlocked_fields (io_ended_fields end w)) is ∙ sym made;
@@ -104,7 +113,7 @@ module _ {L G : Type 0} (d : Devices L G) (o : Opening L G) where
 
   pub clears_just_there : (slots id f word new : ℕ) (me : Me (Value L G) View) → f < o.config.frames → me.0.emptied ≡ false → CanClearJust word (link me.0 f) → fields new ≡ unlocked_fields (just_dirtied_cleared_fields (fields word))
       → Allows (RuleHolds d o) slots id me (state_place f) (λ _. new) (tells (always (pages paged.clear_just_dirtied)) (step slots (state_place f) new 0 none) me)
-  clears_just_there slots id f word new me below live may made = gives_up (pages paged.clear_just_dirtied) refl slots id f word new me below live may.held (λ s is held. record {
+  clears_just_there slots id f word new me below live may made = gives_up (pages paged.clear_just_dirtied) refl slots id f word new me below live may.held (λ s laws there inside is held. record {
     allowed = (tt, record { held = held; right = may.right });
     around = tt;
     word = ap (λ (w : StateWord). unlocked_fields (just_dirtied_cleared_fields w)) is ∙ sym made;
@@ -114,7 +123,7 @@ module _ {L G : Type 0} (d : Devices L G) (o : Opening L G) where
 
   pub needs_there : (slots id f word new : ℕ) (me : Me (Value L G) View) → f < o.config.frames → me.0.emptied ≡ false → CanNeed word (link me.0 f) → fields new ≡ unlocked_fields (checkpoint_needed_fields (fields word))
       → Allows (RuleHolds d o) slots id me (state_place f) (λ _. new) (tells (always (pages paged.need_checkpoint)) (step slots (state_place f) new 0 none) me)
-  needs_there slots id f word new me below live may made = gives_up (pages paged.need_checkpoint) refl slots id f word new me below live may.held (λ s is held. record {
+  needs_there slots id f word new me below live may made = gives_up (pages paged.need_checkpoint) refl slots id f word new me below live may.held (λ s laws there inside is held. record {
     allowed = (tt, record { held = held; settled = may.settled; dirty = ap (λ (w : StateWord). w.dirty) is ∙ may.dirty });
     around = tt;
     word = ap (λ (w : StateWord). unlocked_fields (checkpoint_needed_fields w)) is ∙ sym made;
@@ -124,7 +133,7 @@ module _ {L G : Type 0} (d : Devices L G) (o : Opening L G) where
 
   pub awaits_there : (number slots id f word new : ℕ) (me : Me (Value L G) View) → f < o.config.frames → me.0.emptied ≡ false → CanAwait word (link me.0 f) → MayWait number me.0 → fields new ≡ unlocked_fields (waiter_set_fields number (fields word))
       → Allows (RuleHolds d o) slots id me (state_place f) (λ _. new) (tells (always (pages (paged.set_waiter number))) (step slots (state_place f) new 0 none) me)
-  awaits_there number slots id f word new me below live can may made = gives_up (pages (paged.set_waiter number)) refl slots id f word new me below live can.held (λ s is held. record {
+  awaits_there number slots id f word new me below live can may made = gives_up (pages (paged.set_waiter number)) refl slots id f word new me below live can.held (λ s laws there inside is held. record {
     allowed = (tt, record { held = held; settled = can.settled; pinned = can.pinned; right = can.right; free = ap (λ (w : StateWord). w.awaited) is ∙ can.free });
     around = may;
     word = ap (λ (w : StateWord). unlocked_fields (waiter_set_fields number w)) is ∙ sym made;
@@ -134,7 +143,7 @@ module _ {L G : Type 0} (d : Devices L G) (o : Opening L G) where
 
   pub wakes_there : (slots id f word new : ℕ) (me : Me (Value L G) View) → f < o.config.frames → me.0.emptied ≡ false → CanWake word (link me.0 f) → fields new ≡ unlocked_fields (waiter_cleared_fields (fields word))
       → Allows (RuleHolds d o) slots id me (state_place f) (λ _. new) (tells (always (pages paged.clear_waiter)) (step slots (state_place f) new 0 none) me)
-  wakes_there slots id f word new me below live may made = gives_up (pages paged.clear_waiter) refl slots id f word new me below live may.held (λ s is held. record {
+  wakes_there slots id f word new me below live may made = gives_up (pages paged.clear_waiter) refl slots id f word new me below live may.held (λ s laws there inside is held. record {
     allowed = (tt, record { held = held; settled = may.settled; awaited = ap (λ (w : StateWord). w.awaited) is ∙ may.awaited; single = ap (λ (w : StateWord). w.pins) is ∙ may.single });
     around = tt;
     word = ap (λ (w : StateWord). unlocked_fields (waiter_cleared_fields w)) is ∙ sym made;

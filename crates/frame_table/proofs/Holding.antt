@@ -39,6 +39,9 @@ use Rattle.table_rule.specs.Blocks.{has_block, has_named, is_block}
 use Rattle.block_tag.specs.declared.catalogue.RelEntry.{RelEntry}
 use Rattle.table_rule.specs.Layout.{state_place, tag_place, tag_partition, partition_of_tag}
 use Rattle.history_core.specs.Laws.{Laws}
+use Rattle.pin_core.proofs.SizeSchedules.{none_noted}
+use Rattle.frame_table.proofs.Listed.{listed_there}
+use Rattle.pin_core.specs.Kinds.{assigned_role}
 use Rattle.frame_table.specs.Kinds.{FrameKind, pins, part_of, link_after}
 use Rattle.table_rule.specs.Shows.{ShowsFrame, Devices, Shows, RuleHolds}
 use Rattle.frame_table.specs.Seats.{Finds, cleared_stored, mapped_link, SameSelf, Looked, Touches, Stores, HoldsWord, HasRoom, IsUsed, HasFlag, HasOnlyPin, MayChange, Lacks, NamesIn, NamesStored, MayStoreTag, CanErase, CanStoreAs, partitions_erased, partitions_stored, stored_link, assigned_link, tag_word, read_link}
@@ -198,7 +201,8 @@ module _ {L G : Type 0} (d : Devices L G) (o : Opening L G) where
         allowed = record { alone = mine; named = named_there tag (is_tag_of tag t packed); packed = is_tag_of tag t packed; untagged = untagged.knows (s.pool.core.frame f).word mine.held };
         around = record {
           naming = record { held = subst (λ (p : ℕ). (hold me.0 p).held ≡ true) at may.held; unchanged = subst (λ (p : ℕ). (hold me.0 p).changed ≡ false) at may.unchanged; no_change = may.no_change };
-          block = ap (λ (g : ℕ → Bool). g tag) h.fixed.is_block ∙ is_block_of o.catalog.value tag t packed listed;
+          block = listed_there d o s h.fixed laws tag ∙ is_block_of o.catalog.value tag t packed listed;
+          room = λ e. absurd (let no : false ≡ true = sym h.fixed.resizes ∙ e in cc);
           lacking = subst (λ (p : ℕ). (s.pool.core.partition p).map tag ≡ None) at (map_there s id me.0 tag None h.fixed.partition_of laws there lacks.home lacks.seen lacks.lacks);
         };
         shows = tag_shows u.words f tag (s.pool.core.frame f) (let wide = h.words in omega arith) (h.frame f below);
@@ -219,7 +223,7 @@ module _ {L G : Type 0} (d : Devices L G) (o : Opening L G) where
       of_tag u s h laws there inside None e = absurd (can.read e)
       of_tag u s h laws there inside (Some tag) e = let mine = alone_there s id f me.0 laws there inside alone in let known = known_there s id f tag me.0 laws there inside e in let may = can.latch tag e in
           let at : tag_partition tag ≡ s.pool.core.partition_of (s.pool.core.frame f).tag = ap (λ (g : ℕ → ℕ). g tag) (sym h.fixed.partition_of) ∙ ap s.pool.core.partition_of (sym known.1) in record {
-            allowed = record { alone = mine; named = known.0; clean = can.word.knows (s.pool.core.frame f).word mine.held };
+            allowed = record { alone = mine; named = known.0; clean = λ _. can.word.knows (s.pool.core.frame f).word mine.held };
             around = record { held = subst (λ (p : ℕ). (hold me.0 p).held ≡ true) at may.held; unchanged = subst (λ (p : ℕ). (hold me.0 p).changed ≡ false) at may.unchanged; no_change = may.no_change };
             shows = tag_shows u.words f 18446744073709551615 (s.pool.core.frame f) (let wide = h.words in omega arith) (h.frame f below);
             page = refl;
@@ -228,7 +232,7 @@ module _ {L G : Type 0} (d : Devices L G) (o : Opening L G) where
 
 -- what is left of the pin that was assigned
 pub assigned_after : (f word : ℕ) (v w : View) → Did (pins pin.assign) f v w word → link w f ≡ assigned_link (link w f).tag (link v f)
-assigned_after f word v w d = subst (λ (m : Link). m ≡ assigned_link m.tag (link v f)) (sym (link_is (pins pin.assign) f word v w d)) refl
+assigned_after f word v w d = subst (λ (m : Link). m ≡ assigned_link m.tag (link v f)) (sym (link_is (pins pin.assign) f word v w d)) (ap (λ (b : Bool). record (link v f) { role = assigned_role b; tag = Some (d.state.pool.core.frame f).tag; header = None; pending = false }) (none_noted d.state.pool.core d.laws.invariant.pool.sizes d.laws.invariant.quiet d.seat f v d.there d.inside))
 
 -- the frame of a pair that a view is entering has the tag
 entering_there : (s : State) (id f p tag : ℕ) (v : View) → Laws s → get_elem? s.pool.core.views id ≡ some v → v.emptied ≡ false → f < s.pool.core.frames → (hold v p).change ≡ Entering tag f → (hold v p).changed ≡ false → (s.pool.core.frame f).tag ≡ tag
@@ -260,7 +264,7 @@ stored_cleared None f now v w d = ap (λ (x : View). x.cleared) d.after
 stored_cleared (Some tag) f now v w d = ap (λ (x : View). x.cleared) d.after
 
 pub stored_after : (tag : Option Tag) (f now : ℕ) (v w : View) → Did (storing tag) f v w now → link w f ≡ stored_link (link v f)
-stored_after None f now v w d = link_is (storing None) f now v w d
+stored_after None f now v w d = link_is (storing None) f now v w d ∙ ap (λ (b : Bool). record (stored_link (link v f)) { noted = b }) (sym (none_noted d.state.pool.core d.laws.invariant.pool.sizes d.laws.invariant.quiet d.seat f v d.there d.inside))
 stored_after (Some tag) f now v w d = link_is (storing (Some tag)) f now v w d
 
 pub stored_partitions : (relations : List RelEntry) (tag : Option Tag) (f now : ℕ) (v w : View) → Did (storing tag) f v w now → CanStoreAs relations tag v f → w.partitions ≡ partitions_stored tag f v

@@ -28,6 +28,7 @@ use Rattle.table_rule.specs.declared.opening.Opening.{Opening}
 use Rattle.table_rule.specs.declared.turn.Place.TheVariants as place
 use Rattle.table_rule.specs.declared.turn.Turn.TheVariants as turn
 use Rattle.table_rule.specs.Shows.{Devices, KeepsOpening}
+use Rattle.pin_core.proofs.SizeSchedules.{none_noted}
 use Rattle.frame_table.specs.LaneWork.{back_lane}
 use Rattle.frame_table.proofs.Frames.{put_keeps, same_at, set_twice}
 use Rattle.frame_table.proofs.Moving.{Moves, moves_on}
@@ -147,7 +148,7 @@ module _ {L G : Type 0} (d : Devices L G) (o : Opening L G) where
       let step : Step (steps.lane id q k) s t = steps.lanes id q k v h.there h.live h.below a lane in let moves = alone_moves k s id q v (steps.lane id q k) h.opened step (leaves_itself (s.lane q)) in let hold = get_or-set_same v.lanes q (lane_hold_after k v.flushed (swept_by v) (lane_hold v q)) no_lane (in_lanes s id q v h) in
       before_others s t id q v u (noted_view false (note_read p) t q f u) (steps.lane id q k) (steps.note id q f (lane_back false) (note_read p) ∷ []) (s.lane q) step moves
       (returns_noted false (note_read p) t id q f u (s.lane q) (lane_hold_after k v.flushed (swept_by v) (lane_hold v q)) (record { frame = λ b fr. refl; out = λ b fr l. refl }) (stands_on s t id q v u (steps.lane id q k) h step moves refl) inside (put_here s.lane q (s.lane q)) hold can
-      (record { was_read = ap (λ (x : LaneHold). x.change) hold ∙ ap (λ (n : ℕ). lane_change.Read n p) (sym tagged); lane = ap s.lane_of tagged ∙ lane; right = right; fresh = fresh }))
+      (record { was_read = ap (λ (x : LaneHold). x.change) hold ∙ ap (λ (n : ℕ). lane_change.Read n p) (sym tagged); lane = ap s.lane_of tagged ∙ lane; right = right; fresh = fresh; unnoted = none_noted s.pool.core h.laws.invariant.pool.sizes h.laws.invariant.quiet id f v h.there inside }))
 
   -- A write, and the return with its note
   pub writes_noted : (k : LaneKind) (noted : Bool) (s : State) (id q f : ℕ) (v : View) → StandsWithLane s id q v → f < s.pool.core.frames → LaneAllowed k (s.lane q) (lane_hold v q) → MayWriteLane k s q f (lane_hold v q) (link v f) → Leaves (s.lane q) (lane_after k (s.lane q))

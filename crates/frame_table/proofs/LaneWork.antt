@@ -89,7 +89,9 @@ module _ {L G : Type 0} (d : Devices L G) (o : Opening L G) where
     base = e.base ∙ h.base;
     partitions = e.partitions ∙ h.partitions;
     partition_of = e.partition_of ∙ h.partition_of;
-    is_block = e.is_block ∙ h.is_block;
+    is_fork = e.is_fork ∙ h.is_fork;
+    sizes = e.opened_sizes ∙ h.sizes;
+    resizes = e.resizes ∙ h.resizes;
     names = e.names ∙ h.names;
     ranges = e.ranges ∙ h.ranges;
     lanes = e.lanes ∙ h.lanes;

@@ -16,6 +16,7 @@ pub mod Resting
 pub mod SameSeats
 pub mod WordSteps
 pub mod Origins
+pub mod Listed
 pub mod Holding
 pub mod TagLoads
 pub mod Taking

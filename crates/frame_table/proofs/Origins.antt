@@ -16,13 +16,13 @@ use Rattle.page_layout.specs.Soundness.{is_sound_page}
 use Rattle.segment_store.specs.Contents.{Pages}
 use Rattle.pin_core.specs.declared.view.Link.{Link}
 use Rattle.pin_core.specs.declared.view.View.{View}
-use Rattle.pin_core.specs.State.{Page, link}
+use Rattle.pin_core.specs.State.{Page, link, is_block}
 use Rattle.history_core.specs.Laws.{Laws}
 use Rattle.history_core.specs.Log.{Entry, AreChained, HasImage, cell, end_from, end_of}
 use Rattle.history_core.specs.State.{State}
 use Rattle.history_core.specs.Words.{end_word}
 use Rattle.history_core.proofs.Logs.{cell_absent, cell_none, cell_upto, chain_below, cut_all, last_upto, some_size, IsLastUpto}
-use Rattle.history_core.proofs.Stepping.{page_of, logged_there}
+use Rattle.history_core.proofs.Stepping.{page_of, logged_there, frame_block, plain}
 use Rattle.history_core.proofs.Sound.{stay_untouched}
 use Rattle.table_rule.specs.declared.value.Value.{Value}
 use Rattle.table_rule.specs.declared.opening.Opening.{Opening}
@@ -72,8 +72,8 @@ module _ {L G : Type 0} (d : Devices L G) (o : Opening L G) (s : State) (h : Kee
     -- the page is the one at the start, or one with content whose position is at most the log's end
     now_is : (cell s.origin s.log.entries word ≡ s.origin word) ⊎ ((end : ℕ) × (end ≤ s.end) × HasImage end (cell s.origin s.log.entries word))
     now_is = ⊎_elim
-        (λ (m : (k : ℕ) × (e : Entry) × IsLastUpto s.log.entries word s.end k e). inr (end_of m.1, m.2.upto, subst (HasImage (end_of m.1)) (cell_upto s.origin s.log.entries word s.end m.0 m.1 laws.invariant.log.valid m.2 ∙ ap (λ (l : List Entry). cell s.origin l word) (cut_all s.end s.log.entries within)) (laws.invariant.pages m.0 word m.1 m.2.entered is_known)))
-        (λ none. inl (cell_absent s.origin s.log.entries word laws.invariant.log.valid (λ k e of. absurd (let a = none k e of in let b = within k e of.there in omega arith))))
+        (λ (m : (k : ℕ) × (e : Entry) × IsLastUpto s.log.entries word s.end k e). inr (end_of m.1, m.2.upto, subst (HasImage (end_of m.1)) (cell_upto s.origin s.log.entries word s.end m.0 m.1 (plain s laws.invariant) m.2 ∙ ap (λ (l : List Entry). cell s.origin l word) (cut_all s.end s.log.entries within)) (laws.invariant.pages m.0 word m.1 m.2.entered is_known)))
+        (λ none. inl (cell_absent s.origin s.log.entries word (plain s laws.invariant) (λ k e of. absurd (let a = none k e of in let b = within k e of.there in omega arith))))
         (last_upto s.log.entries word s.end)
 
     -- at a frame whose tag the pin remembers
@@ -82,7 +82,7 @@ module _ {L G : Type 0} (d : Devices L G) (o : Opening L G) (s : State) (h : Kee
       tagged = ((laws.invariant.pool.core.grid.cells id v f there inside).remembers word remembers).1
 
       logged : s.pool.logged word ≡ Some now
-      logged = logged_there s laws.invariant word (subst (λ (z : ℕ). s.pool.core.is_block z ≡ true) tagged (laws.invariant.pool.core.blocks f inside ((laws.invariant.pool.core.grid.cells id v f there inside).remembers word remembers).0.named)) is_known
+      logged = logged_there s laws.invariant word (subst (λ (z : ℕ). is_block s.pool.core z ≡ true) tagged (frame_block s laws.invariant f inside ((laws.invariant.pool.core.grid.cells id v f there inside).remembers word remembers).0.named)) is_known
 
       frame_logged : s.pool.logged (s.pool.core.frame f).tag ≡ Some now
       frame_logged = ap s.pool.logged tagged ∙ logged

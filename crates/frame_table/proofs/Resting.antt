@@ -33,6 +33,7 @@ new_rests number base frames partitions lanes = record {
   frames = λ f. subst HoldsNothingAt (sym (same_all frames f idle)) idle_free;
   partitions = λ p. ap (λ (h : PartitionHold). h.held) (same_all partitions p no_partition);
   lanes = λ n. ap (λ (h : LaneHold). h.held) (same_all lanes n no_lane);
+  sizes = refl;
   log = refl;
 }
 
@@ -47,7 +48,7 @@ first_idle base frames partitions lanes v e = subst IsIdle (sym e) record {
 }
 
 pub first_rests : (base frames partitions lanes : ℕ) → HoldsNothing (first_view base frames partitions lanes)
-first_rests base frames partitions lanes = let h = new_rests 0 base frames partitions lanes in record { frames = h.frames; partitions = h.partitions; lanes = h.lanes; log = h.log }
+first_rests base frames partitions lanes = let h = new_rests 0 base frames partitions lanes in record { frames = h.frames; partitions = h.partitions; lanes = h.lanes; sizes = h.sizes; log = h.log }
 
 -- loads of a frame's word leave a link free
 pub free_looked : (l m : Link) → Looked l m → HoldsNothingAt l → HoldsNothingAt m
@@ -59,6 +60,7 @@ rests_on f v w t here h = record {
   frames = λ g. dite (ℕ_discrete g f) (λ e. subst (λ (x : ℕ). HoldsNothingAt (link w x)) (sym e) here) (λ n. subst HoldsNothingAt (sym (t.others g n)) (h.frames g));
   partitions = λ p. ap (λ (l : List PartitionHold). (get_or l p no_partition).held) t.partitions ∙ h.partitions p;
   lanes = λ n. ap (λ (l : List LaneHold). (get_or l n no_lane).held) (ap (λ (x : View). x.lanes) t.self) ∙ h.lanes n;
+  sizes = ap (λ (x : View). x.sizes) t.self ∙ h.sizes;
   log = ap (λ l. l.held) (ap (λ (x : View). x.log) t.self) ∙ h.log;
 }
 

@@ -21,6 +21,9 @@ use Rattle.table_rule.specs.declared.opening.Opening.{Opening}
 use Rattle.table_rule.specs.Blocks.{has_block, has_named, is_block}
 use Rattle.table_rule.specs.Layout.{partition_of_tag, tag_partition, tag_place}
 use Rattle.table_rule.specs.Shows.{Devices, RuleHolds}
+use Rattle.frame_table.proofs.Listed.{listed_there}
+use Rattle.pin_core.specs.State.{is_block as is_there}
+use Rattle.history_core.proofs.Stepping.{frame_block}
 use Rattle.table_rule.proofs.Tags.{packed_is, unpacked_is}
 use Rattle.frame_table.specs.Kinds.{pins}
 use Rattle.frame_table.specs.Seats.{MayChange, NamesIn, NamesStored, tag_word}
@@ -33,8 +36,8 @@ module _ {L G : Type 0} (d : Devices L G) (o : Opening L G) where
   -- a number in a tag word, but for all ones, is of a block of the relations
   word_listed : (f : ℕ) → f < o.config.frames → (t : table.State (Value L G) View) → RuleHolds d o t → get_or t.words (tag_place f) 0 ≢ no_tag → is_block o.catalog.value (get_or t.words (tag_place f) 0) ≡ true
   word_listed f below t h named = let at = (h.shows.frame f below).tag in
-      ap (λ (g : ℕ → Bool). g (get_or t.words (tag_place f) 0)) (sym h.shows.fixed.is_block) ∙ ap h.state.pool.core.is_block (sym at)
-      ∙ h.laws.invariant.pool.core.blocks f (let e = h.shows.fixed.frames in omega arith) (λ e. named (sym at ∙ e))
+      sym (listed_there d o h.state h.shows.fixed h.laws (get_or t.words (tag_place f) 0)) ∙ ap (is_there h.state.pool.core) (sym at)
+      ∙ frame_block h.state h.laws.invariant f (let e = h.shows.fixed.frames in omega arith) (λ e. named (sym at ∙ e))
 
   pub loads_tag : (slots id f : ℕ) (me : Me (Value L G) View) → f < o.config.frames → me.0.emptied ≡ false → pin.CanLoadTag (link me.0 f).role (link me.0 f).header
       → Allows (RuleHolds d o) slots id me (tag_place f) (λ n. n) (tells_tag o.catalog.value (step slots (tag_place f) 0 0 none) me)

@@ -160,7 +160,9 @@ module _ {L G : Type 0} (d : Devices L G) (o : Opening L G) where
     base = h.base;
     partitions = h.partitions;
     partition_of = h.partition_of;
-    is_block = h.is_block;
+    is_fork = h.is_fork;
+    sizes = h.sizes;
+    resizes = h.resizes;
     names = h.names;
     ranges = h.ranges;
     lanes = h.lanes;

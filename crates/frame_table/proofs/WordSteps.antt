@@ -230,4 +230,4 @@ end_is_seen (Read f) v w found d = subst (λ (x : View). found ≤ x.end_seen) (
 pub unmarks : (what : EndLoad) (v w : View) (found : ℕ) → w ≡ view_of (end_kind what) found v → what ≡ Checkpoint → (f : ℕ) → link w f ≡ unmarked (link v f)
 unmarks Plain v w found is e f = absurd (cc e)
 unmarks (Read g) v w found is e f = absurd (cc e)
-unmarks Checkpoint v w found is e f = ap (λ (x : View). link x f) is ∙ link_begun v (view_of begin_checkpoint found v) (record { emptied = refl; number = refl; next = refl; joined = refl; links = refl; partitions = refl }) f
+unmarks Checkpoint v w found is e f = ap (λ (x : View). link x f) is ∙ link_begun v (view_of begin_checkpoint found v) (record { emptied = refl; number = refl; next = refl; joined = refl; links = refl; partitions = refl; sizes = refl }) f

@@ -24,6 +24,7 @@ use Rattle.history_core.specs.State.{State}
 use Rattle.table_rule.specs.declared.value.Value.{Value}
 use Rattle.table_rule.specs.declared.opening.Opening.{Opening}
 use Rattle.table_rule.specs.Layout.{tag_partition, state_place}
+use Rattle.pin_core.proofs.SizeSchedules.{none_noted}
 use Rattle.frame_table.specs.Kinds.{FrameKind, pins, part_of, load_kind, frame_after, link_after, IsAllowed, IsAllowedAround}
 use Rattle.table_rule.specs.Shows.{ShowsFrame, Devices, Shows, RuleHolds}
 use Rattle.frame_table.specs.FrameSteps.{part_place, has_locked, has_tag, always, if_found, if_unlocked, chosen, tells, looking}
@@ -118,7 +119,7 @@ module _ {L G : Type 0} (d : Devices L G) (o : Opening L G) where
   pub unpins_there : (slots id f was new : ℕ) (me : Me (Value L G) View) → f < o.config.frames → me.0.emptied ≡ false → (link me.0 f).role ≢ Absent → (link me.0 f).content ≡ Unlocked → (link me.0 f).io ≡ Quiet → (link me.0 f).waits ≡ None → has_locked was ≡ false → fields new ≡ unpinned_fields (fields was)
       → Allows (RuleHolds d o) slots id me (state_place f) (λ n. either (eqb n was) new n) (tells (if_found (pins pin.unpin)) (step slots (state_place f) was new none) me)
   unpins_there slots id f was new me below live pinned content io waits unlocked made = swaps (pins pin.unpin) refl slots id f was new me below live (λ s laws there spread inside is. record {
-    allowed = record { unlocked = ap (λ (w : StateWord). w.locked) is ∙ unlocked; pinned = pinned; no_content = content; no_io = io; no_wait = waits };
+    allowed = record { unlocked = ap (λ (w : StateWord). w.locked) is ∙ unlocked; pinned = pinned; no_content = content; no_io = io; no_wait = waits; unnoted = none_noted s.pool.core laws.invariant.pool.sizes laws.invariant.quiet id f me.0 there inside };
     around = tt;
     word = ap unpinned_fields is ∙ sym made;
     rest = record { tag = refl; sharers = refl; exclusive = refl; copying = refl; page = refl };

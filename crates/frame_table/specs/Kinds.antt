@@ -25,6 +25,7 @@ pub data FrameKind : Type 0 where
 abbrev pub pin_word : pin.Kind → FrameWord
 pin_word pin.load_tag = tag_word
 pin_word (pin.store_tag tag) = tag_word
+pin_word (pin.store_new_tag tag) = tag_word
 pin_word pin.erase_tag = tag_word
 pin_word _ = state_word
 
@@ -61,7 +62,7 @@ IsAllowed (pages k) s f v = IsPlain k × paged.Allowed k (block_of_frame s f) (s
 -- and by the whole view, and the partitions
 abbrev pub IsAllowedAround : FrameKind → State → ℕ → View → Type 0
 IsAllowedAround (pins k) s f v = pin_steps.AllowedAround k s.pool.core v f
-IsAllowedAround (pages k) s f v = page_steps.AllowedAround k v f
+IsAllowedAround (pages k) s f v = page_steps.AllowedAround k s.pool v f
 
 -- What a kind makes of the frame f
 abbrev pub frame_after : FrameKind → State → ℕ → Frame

@@ -156,6 +156,8 @@ pub record Looked (l m : Link) : Type 0 where
   pub out : m.out ≡ l.out
   pub overwritten : m.overwritten ≡ l.overwritten
   pub image : m.image ≡ l.image
+  pub noted : m.noted ≡ l.noted
+  pub inside : m.inside ≡ l.inside
   -- what was seen stays seen
   pub seen_valid : l.seen_valid ≡ true → m.seen_valid ≡ true
   -- where no wait was there, none is
@@ -174,7 +176,7 @@ mapped_link tag ring l = record l { role = HandedOut; tag = Some tag; ring = rin
 
 -- and without a pin
 abbrev pub unpinned_link : Link → Link
-unpinned_link l = record l { role = Absent; tag = None; seen_valid = false; ring = false }
+unpinned_link l = record l { role = Absent; tag = None; seen_valid = false; ring = false; inside = false }
 
 -- with the header locked, whose word is the number
 abbrev pub locked_link : ℕ → Link → Link
@@ -282,7 +284,7 @@ abbrev pub victim_link : Link → Link
 victim_link l = record l { role = Victim; ring = false; header = None }
 
 abbrev pub stored_link : Link → Link
-stored_link l = record l { tag = None; seen_valid = false; pending = true }
+stored_link l = record l { tag = None; seen_valid = false; pending = true; inside = false }
 
 abbrev pub assigned_link : Option ℕ → Link → Link
 assigned_link tag l = record l { role = HandedOut; tag = tag; header = None; pending = false }

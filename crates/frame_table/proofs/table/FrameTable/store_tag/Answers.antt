@@ -4,7 +4,7 @@ use Rattle.block_tag.specs.Names.{packed_tag}
 use Rattle.pin_core.specs.declared.view.MapChange.TheVariants.{Entering}
 use Rattle.frame_table.specs.Seats.{cleared_stored, CanStoreAs, MayStoreTag, NamesIn, NamesStored, partitions_stored}
 use Rattle.frame_table.specs.FrameSteps.{Did, storing}
-use Rattle.frame_table.proofs.Holding.{stored_self, stored_cleared, stored_partitions, names_entered, names_erased}
+use Rattle.frame_table.proofs.Holding.{stored_after, stored_self, stored_cleared, stored_partitions, names_entered, names_erased}
 use Rattle.frame_table.proofs.TagLoads.{packed_partition}
 use Rattle.frame_table.proofs.Marks.{did_marks}
 use Rattle.frame_table.proofs.table.FrameTable.store_tag.Goals as goal
@@ -46,3 +46,6 @@ returns-in-Some-clause-stores g c = stored_self (Some c.in-Some.tag) _ _ _ _ c.s
 
 pub returns-in-None-clause-stores : goal.returns-in-None-clause-stores
 returns-in-None-clause-stores g c = stored_self None _ _ _ _ c.store_none.ensures.did.1
+
+pub returns-in-None-clause-stored : goal.returns-in-None-clause-stored
+returns-in-None-clause-stored g c = stored_after None _ _ _ _ c.store_none.ensures.did.1

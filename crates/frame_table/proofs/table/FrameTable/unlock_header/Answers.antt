@@ -17,3 +17,6 @@ returns-clause-unlocked g c = link_is (pins unlock_header) _ _ _ _ (c.fetch_and.
 
 pub returns-clause-marks : goal.returns-clause-marks
 returns-clause-marks g c = did_marks (pins unlock_header) tt _ _ _ _ (c.fetch_and.ensures.2.1 c.args.frame c.state_place.ensures)
+
+pub returns-clause-did : goal.returns-clause-did
+returns-clause-did g c = (_, c.fetch_and.ensures.2.1 c.args.frame c.state_place.ensures)
