@@ -29,6 +29,7 @@ use Rattle.history_core.specs.TornRecords.{IsOfPage, NotesTorn}
 use Rattle.history_core.specs.Swept.{has_swept}
 use Rattle.history_core.proofs.Calls.{at_both}
 use Rattle.history_core.proofs.History.{ends_in_history}
+use Rattle.history_core.proofs.EntryBlocks.{entries_of_blocks}
 use Rattle.history_core.proofs.Histories.{loaded_flushed}
 use Rattle.history_core.proofs.Promises.{seen_durable, sweeps}
 use Rattle.history_core.proofs.Rest.{whole}
@@ -171,7 +172,7 @@ module _ (s : State) (h : Laws s) (w : View) (there : get_elem? s.pool.core.view
     flushed = let a = t.flushed in let b = loaded_flushed s h.invariant 0 w there in omega arith;
     durable = seen_durable s h.invariant 0 p.view.flushed w there t.flushed;
     down = λ e. saw (t.down e);
-    swept = λ upto c. sweeps s h.invariant h.debts h.swept 0 upto w there
+    swept = λ upto c. sweeps s h.invariant h.debts (entries_of_blocks s h) h.swept 0 upto w there
         (inr (t.kept.0, kept_checkpoint p.view, t.kept.1, λ n inside. subst (λ (x : ℕ). upto ≤ x) (sym (kept_swept p.view n)) (c n inside)));
   }
 
@@ -184,7 +185,7 @@ module _ (s : State) (h : Laws s) (w : View) (there : get_elem? s.pool.core.view
     flushed = let a = j.flushed in let b = loaded_flushed s h.invariant 0 w there in omega arith;
     durable = seen_durable s h.invariant 0 p.view.flushed w there j.flushed;
     down = λ e. saw (j.down e);
-    swept = λ upto c. sweeps s h.invariant h.debts h.swept 0 upto w there
+    swept = λ upto c. sweeps s h.invariant h.debts (entries_of_blocks s h) h.swept 0 upto w there
         (inl (λ n inside. subst (λ (x : ℕ). upto ≤ x) (sym (ap (λ (l : List LaneHold). (get_or l n no_lane).swept) j.lanes)) (c n inside)));
   }
 
@@ -271,7 +272,7 @@ module _ (s : State) (h : Laws s) (w : View) (there : get_elem? s.pool.core.view
   }
 
   -- the calls are a history
-  pub history : IsHistory s.known s.origin s.log w.calls
+  pub history : IsHistory s.known s.origin s.opened_sizes s.log w.calls
   history = ends_in_history s h.invariant h.spent w there (λ i u n at. ap (λ (x : View). x.emptied) (others i u n at))
 
   -- where none of them is a write the log is empty
@@ -306,7 +307,7 @@ module _ {L G : Type 0} where
     device = c.device;
     bytes = λ up. holds_bytes s h w c.first c.others (ap (λ (l : LogHold). l.appended) (j.log ∙ r.quiet.log)) (c.device.down ∙ up);
     torn = λ rests down. torn rests (λ up. down (sym c.device.down ∙ up));
-    history = subst (IsHistory s.known s.origin s.log) (j.calls ∙ ap (λ (u : View). u.calls ++ calls_of_passes (others_in ps)) (sym first)) (history s h w c.first c.others);
+    history = subst (IsHistory s.known s.origin s.opened_sizes s.log) (j.calls ∙ ap (λ (u : View). u.calls ++ calls_of_passes (others_in ps)) (sym first)) (history s h w c.first c.others);
     each = each;
     reads_rose = λ more. reads_rose s h w c.first c.others (subst (λ (m : FailedCalls). 0 < m.reads) met more);
     writes_rose = λ more. writes_rose s h w c.first c.others (subst (λ (m : FailedCalls). 0 < m.writes) met more);

@@ -75,6 +75,7 @@ pub record Joins (v w : View) (ps : List PassState) : Type 0 where
   pub links : w.links ≡ v.links
   pub partitions : w.partitions ≡ v.partitions
   pub lanes : w.lanes ≡ v.lanes
+  pub sizes : w.sizes ≡ v.sizes
   pub log : w.log ≡ v.log
   pub next : w.next ≡ v.next
   pub joined : w.joined ≡ v.joined + length ps
@@ -106,6 +107,7 @@ joins v [] = record {
   links = refl;
   partitions = refl;
   lanes = refl;
+  sizes = refl;
   log = refl;
   next = refl;
   joined = omega arith;
@@ -124,6 +126,7 @@ joins v (p ∷ ps) = let r = joins (joined_view v p.view) ps in record {
   links = r.links;
   partitions = r.partitions;
   lanes = r.lanes;
+  sizes = r.sizes;
   log = r.log;
   next = r.next;
   joined = let a = r.joined in omega arith;
@@ -144,6 +147,7 @@ joined_hold_nothing v w ps j h = record {
   frames = λ f. subst (λ l. HoldsNothingAt (get_or l f idle)) (sym j.links) (h.frames f);
   partitions = λ p. ap (λ l. (get_or l p no_partition).held) j.partitions ∙ h.partitions p;
   lanes = λ n. ap (λ (l : List LaneHold). (get_or l n no_lane).held) j.lanes ∙ h.lanes n;
+  sizes = j.sizes ∙ h.sizes;
   log = ap (λ (l : LogHold). l.held) j.log ∙ h.log;
 }
 

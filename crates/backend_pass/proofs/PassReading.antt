@@ -31,7 +31,7 @@ tag_pinned t v tag f pinned r = r.tag ∙ ap (option_map HeldFrame.tag) pinned.t
 -- what rests after a read
 pub rests_read : (f : ℕ) (h : HeldFrame) (t : Tokens) (v w : View) → held_at t f ≡ Some h → OnlyReads v w → ((g : ℕ) → g ≢ f → link w g ≡ link v g) → beside_lock (link w f) ≡ beside_lock (link v f) → OnlyTokens t v → OnlyTokens t w
 rests_read f h t v w there k others here r = record {
-  quiet = devices_same v w (ap (λ (x : View). x.emptied) k.kept) (ap (λ (x : View). x.lanes) k.kept) (ap (λ (x : View). x.log) k.kept) r.quiet;
+  quiet = devices_same v w (ap (λ (x : View). x.emptied) k.kept) (ap (λ (x : View). x.lanes) k.kept) (ap (λ (x : View). x.sizes) k.kept) (ap (λ (x : View). x.log) k.kept) r.quiet;
   links = rests_with f t w (beside_kept f t v w others (beside f t v r.links))
       (subst (λ (o : Option HeldFrame). LinkRests o (link w f)) (sym there) (link_relocked h (link v f) (link w f) here (subst (λ (o : Option HeldFrame). LinkRests o (link v f)) there (r.links f))));
   latches = latches_same v w k.partitions r.latches;

@@ -94,21 +94,21 @@ module _ {L G : Type 0} (held : Tokens) (b d : Badge View) (s t : Seat (Value L 
 
   pub hand_loaded : (hand : ℕ) → LoadsHand s.me.0 t.me.0 hand → Worked (λ v w. LoadsHand v w hand) held b d
   hand_loaded hand e = worked b d s t taken same back (λ v w. LoadsHand v w hand) held record {
-    quiet = devices_same s.me.0 t.me.0 (ap (λ (x : View). x.emptied) e.view) (ap (λ (x : View). x.lanes) e.view) (ap (λ (x : View). x.log) e.view) rested.quiet;
+    quiet = devices_same s.me.0 t.me.0 (ap (λ (x : View). x.emptied) e.view) (ap (λ (x : View). x.lanes) e.view) (ap (λ (x : View). x.sizes) e.view) (ap (λ (x : View). x.log) e.view) rested.quiet;
     links = links_same held s.me.0 t.me.0 (ap (λ (x : View). x.links) e.view) rested.links;
     latches = latched (ap (λ (x : View). x.partitions) e.view);
   } e
 
   pub checkpoint_begun : (upto : ℕ) → BeginsCheckpoint s.me.0 t.me.0 upto → Worked (λ v w. BeginsCheckpoint v w upto) held b d
   checkpoint_begun upto e = worked b d s t taken same back (λ v w. BeginsCheckpoint v w upto) held record {
-    quiet = devices_same s.me.0 t.me.0 (ap (λ (x : View). x.emptied) e.view) (ap (λ (x : View). x.lanes) e.view) (ap (λ (x : View). x.log) e.view) rested.quiet;
+    quiet = devices_same s.me.0 t.me.0 (ap (λ (x : View). x.emptied) e.view) (ap (λ (x : View). x.lanes) e.view) (ap (λ (x : View). x.sizes) e.view) (ap (λ (x : View). x.log) e.view) rested.quiet;
     links = rests_unmarked held s.me.0 t.me.0 e.unmarked rested.links;
     latches = latched (ap (λ (x : View). x.partitions) e.view);
   } e
 
   pub log_flushed : (lsn : ℕ) (r : Result Unit FlushLog) → FlushesLog lsn s.me.0 t.me.0 r → Worked (λ v w. FlushesLog lsn v w r) held b d
   log_flushed lsn r e = worked b d s t taken same back (λ v w. FlushesLog lsn v w r) held record {
-    quiet = devices_same s.me.0 t.me.0 (ap (λ (x : View). x.emptied) e.work) (ap (λ (x : View). x.lanes) e.work) (ap (λ (x : View). x.log) e.work) rested.quiet;
+    quiet = devices_same s.me.0 t.me.0 (ap (λ (x : View). x.emptied) e.work) (ap (λ (x : View). x.lanes) e.work) (ap (λ (x : View). x.sizes) e.work) (ap (λ (x : View). x.log) e.work) rested.quiet;
     links = links_same held s.me.0 t.me.0 (ap (λ (x : View). x.links) e.work) rested.links;
     latches = latched (ap (λ (x : View). x.partitions) e.work);
   } e

@@ -29,7 +29,7 @@ use Rattle.backend_pass.proofs.Fronts.{front_new}
 -- the first view rests
 first_rests : (base frames partitions lanes : ℕ) → OnlyTokens no_tokens (first_view base frames partitions lanes)
 first_rests base frames partitions lanes = let r = new_has_no_tokens 0 base frames partitions lanes in record {
-  quiet = record { live = r.quiet.live; free = r.quiet.free; home = r.quiet.home; log = r.quiet.log };
+  quiet = record { live = r.quiet.live; free = r.quiet.free; home = r.quiet.home; sizes = r.quiet.sizes; log = r.quiet.log };
   links = r.links;
   latches = r.latches;
 }

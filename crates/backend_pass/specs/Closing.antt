@@ -133,7 +133,7 @@ module _ {L G : Type 0} where
     pub bytes : mark ≡ None → state.device.bytes ≡ log_bytes state.names state.log
     -- where it is, what follows the log's bytes begins a record that one of the passes failed to append
     pub torn : (some : laws.rest.behind.rest ≢ []) → mark ≢ None → PassTore ps (laws.rest.behind.begins some).entry.change
-    pub history : IsHistory state.known state.origin state.log (calls_in_order ps)
+    pub history : IsHistory state.known state.origin state.opened_sizes state.log (calls_in_order ps)
     pub each : EachPass (ClosesPass state) ps
     -- faults were met exactly where a device's count of them rose
     pub reads_rose : 0 < (met_by_passes ps).reads → (q : ℕ) × (q < state.lanes) × HasRisen (state.lane q).read_faults_at_start (state.lane q).read_faults

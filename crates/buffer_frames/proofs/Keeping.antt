@@ -92,16 +92,17 @@ latch_same p v w e r = let same = λ (q : ℕ). ap (λ (l : List PartitionHold).
 }
 
 -- devices
-pub devices_same : (v w : View) → w.emptied ≡ v.emptied → w.lanes ≡ v.lanes → w.log ≡ v.log → HasNoDevice v → HasNoDevice w
-devices_same v w live lanes log d = record {
+pub devices_same : (v w : View) → w.emptied ≡ v.emptied → w.lanes ≡ v.lanes → w.sizes ≡ v.sizes → w.log ≡ v.log → HasNoDevice v → HasNoDevice w
+devices_same v w live lanes sizes log d = record {
   live = live ∙ d.live;
   free = λ n. ap (λ (l : List LaneHold). (get_or l n no_lane).held) lanes ∙ d.free n;
   home = λ n. ap (λ (l : List LaneHold). (get_or l n no_lane).out) lanes ∙ d.home n;
+  sizes = sizes ∙ d.sizes;
   log = log ∙ d.log;
 }
 
 pub devices_self : (v w : View) → SameSelf v w → HasNoDevice v → HasNoDevice w
-devices_self v w e = devices_same v w (ap (λ (x : View). x.emptied) e) (ap (λ (x : View). x.lanes) e) (ap (λ (x : View). x.log) e)
+devices_self v w e = devices_same v w (ap (λ (x : View). x.emptied) e) (ap (λ (x : View). x.lanes) e) (ap (λ (x : View). x.sizes) e) (ap (λ (x : View). x.log) e)
 
 pub devices_touched : (f : ℕ) (v w : View) → Touches f v w → HasNoDevice v → HasNoDevice w
 devices_touched f v w k = devices_self v w k.self

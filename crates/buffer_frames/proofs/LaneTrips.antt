@@ -83,6 +83,7 @@ module _ {L : Type 0} (d : LaneDevices L) (q : ℕ) (after : L) (call : LaneCall
     home = λ m. dite (ℕ_discrete m q)
         (λ e. subst (λ (z : ℕ). (lane_hold w z).out ≡ None) (sym e) (ap (λ (h : LaneHold). h.out) trip_hold))
         (λ o. ap (λ (h : LaneHold). h.out) (trip_others m o) ∙ n.home m);
+    sizes = ap (λ (z : View). z.sizes) left ∙ ap (λ (z : View). z.sizes) back ∙ ap (λ (z : View). z.sizes) out ∙ ap (λ (z : View). z.sizes) took ∙ n.sizes;
     log = free.3 ∙ came.log ∙ went.log ∙ turned.3 ∙ n.log;
   }
 

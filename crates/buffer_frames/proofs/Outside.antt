@@ -54,7 +54,7 @@ grows_chosen v w g e = rises_by v w g (ap (λ (x : View). x.lanes) e)
     (let a = ap (λ (x : View). x.end_seen) e in omega arith) (let a = ap (λ (x : View). x.flushed) e in omega arith) (λ d. ap (λ (x : View). x.saw_down) e ∙ d)
 
 pub stands_chosen : {L G : Type 0} (t : FrameTable L G) (s s' : Seat (Value L G) View) → SameSeat s s' → chosen_of s'.me.0 ≡ chosen_of s.me.0 → Stands t s → Stands t s'
-stands_chosen t s s' same e k = stands_on t s s' same (devices_same s.me.0 s'.me.0 (ap (λ (x : View). x.emptied) e) (ap (λ (x : View). x.lanes) e) (ap (λ (x : View). x.log) e) k.quiet) k
+stands_chosen t s s' same e k = stands_on t s s' same (devices_same s.me.0 s'.me.0 (ap (λ (x : View). x.emptied) e) (ap (λ (x : View). x.lanes) e) (ap (λ (x : View). x.sizes) e) (ap (λ (x : View). x.log) e) k.quiet) k
 
 -- and also where latches of partitions were taken, and hints stored
 pub outside_searched : (v w : View) → outside_of w ≡ outside_of v → searched_of w ≡ searched_of v
@@ -70,7 +70,7 @@ pub calls_searched : (v w : View) → searched_of w ≡ searched_of v → w.devi
 calls_searched v w e = ap (λ (x : View). x.device_calls) e
 
 pub stands_searched : {L G : Type 0} (t : FrameTable L G) (s s' : Seat (Value L G) View) → SameSeat s s' → searched_of s'.me.0 ≡ searched_of s.me.0 → Stands t s → Stands t s'
-stands_searched t s s' same e k = stands_on t s s' same (devices_same s.me.0 s'.me.0 (ap (λ (x : View). x.emptied) e) (ap (λ (x : View). x.lanes) e) (ap (λ (x : View). x.log) e) k.quiet) k
+stands_searched t s s' same e k = stands_on t s s' same (devices_same s.me.0 s'.me.0 (ap (λ (x : View). x.emptied) e) (ap (λ (x : View). x.lanes) e) (ap (λ (x : View). x.sizes) e) (ap (λ (x : View). x.log) e) k.quiet) k
 
 pub grows_searched : (v w : View) → Grows v w → searched_of w ≡ searched_of v → OnlyRises v w
 grows_searched v w g e = rises_by v w g (ap (λ (x : View). x.lanes) e)
@@ -128,7 +128,7 @@ freed_under p v u x w takes lanes log call leaves lanes' log' = let turns : w.tu
 
 -- What follows of it
 pub stands_freed : {L G : Type 0} (t : FrameTable L G) (s s' : Seat (Value L G) View) → SameSeat s s' → freeing_of s'.me.0 ≡ freeing_of s.me.0 → Stands t s → Stands t s'
-stands_freed t s s' same e k = stands_on t s s' same (devices_same s.me.0 s'.me.0 (ap (λ (x : View). x.emptied) e) (ap (λ (x : View). x.lanes) e) (ap (λ (x : View). x.log) e) k.quiet) k
+stands_freed t s s' same e k = stands_on t s s' same (devices_same s.me.0 s'.me.0 (ap (λ (x : View). x.emptied) e) (ap (λ (x : View). x.lanes) e) (ap (λ (x : View). x.sizes) e) (ap (λ (x : View). x.log) e) k.quiet) k
 
 pub grows_freed : (v w : View) → Grows v w → freeing_of w ≡ freeing_of v → OnlyRises v w
 grows_freed v w g e = rises_by v w g (ap (λ (x : View). x.lanes) e)

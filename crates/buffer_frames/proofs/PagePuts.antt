@@ -54,6 +54,7 @@ puts_inserted f tag p lsn v w e rises others = record {
 pub record RefusedKeeps (v w : View) : Type 0 where
   pub kept : kept_by_puts w ≡ kept_by_puts v
   pub lanes : w.lanes ≡ v.lanes
+  pub sizes : w.sizes ≡ v.sizes
   pub flushed : w.flushed ≡ v.flushed
   pub partitions : w.partitions ≡ v.partitions
   pub links : w.links ≡ v.links
@@ -63,10 +64,11 @@ pub record RefusedKeeps (v w : View) : Type 0 where
   pub emptied : w.emptied ≡ v.emptied
   pub log : w.log ≡ v.log
 
-refused_keeps_of : (u v w : View) → w ≡ as_counted u w → kept_by_puts u ≡ kept_by_puts v → u.lanes ≡ v.lanes → u.flushed ≡ v.flushed → u.partitions ≡ v.partitions → u.links ≡ v.links → u.calls ≡ v.calls → u.front ≡ v.front → u.dirtied_or_synced ≡ v.dirtied_or_synced → u.emptied ≡ v.emptied → u.log ≡ v.log → RefusedKeeps v w
-refused_keeps_of u v w e kept lanes flushed partitions links calls front marked emptied log = record {
+refused_keeps_of : (u v w : View) → w ≡ as_counted u w → kept_by_puts u ≡ kept_by_puts v → u.lanes ≡ v.lanes → u.sizes ≡ v.sizes → u.flushed ≡ v.flushed → u.partitions ≡ v.partitions → u.links ≡ v.links → u.calls ≡ v.calls → u.front ≡ v.front → u.dirtied_or_synced ≡ v.dirtied_or_synced → u.emptied ≡ v.emptied → u.log ≡ v.log → RefusedKeeps v w
+refused_keeps_of u v w e kept lanes sizes flushed partitions links calls front marked emptied log = record {
   kept = ap kept_by_puts e ∙ kept;
   lanes = ap (λ (x : View). x.lanes) e ∙ lanes;
+  sizes = ap (λ (x : View). x.sizes) e ∙ sizes;
   flushed = ap (λ (x : View). x.flushed) e ∙ flushed;
   partitions = ap (λ (x : View). x.partitions) e ∙ partitions;
   links = ap (λ (x : View). x.links) e ∙ links;
@@ -78,9 +80,9 @@ refused_keeps_of u v w e kept lanes flushed partitions links calls front marked 
 }
 
 pub refused_keeps : (why : InsertError) (v w : View) → w ≡ as_counted (refused_view why v) w → RefusedKeeps v w
-refused_keeps (LogFull end) v w e = refused_keeps_of v v w e refl refl refl refl refl refl refl refl refl refl
-refused_keeps (LogDown at) v w e = refused_keeps_of (refused_view (LogDown at) v) v w e refl refl refl refl refl refl refl refl refl refl
-refused_keeps LogFault v w e = refused_keeps_of (refused_view LogFault v) v w e refl refl refl refl refl refl refl refl refl refl
+refused_keeps (LogFull end) v w e = refused_keeps_of v v w e refl refl refl refl refl refl refl refl refl refl refl
+refused_keeps (LogDown at) v w e = refused_keeps_of (refused_view (LogDown at) v) v w e refl refl refl refl refl refl refl refl refl refl refl
+refused_keeps LogFault v w e = refused_keeps_of (refused_view LogFault v) v w e refl refl refl refl refl refl refl refl refl refl refl
 
 pub puts_refused : (why : InsertError) (f : ℕ) (v w : View) → w ≡ as_counted (refused_view why v) w → OnlyRises v w → PutsAt f v w
 puts_refused why f v w e rises = let r = refused_keeps why v w e in record {
@@ -155,7 +157,7 @@ module _ (f : ℕ) (t : Tokens) (v u : View) (m : MarkedFrameDirty f v u) where
   module _ (x : View) (relations : List RelEntry) (tag : Tag) (p : Page) (lsn : ℕ) (e : x ≡ as_counted (inserted_view f (packed_tag tag) p lsn u) x) (rises : OnlyRises u x) (did : Inserts relations f tag p lsn u x)
       (here : link x f ≡ entered_link p (link u f)) (others : (g : ℕ) → g ≢ f → link x g ≡ link u g) where
     pub device_inserted : HasNoDevice v → HasNoDevice x
-    device_inserted d = devices_same u x (ap (λ (y : View). y.emptied) e) (ap (λ (y : View). y.lanes) e) (ap (λ (y : View). y.log) e) (devices_touched f v u m.touches d)
+    device_inserted d = devices_same u x (ap (λ (y : View). y.emptied) e) (ap (λ (y : View). y.lanes) e) (ap (λ (y : View). y.sizes) e) (ap (λ (y : View). y.log) e) (devices_touched f v u m.touches d)
 
     puts_entered : PutsAt f v x
     puts_entered = puts_on f v u x (puts_touched f v u m.touches) (puts_inserted f (packed_tag tag) p lsn u x e rises others)
@@ -199,7 +201,7 @@ module _ (f : ℕ) (t : Tokens) (v u : View) (m : MarkedFrameDirty f v u) where
   -- or it was refused
   module _ (w : View) (why : InsertError) (e : w ≡ as_counted (refused_view why u) w) (rises : OnlyRises u w) where
     pub device_refused : HasNoDevice v → HasNoDevice w
-    device_refused d = let r = refused_keeps why u w e in devices_same u w r.emptied r.lanes r.log (devices_touched f v u m.touches d)
+    device_refused d = let r = refused_keeps why u w e in devices_same u w r.emptied r.lanes r.sizes r.log (devices_touched f v u m.touches d)
 
     pub rests_refused : LinksRest t v → LinksRest t w
     rests_refused r = links_same t u w (refused_keeps why u w e).links (rests_marked r)

@@ -26,6 +26,7 @@ new_has_no_tokens number base frames partitions lanes = record {
     live = refl;
     free = λ n. ap (λ (h : LaneHold). h.held) (same_all lanes n no_lane);
     home = λ n. ap (λ (h : LaneHold). h.out) (same_all lanes n no_lane);
+    sizes = refl;
     log = refl;
   };
   links = λ f. subst (LinkRests None) (sym (same_all frames f idle)) idle_rests;
@@ -38,5 +39,6 @@ rests_hold_nothing v r = record {
   frames = λ f. let l = r.links f in record { no_pin = l.role; no_header = l.calm.no_header; no_content = l.unlocked refl; no_io = l.calm.no_io; page_home = l.calm.page_home; no_wait = l.calm.no_wait };
   partitions = λ p. ap (λ (h : PartitionHold). h.held) (r.latches p);
   lanes = r.quiet.free;
+  sizes = r.quiet.sizes;
   log = ap (λ (h : LogHold). h.held) r.quiet.log;
 }

@@ -40,7 +40,7 @@ works_flushed f v w e rises lists = record {
 }
 
 pub stands_flushed : {L G : Type 0} (t : FrameTable L G) (s s' : Seat (Value L G) View) → SameSeat s s' → KeepsWork s.me.0 s'.me.0 → Stands t s → Stands t s'
-stands_flushed t s s' same e k = stands_on t s s' same (devices_same s.me.0 s'.me.0 (ap (λ (x : View). x.emptied) e) (ap (λ (x : View). x.lanes) e) (ap (λ (x : View). x.log) e) k.quiet) k
+stands_flushed t s s' same e k = stands_on t s s' same (devices_same s.me.0 s'.me.0 (ap (λ (x : View). x.emptied) e) (ap (λ (x : View). x.lanes) e) (ap (λ (x : View). x.sizes) e) (ap (λ (x : View). x.log) e) k.quiet) k
 
 pub marks_flushed : (v w : View) → KeepsWork v w → SameMarks v w
 marks_flushed v w e = ap view_marks e

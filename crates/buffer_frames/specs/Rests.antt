@@ -70,11 +70,12 @@ LinksRestBeside f t v = (g : ℕ) → g ≢ f → LinkRests (held_at t g) (link 
 abbrev pub SameLocks : View → View → Type 0
 SameLocks v w = (f : ℕ) → (link w f).content ≡ (link v f).content
 
--- Neither the log's latch nor that of a lane is held
+-- Neither the log's latch nor that of a lane is held, nor a right on the size of a fork
 pub record HasNoDevice (v : View) : Type 0 where
   pub live : v.emptied ≡ false
   pub free : (n : ℕ) → (lane_hold v n).held ≡ false
   pub home : (n : ℕ) → (lane_hold v n).out ≡ None
+  pub sizes : v.sizes ≡ []
   pub log : v.log ≡ no_log
 
 -- no partition's latch is held

@@ -7,6 +7,7 @@ use Rattle.pin_core.specs.declared.view.View.{View}
 use Rattle.pin_core.specs.State.{lane_hold}
 use Rattle.history_core.specs.Promises.{AreDurable, AreStored, AreSynced}
 use Rattle.history_core.specs.State.{State}
+use Rattle.history_core.proofs.EntryBlocks.{entries_of_blocks}
 use Rattle.history_core.proofs.Promises.{seen_durable, sweeps}
 use Rattle.buffer_frames.specs.Syncs.{LeavesLane}
 use Rattle.backend_pass.specs.Closing.{HasSwept}
@@ -36,4 +37,4 @@ module _ (lanes lane : ℕ) (w : View) (l : LeavesLane lanes lane w) where
       are_durable = seen_durable s l.did.laws.invariant l.did.seat upto l.before l.did.there (let x = flushed_as in omega arith)
 
       both : AreSynced s upto × AreStored s upto
-      both = sweeps s l.did.laws.invariant l.did.laws.debts l.did.laws.swept l.did.seat upto l.before l.did.there (inl (swept_there upto swept))
+      both = sweeps s l.did.laws.invariant l.did.laws.debts (entries_of_blocks s l.did.laws) l.did.laws.swept l.did.seat upto l.before l.did.there (inl (swept_there upto swept))

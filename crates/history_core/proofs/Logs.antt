@@ -260,6 +260,15 @@ image_of_size end (image tag page) valid e = refl
 image_of_size end (ranges tag spans) valid e = absurd (let low = valid.shorter in omega arith)
 image_of_size end (resize fork old new) valid e = absurd (omega arith)
 
+-- a whole page is of a page
+of_page : (c : Change) → is_image c ≡ true → is_of_page c ≡ true
+of_page (image tag page) whole = refl
+of_page (ranges tag spans) whole = refl
+of_page (resize fork old new) whole = absurd (cc)
+
+pub images_of_pages : (es : List Entry) → AreImages es → AreOfPages es
+images_of_pages es images k e at = of_page e.change (images k e at)
+
 -- where a log of whole pages alone ends
 pub images_end : (from : ℕ) (es : List Entry) → AreChained from es → ((k : ℕ) (e : Entry) → get_elem? es k ≡ some e → is_image e.change ≡ true) → end_from from es ≡ from + record_size * length es
 unfolding AreChained end_from

@@ -947,9 +947,9 @@ module _ (s : State) (h : HistoryInvariant s) (i : ℕ) (v : View) (there : get_
         pool = x.pool;
         logged = x.logged;
         sizes = x.sizes;
-    quiet = x.quiet;
-    of_pages = x.of_pages;
-    there = x.there;
+        quiet = x.quiet;
+        of_pages = x.of_pages;
+        there = x.there;
         pages = x.pages;
         known = x.known;
         log = x.log;

@@ -7,10 +7,10 @@ use lib.ListN.{get_elem?}
 use Rattle.block_tag.specs.declared.tag.Tag.{Tag}
 use Rattle.block_tag.specs.Names.{names_block, packed_tag, tag_eq}
 use Rattle.pin_core.specs.State.{Page}
-use Rattle.history_core.specs.Log.{Entry, Change, image, ranges, resize, is_image, AreImages, AreValid, IsEntryOf, tag_in, page_after}
+use Rattle.history_core.specs.Log.{Entry, Change, image, ranges, resize, is_image, AreImages, AreOfPages, AreValid, IsEntryOf, tag_in, page_after}
 use Rattle.history_core.specs.Unentered.{IsEntered}
 use Rattle.history_core.proofs.Crashes.{same_after, entry_or_none}
-use Rattle.history_core.proofs.Logs.{after_absent}
+use Rattle.history_core.proofs.Logs.{after_absent, images_of_pages}
 use Rattle.history_core.proofs.Histories.{at_last}
 use Rattle.grid.proofs.Lists.{at_longer}
 use Rattle.segment_store.specs.Contents.{Marks, Pages}
@@ -43,12 +43,12 @@ after_agree es tag x y images agree = ⊎_elim
     (entry_or_none es tag)
 
 -- redo of a page after redo
-after_twice : (es : List Entry) (tag : ℕ) (x : Option Page) → AreValid es → AreImages es → page_after tag es (page_after tag es x) ≡ page_after tag es x
-after_twice es tag x valid images = after_agree es tag (page_after tag es x) x images (λ none. after_absent tag es x valid (λ k e of. none (k, e, of)))
+after_twice : (es : List Entry) (tag : ℕ) (x : Option Page) → AreImages es → page_after tag es (page_after tag es x) ≡ page_after tag es x
+after_twice es tag x images = after_agree es tag (page_after tag es x) x images (λ none. after_absent tag es x (images_of_pages es images) (λ k e of. none (k, e, of)))
 
 pub redone_once : IsRedoneOnce
 redone_once es valid images a b c m n o first second tag told = either_way (names_block tag)
-    (λ named. (second.each tag).page told_still named ∙ ap (page_after (packed_tag tag) es) ((first.each tag).page told named) ∙ after_twice es (packed_tag tag) (page_in a tag) valid images ∙ sym ((first.each tag).page told named))
+    (λ named. (second.each tag).page told_still named ∙ ap (page_after (packed_tag tag) es) ((first.each tag).page told named) ∙ after_twice es (packed_tag tag) (page_in a tag) images ∙ sym ((first.each tag).page told named))
     (λ other. (second.each tag).other told_still other)
   where
     told_still : is_some (lane_at b tag) ≡ true
@@ -70,11 +70,11 @@ completed es valid images a b c m n o agree redone = record {
 pub entered_longer : (es rest : List Entry) (tag : Tag) → IsEnteredBlock es tag → IsEnteredBlock (es ++ rest) tag
 entered_longer es rest tag (named, (k, e, of)) = (named, (k, e, record { there = at_longer es rest k e of.there; of = of.of }))
 
-module _ (all es rest : List Entry) (is : all ≡ es ++ rest) (valid : AreValid all) where
+module _ (all es rest : List Entry) (is : all ≡ es ++ rest) (valid : AreOfPages all) where
   not_among : (tag : Tag) → (IsEnteredBlock all tag → ⊥) → IsEnteredBlock es tag → ⊥
   not_among tag none t = none (subst (λ (l : List Entry). IsEnteredBlock l tag) (sym is) (entered_longer es rest tag t))
 
-  first_valid : AreValid es
+  first_valid : AreOfPages es
   first_valid k e at = valid k e (subst (λ (l : List Entry). get_elem? l k ≡ some e) (sym is) (at_longer es rest k e at))
 
   module _ (a b : List (Option Pages)) (m n : List Marks) where
@@ -119,5 +119,5 @@ parts contents failed relations catalogue bytes log is old new part = ⊎_elim
     more : (rest : List Entry) × (log.entries ≡ part.entries ++ rest)
     more = part.first.1 catalogue log is
 
-    valid : AreValid log.entries
-    valid = (is_log relations bytes log is).0.valid
+    valid : AreOfPages log.entries
+    valid = images_of_pages log.entries (is_log relations bytes log is).1

@@ -1,8 +1,9 @@
 -- What a crash leaves of the log's bytes, and redo of what is read of them.
-use Rattle.std.specs.Prelude.{◌≡◌, ℕ, ◌+◌, ◌<◌, ◌≤◌, ◌^◌, false, List, ◌++◌, length, slice_get, Option, Some}
+use Rattle.std.specs.Prelude.{◌≡◌, ℕ, ◌+◌, ◌<◌, ◌≤◌, ◌^◌, true, false, List, ◌++◌, length, slice_get, Option, Some}
 use Rattle.block_tag.specs.declared.catalogue.RelEntry.{RelEntry}
 use Rattle.block_tag.specs.Catalogue.{IsCatalogue}
 use Rattle.pin_core.specs.State.{Page}
+use Rattle.pin_core.specs.State as pin_state
 use Rattle.history_core.specs.Log.{Entry, Log, head_size}
 use Rattle.history_core.specs.State.{State, stored, unsynced}
 use Rattle.history_core.specs.Laws.{Laws}
@@ -28,7 +29,7 @@ pub record IsLogBy (relations : List RelEntry) (s : State) : Type 0 where
   pub catalogue : IsCatalogue relations
   pub small : AreSmall relations
   pub names : s.names ≡ log_name relations
-  pub blocks : s.pool.core.is_block ≡ is_block relations
+  pub blocks : (tag : ℕ) → pin_state.is_block s.pool.core tag ≡ is_block relations tag
   pub images : s.ranges ≡ false
 
 -- What is read of the bytes that are left are entries that survive, but for their backends
@@ -43,4 +44,4 @@ abbrev pub CrashesRecover : Type 0
 CrashesRecover = (relations : List RelEntry) (s : State) → Laws s → IsLogBy relations s
     → (bytes : List ℕ) → IsLeft s bytes → (log : Log) → IsLogOf relations bytes log
     → (pages : ℕ → Option Page) → ((tag : ℕ) → unsynced s tag ≡ false → pages tag ≡ stored s tag)
-    → (tag : ℕ) → CanRedo s log.entries tag → RedoGives s pages log.entries tag
+    → (tag : ℕ) → is_block relations tag ≡ true → CanRedo s log.entries tag → RedoGives s pages log.entries tag

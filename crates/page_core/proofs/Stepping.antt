@@ -149,19 +149,22 @@ module _ (s : State) (h : PageInvariant s) (i f : ℕ) (v : View) (there : get_e
 
     noted_mine : (g : ℕ) → g < s.core.frames → (link w g).noted ≡ true → NotedPage (put s.core.frame f (frame_after k b fr) g) (link w g) × ((j : ℕ) (u : View) → j ≢ i → get_elem? s.core.views j ≡ some u → (link u g).io ≢ Input)
     noted_mine g below e = dite (ℕ_discrete g f)
-        (λ same. let was : l.noted ≡ true = sym (noted_kept k b fr l) ∙ sym (ap (λ (x : Link). x.noted) relinked.here) ∙ ap (λ (z : ℕ). (link w z).noted) (sym same) ∙ e in let law = h.noted i f v there inside was in
-        (subst (λ (z : Frame × Link). NotedPage z.0 z.1) (λ q. (sym (put_at s.core.frame f (frame_after k b fr) g same) q, sym (ap (λ (z : ℕ). link w z) same ∙ relinked.here) q))
-        (noted_own k b fr l a link_here (noted_gone s h i f v there inside was) was law.page), subst (λ (z : ℕ). (j : ℕ) (u : View) → j ≢ i → get_elem? s.core.views j ≡ some u → (link u z).io ≢ Input) (sym same) law.alone))
+        (λ same. let was : l.noted ≡ true = sym (noted_kept k b fr l) ∙ sym (ap (λ (x : Link). x.noted) relinked.here) ∙ ap (λ (z : ℕ). (link w z).noted) (sym same) ∙ e in let law = h.noted i f v there inside was in (
+          subst (λ (z : Frame × Link). NotedPage z.0 z.1) (λ q. (sym (put_at s.core.frame f (frame_after k b fr) g same) q, sym (ap (λ (z : ℕ). link w z) same ∙ relinked.here) q))
+              (noted_own k b fr l a link_here (noted_gone s h i f v there inside was) was law.page),
+          subst (λ (z : ℕ). (j : ℕ) (u : View) → j ≢ i → get_elem? s.core.views j ≡ some u → (link u z).io ≢ Input) (sym same) law.alone,
+        ))
         (λ o. let law = h.noted i g v there below (ap (λ (x : Link). x.noted) (sym (relinked.else g o)) ∙ e) in
         (subst (λ (z : Frame × Link). NotedPage z.0 z.1) (λ q. (sym (put_else s.core.frame f (frame_after k b fr) g o) q, sym (relinked.else g o) q)) law.page, law.alone))
 
     noted_others : AllowedAround k s v f → (j g : ℕ) (u : View) → j ≢ i → get_elem? s.core.views j ≡ some u → g < s.core.frames → (link u g).noted ≡ true → NotedPage (put s.core.frame f (frame_after k b fr) g) (link u g) × ((link w g).io ≢ Input)
     noted_others around j g u other here below e = dite (ℕ_discrete g f)
-        (λ same. let noted_f : (link u f).noted ≡ true = ap (λ (z : ℕ). (link u z).noted) (sym same) ∙ e in let law = h.noted j f u here inside noted_f in let quiet = law.alone i v (λ x. other (sym x)) there in
-        (subst (λ (z : Frame × Link). NotedPage z.0 z.1) (λ q. (sym (put_at s.core.frame f (frame_after k b fr) g same) q, ap (λ (z : ℕ). link u z) (sym same) q))
-        (noted_other k b fr l (link u f) a link_here (noted_gone s h j f u here inside noted_f) quiet law.page),
-        λ x. ⊎_elim (λ (y : l.io ≡ Input). quiet y) (λ (y : k ≡ start_input). no_input (subst (λ (z : Kind). AllowedAround z s v f) y around) j u other here noted_f)
-        (input_was k b fr l (ap (λ (y : Link). y.io) (sym relinked.here) ∙ ap (λ (z : ℕ). (link w z).io) (sym same) ∙ x))))
+        (λ same. let noted_f : (link u f).noted ≡ true = ap (λ (z : ℕ). (link u z).noted) (sym same) ∙ e in let law = h.noted j f u here inside noted_f in let quiet = law.alone i v (λ x. other (sym x)) there in (
+          subst (λ (z : Frame × Link). NotedPage z.0 z.1) (λ q. (sym (put_at s.core.frame f (frame_after k b fr) g same) q, ap (λ (z : ℕ). link u z) (sym same) q))
+              (noted_other k b fr l (link u f) a link_here (noted_gone s h j f u here inside noted_f) quiet law.page),
+          λ x. ⊎_elim (λ (y : l.io ≡ Input). quiet y) (λ (y : k ≡ start_input). no_input (subst (λ (z : Kind). AllowedAround z s v f) y around) j u other here noted_f)
+              (input_was k b fr l (ap (λ (y : Link). y.io) (sym relinked.here) ∙ ap (λ (z : ℕ). (link w z).io) (sym same) ∙ x)),
+        ))
         (λ o. let law = h.noted j g u here below e in
         (subst (λ (z : Frame). NotedPage z (link u g)) (sym (put_else s.core.frame f (frame_after k b fr) g o)) law.page, λ x. law.alone i v (λ y. other (sym y)) there (ap (λ (y : Link). y.io) (sym (relinked.else g o)) ∙ x)))
       where
@@ -270,25 +273,25 @@ module _ (s : State) (h : PageInvariant s) (i fork : ℕ) (v : View) (there : ge
   grown_blocks f end a = let law = h.noted i f v there a.inside a.noted in let zero = law.page.valid a.valid in let tag = (s.core.frame f).tag in
       let here : (g : ℕ) → g ≡ f → block_of (put s.logged tag (Some zero_page)) (s.core.frame g).tag ≡ record { logged = Some zero_page } = (λ g e. ap (λ (o : Option Page). block_of (λ _. o) 0) (put_at s.logged tag (Some zero_page) (s.core.frame g).tag (ap (λ (z : ℕ). (s.core.frame z).tag) e))) in
       let else : (g : ℕ) → g < s.core.frames → g ≢ f → block_of (put s.logged tag (Some zero_page)) (s.core.frame g).tag ≡ block_of s.logged (s.core.frame g).tag
-          = (λ g below o. ap (λ (o : Option Page). block_of (λ _. o) 0) (put_else s.logged tag (Some zero_page) (s.core.frame g).tag (λ same. o (sym (h.core.apart f g a.inside below ((h.core.grid.cells i v f there a.inside).noted a.noted).named (sym same)))))) in
+      = (λ g below o. ap (λ (o : Option Page). block_of (λ _. o) 0) (put_else s.logged tag (Some zero_page) (s.core.frame g).tag (λ same. o (sym (h.core.apart f g a.inside below ((h.core.grid.cells i v f there a.inside).noted a.noted).named (sym same)))))) in
       reblock page_shape page_part s.core.frames s.core.frame (block_of s.logged) (set s.core.views i (sized_view (enter_extension f end))) (same_blocks (enter_extension f end) a) (block_of (put s.logged tag (Some zero_page)))
       (λ g below t x. dite (ℕ_discrete g f)
-          (λ e. subst (λ (b : Block). PageFrame b (s.core.frame g) t) (sym (here g e)) (grown_frame (block_of s.logged (s.core.frame g).tag) (s.core.frame g) t (ap (λ (z : ℕ). (s.core.frame z).page) e ∙ zero) x))
-          (λ o. subst (λ (b : Block). PageFrame b (s.core.frame g) t) (sym (else g below o)) x))
+      (λ e. subst (λ (b : Block). PageFrame b (s.core.frame g) t) (sym (here g e)) (grown_frame (block_of s.logged (s.core.frame g).tag) (s.core.frame g) t (ap (λ (z : ℕ). (s.core.frame z).page) e ∙ zero) x))
+      (λ o. subst (λ (b : Block). PageFrame b (s.core.frame g) t) (sym (else g below o)) x))
       (λ g o l below x. dite (ℕ_discrete g f)
-          (λ e. subst (λ (b : Block). PageLink b (s.core.frame g) l) (sym (here g e)) (grown_cell (block_of s.logged (s.core.frame g).tag) (s.core.frame g) l (ap (λ (z : ℕ). s.logged (s.core.frame z).tag) e ∙ noted_gone s h i f v there a.inside a.noted)
-          (ap (λ (z : ℕ). (s.core.frame z).page) e ∙ zero) (ap (λ (z : ℕ). (s.core.frame z).word.valid) e ∙ a.valid) x))
-          (λ n. subst (λ (b : Block). PageLink b (s.core.frame g) l) (sym (else g below n)) x))
+      (λ e. subst (λ (b : Block). PageLink b (s.core.frame g) l) (sym (here g e)) (grown_cell (block_of s.logged (s.core.frame g).tag) (s.core.frame g) l (ap (λ (z : ℕ). s.logged (s.core.frame z).tag) e ∙ noted_gone s h i f v there a.inside a.noted)
+      (ap (λ (z : ℕ). (s.core.frame z).page) e ∙ zero) (ap (λ (z : ℕ). (s.core.frame z).word.valid) e ∙ a.valid) x))
+      (λ n. subst (λ (b : Block). PageLink b (s.core.frame g) l) (sym (else g below n)) x))
 
   cut_blocks : (n end : ℕ) → CanEnterCut n s.core v fork → Grid page_shape page_part s.core.frames s.core.frame (block_of (logged_sized (enter_cut n end) fork s)) (set s.core.views i (sized_view (enter_cut n end)))
   cut_blocks n end a = let logged' : ℕ → Option Page = logged_sized (enter_cut n end) fork s in
       let stays_there : (g : ℕ) → g < s.core.frames → (s.core.frame g).tag ≢ no_tag → block_of logged' (s.core.frame g).tag ≡ block_of s.logged (s.core.frame g).tag
-          = (λ g below named. ap (λ (b : Bool). block_of (λ _. cond b None (s.logged (s.core.frame g).tag)) 0) (h.sizes.passed i fork n g v there a.cut_to (a.passed g below) below named)) in
+      = (λ g below named. ap (λ (b : Bool). block_of (λ _. cond b None (s.logged (s.core.frame g).tag)) 0) (h.sizes.passed i fork n g v there a.cut_to (a.passed g below) below named)) in
       reblock page_shape page_part s.core.frames s.core.frame (block_of s.logged) (set s.core.views i (sized_view (enter_cut n end))) (same_blocks (enter_cut n end) a) (block_of logged')
       (λ g below t x. dite (ℕ_discrete (s.core.frame g).tag no_tag) (λ e. bare_frame (block_of s.logged (s.core.frame g).tag) (block_of logged' (s.core.frame g).tag) (s.core.frame g) t e x)
-          (λ named. subst (λ (b : Block). PageFrame b (s.core.frame g) t) (sym (stays_there g below named)) x))
+      (λ named. subst (λ (b : Block). PageFrame b (s.core.frame g) t) (sym (stays_there g below named)) x))
       (λ g o l below x. dite (ℕ_discrete (s.core.frame g).tag no_tag) (λ e. bare_cell (block_of s.logged (s.core.frame g).tag) (block_of logged' (s.core.frame g).tag) (s.core.frame g) l e x)
-          (λ named. subst (λ (b : Block). PageLink b (s.core.frame g) l) (sym (stays_there g below named)) x))
+      (λ named. subst (λ (b : Block). PageLink b (s.core.frame g) l) (sym (stays_there g below named)) x))
 
   sized_blocks : (k : SizeKind) → SizeAllowed k s.core v fork → Grid page_shape page_part s.core.frames s.core.frame (block_of (logged_sized k fork s)) (set s.core.views i (sized_view k))
   sized_blocks (enter_extension f end) a = grown_blocks f end a
@@ -392,20 +395,26 @@ module _ (s : State) (h : PageInvariant s) (i f : ℕ) (v : View) (there : get_e
   noted_own_pins : (g : ℕ) → g < s.core.frames → (link view_now g).noted ≡ true → NotedPage (put s.core.frame f (pin_kinds.frame_after k frame_here) g) (link view_now g) × ((j : ℕ) (u : View) → j ≢ i → get_elem? s.core.views j ≡ some u → (link u g).io ≢ Input)
   noted_own_pins g below e = dite (ℕ_discrete g f)
       (λ same. let now = ap (λ (x : Link). x.noted) (sym r.here) ∙ ap (λ (z : ℕ). (link view_now z).noted) (sym same) ∙ e in
-          let both_laws : NotedPage (pin_kinds.frame_after k frame_here) (pin_kinds.link_after k frame_here link_at) × ((j : ℕ) (u : View) → j ≢ i → get_elem? s.core.views j ≡ some u → (link u f).io ≢ Input) = ⊎_elim
-              (λ (was : link_at.noted ≡ true). let law = h.noted i f v there inside was in (own_read (noted_below k (block_of s.logged frame_here.tag) frame_here link_at link_at sums_here a (h.core.grid.columns f inside) (h.core.grid.cells i v f there inside) law.page), law.alone))
-              (λ (n : (tag : ℕ) × (k ≡ pin_kinds.store_new_tag tag)). (subst (λ (z : pin_kinds.Kind). NotedPage (pin_kinds.frame_after z frame_here) (pin_kinds.link_after z frame_here link_at)) (sym n.1)
-              (noted_new n.0 (block_of s.logged frame_here.tag) frame_here link_at sums_here (subst (λ (z : pin_kinds.Kind). pin_kinds.Allowed z frame_here link_at) n.1 a) (h.core.grid.columns f inside) (h.pages.cells i v f there inside)), new_alone n.0 n.1)) (noted_was k frame_here link_at now) in
-          (subst (λ (z : Frame × Link). NotedPage z.0 z.1) (λ q. (sym (put_at s.core.frame f (pin_kinds.frame_after k frame_here) g same) q, sym (ap (λ (z : ℕ). link view_now z) same ∙ r.here) q)) both_laws.0,
-          subst (λ (z : ℕ). (j : ℕ) (u : View) → j ≢ i → get_elem? s.core.views j ≡ some u → (link u z).io ≢ Input) (sym same) both_laws.1))
+      let both_laws : NotedPage (pin_kinds.frame_after k frame_here) (pin_kinds.link_after k frame_here link_at) × ((j : ℕ) (u : View) → j ≢ i → get_elem? s.core.views j ≡ some u → (link u f).io ≢ Input) = ⊎_elim
+      (λ (was : link_at.noted ≡ true). let law = h.noted i f v there inside was in (own_read (noted_below k (block_of s.logged frame_here.tag) frame_here link_at link_at sums_here a (h.core.grid.columns f inside) (h.core.grid.cells i v f there inside) law.page), law.alone))
+      (λ (n : (tag : ℕ) × (k ≡ pin_kinds.store_new_tag tag)). (
+        subst (λ (z : pin_kinds.Kind). NotedPage (pin_kinds.frame_after z frame_here) (pin_kinds.link_after z frame_here link_at)) (sym n.1)
+            (noted_new n.0 (block_of s.logged frame_here.tag) frame_here link_at sums_here (subst (λ (z : pin_kinds.Kind). pin_kinds.Allowed z frame_here link_at) n.1 a) (h.core.grid.columns f inside) (h.pages.cells i v f there inside)),
+        new_alone n.0 n.1,
+      )) (noted_was k frame_here link_at now) in (
+        subst (λ (z : Frame × Link). NotedPage z.0 z.1) (λ q. (sym (put_at s.core.frame f (pin_kinds.frame_after k frame_here) g same) q, sym (ap (λ (z : ℕ). link view_now z) same ∙ r.here) q)) both_laws.0,
+        subst (λ (z : ℕ). (j : ℕ) (u : View) → j ≢ i → get_elem? s.core.views j ≡ some u → (link u z).io ≢ Input) (sym same) both_laws.1,
+      ))
       (λ o. let law = h.noted i g v there below (ap (λ (x : Link). x.noted) (sym (r.else g o)) ∙ e) in
       (subst (λ (z : Frame × Link). NotedPage z.0 z.1) (λ q. (sym (put_else s.core.frame f (pin_kinds.frame_after k frame_here) g o) q, sym (r.else g o) q)) law.page, law.alone))
 
   noted_other_pins : (j g : ℕ) (u : View) → j ≢ i → get_elem? s.core.views j ≡ some u → g < s.core.frames → (link u g).noted ≡ true → NotedPage (put s.core.frame f (pin_kinds.frame_after k frame_here) g) (link u g) × ((link view_now g).io ≢ Input)
   noted_other_pins j g u other here below e = let law = h.noted j g u here below e in let quiet = law.alone i v (λ x. other (sym x)) there in dite (ℕ_discrete g f)
-      (λ same. (subst (λ (z : Frame). NotedPage z (link u g)) (sym (put_at s.core.frame f (pin_kinds.frame_after k frame_here) g same))
-      (noted_below k (block_of s.logged frame_here.tag) frame_here link_at (link u g) sums_here a (h.core.grid.columns f inside) (h.core.grid.cells i v f there inside) (subst (λ (z : Frame). NotedPage z (link u g)) (ap s.core.frame same) law.page)),
-      λ x. quiet (ap (λ (z : ℕ). (link v z).io) same ∙ sym (io_below k frame_here link_at) ∙ ap (λ (y : Link). y.io) (sym r.here) ∙ ap (λ (z : ℕ). (link view_now z).io) (sym same) ∙ x)))
+      (λ same. (
+        subst (λ (z : Frame). NotedPage z (link u g)) (sym (put_at s.core.frame f (pin_kinds.frame_after k frame_here) g same))
+            (noted_below k (block_of s.logged frame_here.tag) frame_here link_at (link u g) sums_here a (h.core.grid.columns f inside) (h.core.grid.cells i v f there inside) (subst (λ (z : Frame). NotedPage z (link u g)) (ap s.core.frame same) law.page)),
+        λ x. quiet (ap (λ (z : ℕ). (link v z).io) same ∙ sym (io_below k frame_here link_at) ∙ ap (λ (y : Link). y.io) (sym r.here) ∙ ap (λ (z : ℕ). (link view_now z).io) (sym same) ∙ x),
+      ))
       (λ o. (subst (λ (z : Frame). NotedPage z (link u g)) (sym (put_else s.core.frame f (pin_kinds.frame_after k frame_here) g o)) law.page, λ x. quiet (ap (λ (y : Link). y.io) (sym (r.else g o)) ∙ x)))
 
   -- what is noted after it

@@ -130,7 +130,6 @@ pub record NewBlocksAreZero (s : State) : Type 0 where
   pub read : (i f : ℕ) (v : View) (p : Page) → get_elem? s.core.views i ≡ some v → f < s.core.frames → (link v f).noted ≡ true → (link v f).read ≡ Some p → p ≡ zero_page
   pub alone : (i j f : ℕ) (v u : View) → get_elem? s.core.views i ≡ some v → get_elem? s.core.views j ≡ some u → f < s.core.frames → (link v f).noted ≡ true → (link u f).io ≡ Input → j ≡ i
 
-
 -- A page that a view has copied under its content lock is the block's page after the log, where that is known, and so is one that the lane gave under its input right
 pub record CopiesArePages (s : State) : Type 0 where
   -- a copy is the frame's page still

@@ -10,11 +10,16 @@ use Rattle.block_tag.specs.Names.{lane_number, packed_tag}
 use Rattle.segment_store.specs.Contents.{Marks, Pages, no_marks}
 use Rattle.segment_store.specs.Lanes.{HoldPages, mark_in, tag_at}
 use Rattle.pin_core.specs.State.{Page}
+use Rattle.pin_core.specs.State.{is_block as is_there}
 use Rattle.history_core.specs.Log.{Entry, page_after, cell, cut}
-use Rattle.history_core.specs.State.{stored, stored_upto}
+use Rattle.history_core.specs.State.{State, stored, stored_upto}
+use Rattle.history_core.specs.Laws.{Laws}
+use Rattle.history_core.proofs.Stepping.{lane_cell}
+use Rattle.frame_table.proofs.Listed.{listed_there}
+use Rattle.table_rule.specs.Blocks.{has_named, is_block}
 use Rattle.table_rule.specs.declared.opening.Opening.{Opening}
 use Rattle.table_rule.specs.Layout.{lane_of_tag}
-use Rattle.table_rule.specs.Shows.{Devices, IsPlaced}
+use Rattle.table_rule.specs.Shows.{Devices, IsPlaced, KeepsOpening}
 use Rattle.table_rule.specs.TakenLanes.{IsBlockOf}
 use Rattle.table_rule.proofs.Tags.{packed_is}
 use Rattle.backend_pass.specs.Passes.{PassState}
@@ -26,6 +31,11 @@ pub some_of : (x : Option Pages) → is_some x ≡ true → (p : Pages) × (x �
 some_of None e = absurd (let no : false ≡ true = e in cc)
 some_of (Some p) e = (p, refl)
 
+-- a block of the catalogue is there
+pub placed_there : {L G : Type 0} (d : Devices L G) (o : Opening L G) (s : State) → KeepsOpening d o s → Laws s → (n q word : ℕ) (tag : Tag) → IsPlaced o.catalog.value n q word tag → is_there s.pool.core word ≡ true
+unfolding is_block
+placed_there d o s kept laws n q word tag placed = listed_there d o s kept laws word ∙ ap (has_named o.catalog.value) placed.named ∙ placed.listed
+
 -- What a lane has of a block: this page, and no write that failed
 pub record LaneHasBlock {L G : Type 0} (d : Devices L G) (tag : Tag) (page : Page) (l : L) : Type 0 where
   pub pages : Pages
@@ -35,9 +45,9 @@ pub record LaneHasBlock {L G : Type 0} (d : Devices L G) (tag : Tag) (page : Pag
 
 module _ {L G : Type 0} (d : Devices L G) (o : Opening L G) (ps : List PassState) (lanes : List L) (log : G) (c : ClosesAll d o ps lanes log) (w : NothingWritten c.state ps) (n : NothingPut c.state ps) where
   -- the page of a block is the one that its lane held at first
-  stays : (word : ℕ) → c.state.known word ≡ true → stored c.state word ≡ c.state.origin word
+  stays : (word : ℕ) → is_there c.state.pool.core word ≡ true → c.state.known word ≡ true → stored c.state word ≡ c.state.origin word
   unfolding page_after cut
-  stays word known = (c.laws.invariant.flushed_cells word).is_cell known (w.unfailed word)
+  stays word block known = lane_cell c.state c.laws.invariant word block known (w.unfailed word)
       ∙ ap (λ (es : List Entry). cell c.state.origin (cut (stored_upto c.state word) es) word) n.entries
 
   pub block_left : (q : ℕ) (l l' : L) (tag : Tag) (pages : Pages) (page : Page) → IsBlockOf o.catalog.value o.config.lanes q tag → get_elem? o.lanes.value.items q ≡ some l
@@ -55,7 +65,7 @@ module _ {L G : Type 0} (d : Devices L G) (o : Opening L G) (ps : List PassState
         known = known'.1;
         page_is = given.pages known'.0 word tag known'.1 lies
             ∙ ap (λ (p : ℕ). (c.state.lane p).stored word) (sym lane_is)
-            ∙ stays word told
+            ∙ stays word (placed_there d o c.state c.opened c.laws o.config.lanes q word tag placed) told
             ∙ sym (c.opened.origin q l pages word tag at known placed)
             ∙ is;
         unfailed = sym (given.failed known'.0 word tag known'.1 lies) ∙ ap (λ (p : ℕ). (c.state.lane p).failed word) (sym lane_is) ∙ w.unfailed word;

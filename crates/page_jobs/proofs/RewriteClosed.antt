@@ -6,7 +6,7 @@ use lib.ListN.{get_elem?}
 use Rattle.pin_core.specs.declared.view.Call.{Call}
 use Rattle.pin_core.specs.declared.view.Call.TheVariants.{Read, Write}
 use Rattle.pin_core.specs.State.{Page}
-use Rattle.history_core.specs.Log.{Entry, Change, image, ranges, resize, is_image, tag_in, image_record, IsEntryOf, AreChained, AreValid, Log, end_of, cell, cut, IsLegal, IsLegalRead, IsLegalWrite, writes_in, writes_at}
+use Rattle.history_core.specs.Log.{Entry, Change, image, ranges, resize, is_image, tag_in, image_record, IsEntryOf, AreChained, AreOfPages, is_of_page, Log, end_of, cell, cut, IsLegal, IsLegalRead, IsLegalWrite, writes_in, writes_at}
 use Rattle.grid.proofs.Sums.{total-same, some_term}
 use Rattle.history_core.specs.History.{IsHistory}
 use Rattle.page_jobs.specs.Rewrites.{Rule, Outcome, unsound, kept, refused, changed, outcome_block, outcome_calls}
@@ -19,8 +19,8 @@ start_is : (o : Option Page) (q : Page) → o ≡ Some q → q ≡ unwrap_or o [
 start_is o q e = sym (ap (λ (x : Option Page). unwrap_or x []) e)
 
 -- a block without an entry up to a place has its page at the start
-pub cell_untouched : (origin : ℕ → Option Page) (es : List Entry) (p tag : ℕ) → AreValid es → ((k : ℕ) (e : Entry) → IsEntryOf es tag k e → p < end_of e) → cell origin (cut p es) tag ≡ origin tag
-cell_untouched origin es p tag valid none = after_none tag p es (origin tag) valid none
+pub cell_untouched : (origin : ℕ → Option Page) (es : List Entry) (p tag : ℕ) → AreOfPages es → ((k : ℕ) (e : Entry) → IsEntryOf es tag k e → p < end_of e) → cell origin (cut p es) tag ≡ origin tag
+cell_untouched origin es p tag of_pages none = after_none tag p es (origin tag) of_pages none
 
 -- entries that follow one another have ends of their own
 same_end : (from : ℕ) (es : List Entry) → AreChained from es → (j k : ℕ) (d e : Entry) → get_elem? es j ≡ some d → get_elem? es k ≡ some e → end_of d ≡ end_of e → j ≡ k
@@ -37,9 +37,9 @@ page_entry (image t q) tag p whole of is = ap (λ (z : ℕ). image z q) (same_So
 page_entry (ranges t spans) tag p whole of is = absurd (cc)
 page_entry (resize fork before after) tag p whole of is = absurd (cc)
 
-module _ {r : Rule} {n : ℕ} {known : ℕ → Bool} {origin : ℕ → Option Page} {log : Log} {calls : List Call} {ps : List BackendCalls} (h : IsHistory known origin log calls) (w : Rewrites r n known origin calls ps) where
-  legal_done : (k : ℕ) (o : Outcome) → get_elem? (all_done ps) k ≡ some o → Each (IsLegal known origin log) (outcome_calls r o)
-  legal_done = each_done r (IsLegal known origin log) ps (subst (Each (IsLegal known origin log)) w.calls_are h.legal)
+module _ {r : Rule} {n : ℕ} {known : ℕ → Bool} {origin : ℕ → Option Page} {sizes : ℕ → ℕ} {log : Log} {calls : List Call} {ps : List BackendCalls} (h : IsHistory known origin sizes log calls) (w : Rewrites r n known origin calls ps) where
+  legal_done : (k : ℕ) (o : Outcome) → get_elem? (all_done ps) k ≡ some o → Each (IsLegal known origin sizes log) (outcome_calls r o)
+  legal_done = each_done r (IsLegal known origin sizes log) ps (subst (Each (IsLegal known origin sizes log)) w.calls_are h.legal)
 
   -- entries with one end are one
   same_index : (j k : ℕ) (d e : Entry) → get_elem? log.entries j ≡ some d → get_elem? log.entries k ≡ some e → end_of d ≡ end_of e → j ≡ k
@@ -79,6 +79,9 @@ module _ {r : Rule} {n : ℕ} {known : ℕ → Bool} {origin : ℕ → Option Pa
       from : ((j : ℕ) × (o : Outcome) × (get_elem? (all_done ps) j ≡ some o) × (0 < outcome_at (end_of e) o)) → MadeBy e
       from (j, o, t, low) = by_case j o t low
 
+  of_pages : AreOfPages log.entries
+  of_pages k e at = ap is_of_page (made_by k e at).entered
+
   -- the outcome of a block that has an entry is the one that made it
   outcome_of : (k j : ℕ) (e : Entry) (o : Outcome) → (at : get_elem? log.entries k ≡ some e) → get_elem? (all_done ps) j ≡ some o → tag_in e.change ≡ Some (r.tag (outcome_block o)) → (m : MadeBy e) × (o ≡ changed m.block m.backend m.page m.place (end_of e))
   outcome_of k j e o at to tagged = let m = made_by k e at in let c = changed m.block m.backend m.page m.place (end_of e) in
@@ -96,7 +99,7 @@ module _ {r : Rule} {n : ℕ} {known : ℕ → Bool} {origin : ℕ → Option Pa
 
   -- the page that was read of a block, and not after its entry, is the page at the start
   read_page : (j : ℕ) (o : Outcome) → get_elem? (all_done ps) j ≡ some o → (q : Page) (p : ℕ) → IsLegalRead known origin log (r.tag (outcome_block o)) q p → ((b i t m : ℕ) (x : Page) → o ≡ changed b i x t m → p < m) → known (r.tag (outcome_block o)) ≡ true → q ≡ page_at_start origin (r.tag (outcome_block o))
-  read_page j o at q p l before is = start_is (origin (r.tag (outcome_block o))) q (sym (cell_untouched origin log.entries p (r.tag (outcome_block o)) h.law.valid (λ k e of. let x = outcome_of k j e o of.there at of.of in before x.0.block x.0.backend x.0.place (end_of e) x.0.page x.1)) ∙ l.reads is)
+  read_page j o at q p l before is = start_is (origin (r.tag (outcome_block o))) q (sym (cell_untouched origin log.entries p (r.tag (outcome_block o)) of_pages (λ k e of. let x = outcome_of k j e o of.there at of.of in before x.0.block x.0.backend x.0.place (end_of e) x.0.page x.1)) ∙ l.reads is)
 
   read_changed : (j b i m : ℕ) (q : Page) (p : ℕ) → get_elem? (all_done ps) j ≡ some (changed b i q p m) → known (r.tag b) ≡ true → q ≡ page_at_start origin (r.tag b)
   read_changed j b i m q p at = read_page j (changed b i q p m) at q p (legal_done j (changed b i q p m) at 0 (Read i (r.tag b) q p) refl) (λ c k t z x e. subst (λ (y : ℕ). p < y) (ap place_after e) (w.fair j (changed b i q p m) at).1)
@@ -126,7 +129,7 @@ module _ {r : Rule} {n : ℕ} {known : ℕ → Bool} {origin : ℕ → Option Pa
   refused_new j b i q p at = no_entry j (refused b i q p) at refl
 
 -- Where all blocks are done
-module _ {r : Rule} {n : ℕ} {known : ℕ → Bool} {origin : ℕ → Option Page} {log : Log} {calls : List Call} {ps : List BackendCalls} (h : IsHistory known origin log calls) (w : RewritesAll r n known origin calls ps) (told : (b : ℕ) → b < n → known (r.tag b) ≡ true) where
+module _ {r : Rule} {n : ℕ} {known : ℕ → Bool} {origin : ℕ → Option Page} {sizes : ℕ → ℕ} {log : Log} {calls : List Call} {ps : List BackendCalls} (h : IsHistory known origin sizes log calls) (w : RewritesAll r n known origin calls ps) (told : (b : ℕ) → b < n → known (r.tag b) ≡ true) where
   pub kept_read : (j b i : ℕ) (q : Page) (p : ℕ) → get_elem? (all_done ps) j ≡ some (kept b i q p) → q ≡ page_at_start origin (r.tag b)
   kept_read j b i q p at = let o = kept b i q p in read_page h w.rewrites j o at q p (legal_done h w.rewrites j o at 0 (Read i (r.tag b) q p) refl) (λ c k t z x e. absurd (cc)) (told b (w.rewrites.below j o at))
 

@@ -5,7 +5,7 @@ use native.Mathlib.Decide.{ℕ_discrete}
 use mathlib.Core.Option.{some, some-ne-none, some-injective}
 use lib.ListN.{get_elem?}
 use Rattle.pin_core.specs.declared.view.Call.{Call}
-use Rattle.pin_core.specs.declared.view.Call.TheVariants.{Read, Write}
+use Rattle.pin_core.specs.declared.view.Call.TheVariants.{Read, Write, Size, Sized}
 use Rattle.grid.proofs.Sums.{total-both}
 use Rattle.history_core.proofs.Calls.{at_both}
 use Rattle.history_core.specs.Log.{write_weight, weight_at, writes_in, writes_at}
@@ -94,6 +94,8 @@ test_is a b h = dite (ℕ_discrete a b) (λ e. e) (λ n. let x = test_else a b 1
 few_at : (p : ℕ) (c : Call) → weight_at p c ≤ write_weight c
 few_at p (Read i t q n) = omega arith
 few_at p (Write i t q n whole) = test_le (nat_eq n p)
+few_at p (Size i fork blocks n) = test_le (nat_eq n p)
+few_at p (Sized i fork blocks n) = omega arith
 
 same_at : (r : Rule) (p : ℕ) (o : Outcome) → total (weight_at p) (outcome_calls r o) ≡ outcome_at p o
 unfolding total

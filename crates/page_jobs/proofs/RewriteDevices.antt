@@ -19,7 +19,7 @@ use Rattle.segment_store.specs.Contents.{Pages}
 use Rattle.pin_core.specs.declared.view.Call.{Call}
 use Rattle.pin_core.specs.declared.view.TornRecord.{TornRecord}
 use Rattle.pin_core.specs.declared.view.View.{View}
-use Rattle.pin_core.specs.State.{Page}
+use Rattle.pin_core.specs.State.{Page, is_block}
 use Rattle.history_core.specs.Log.{Change, Entry, IsChange, MayMake, image, ranges, resize, tag_in, end_of, place_of, writes_in}
 use Rattle.history_core.specs.Rest.{BeginsRecord}
 use Rattle.history_core.specs.State.{last_position, stored, failed}
@@ -56,7 +56,7 @@ use Rattle.page_jobs.proofs.RewriteCourse.{Parted, all_parted}
 use Rattle.page_jobs.proofs.RewriteLanes.{finishes, lanes_hold_either}
 use Rattle.page_jobs.proofs.RewriteOrder.{InOrder, calls_ordered, in_order}
 use Rattle.page_jobs.proofs.Standing.{inside, there}
-use Rattle.page_jobs.proofs.ReadersLeave.{some_of}
+use Rattle.page_jobs.proofs.ReadersLeave.{placed_there, some_of}
 
 told_invalid : (page : Page) → is_sound_page page ≡ false → page_rewrite_of page ≡ Invalid
 unfolding page_rewrite_of
@@ -81,7 +81,7 @@ torn_image (image t q) end tag lsn p valid may low (same, is) =
     let ends : lsn ≡ end = sym (lsn_of-with_lsn lsn p (omega arith)) ∙ ap lsn_of (sym is) ∙ valid.ends in
     (ends, ap (λ (n : ℕ). image n q) same ∙ ap (image tag) is ∙ ap (λ (n : ℕ). image tag (with_lsn n p)) ends)
 torn_image (ranges t spans) end tag lsn p valid may low of = absurd (cc)
-torn_image (resize fork old new) end tag lsn p valid may low of = absurd valid
+torn_image (resize fork old new) end tag lsn p valid may low of = absurd may
 
 lane_below : (h n : ℕ) → 0 < n → h % n < n
 lane_below h n more = omega (arith, more)
@@ -143,7 +143,7 @@ module _ {L G : Type 0} (d : Devices L G) (o : Opening L G) (zs : List PassState
     was_first page is = sym (ap (λ (o : Option Page). unwrap_or o []) (was_page page is))
 
   hold_either : (r : Rule) (n : ℕ) → HasRewrites r n c.state.known c.state.origin c.state.log → HoldEither d o lanes r c.state
-  hold_either r n has word tag before after closed page x was unfailed = either (lanes_hold_either c.state r n c.laws has word (is_known word tag before after closed x) (has_failed word tag before after closed x ∙ unfailed))
+  hold_either r n has word tag before after closed page x was unfailed = either (lanes_hold_either c.state r n c.laws has word (placed_there d o c.state c.opened c.laws o.config.lanes x.lane word tag x.placed) (is_known word tag before after closed x) (has_failed word tag before after closed x ∙ unfailed))
     where
       now : after tag ≡ stored c.state word
       now = has_page word tag before after closed x
@@ -339,6 +339,10 @@ module _ {L G : Type 0} (d : Devices L G) (m : Manager L G) (rel : ℕ) (fork : 
       let l = opened_at d m rel fork ps qs zs lanes log c y.alone ((rule_of rel fork).tag b) tag in
       c.opened.known q l.0 ((rule_of rel fork).tag b) l.1 (lane_of d m rel fork ps qs zs lanes log c y.alone b low) ∙ y.known q l.0 l.1
 
+  all_there : (b : ℕ) → b < blocks_in m rel fork → is_block c.state.pool.core ((rule_of rel fork).tag b) ≡ true
+  all_there b low = let tag = tag_of_parts rel fork b in placed_there d m.table.table.shared.key c.state c.opened c.laws (lanes_in m.table) (lane_number tag (lanes_in m.table)) ((rule_of rel fork).tag b) tag
+      record { named = packed_is tag (y.alone.parts.named b low); listed = lt-ltb b (blocks_in m rel fork) low; placed = refl }
+
   all_reached : (k : ℕ) (e : Call) → get_elem? (calls_in_order zs) k ≡ some e → place_of e ≤ upto
   all_reached = each_in_order (λ (e : Call). place_of e ≤ upto) zs (λ i z at k e there. let f = (c.each i z at).front in let a = f.above k e there in let b = y.fronts i z at in omega arith)
 
@@ -351,6 +355,7 @@ module _ {L G : Type 0} (d : Devices L G) (m : Manager L G) (rel : ℕ) (fork : 
     history = c.history;
     rewrites = all_rewrites;
     known = all_known;
+    there = all_there;
     stored_all = ((c.each y.index y.checkpointer y.there).swept upto (λ q below. y.swept q (let e = c.opened.lanes in omega arith))).1;
     reached = all_reached;
   }

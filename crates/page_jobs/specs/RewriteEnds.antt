@@ -5,7 +5,7 @@ use lib.ListN.{get_elem?}
 use Rattle.grid.specs.Shape.{total}
 use Rattle.chunk_claims.specs.Claims.{sum_below}
 use Rattle.pin_core.specs.declared.view.Call.{Call}
-use Rattle.pin_core.specs.State.{Page}
+use Rattle.pin_core.specs.State.{Page, is_block}
 use Rattle.history_core.specs.Log.{Entry, IsEntryOf, Log, image, end_of, log_end, record_bytes, record_size, head_size, place_of, writes_in}
 use Rattle.history_core.specs.History.{IsHistory}
 use Rattle.history_core.specs.Laws.{Laws}
@@ -115,14 +115,14 @@ pub record IsRewritten (r : Rule) (n : ℕ) (known : ℕ → Bool) (origin : ℕ
 abbrev pub IsAfter : State → ℕ → Type 0
 IsAfter s tag = ((k : ℕ) × (e : Entry) × (page : Page) × (get_elem? s.log.entries k ≡ some e) × IsPageEntry e tag page × (head_size + end_of e ≤ s.log.base + s.device.synced) × (stored s tag ≡ Some page)) ⊎ (stored s tag ≡ s.origin tag)
 
--- each lane's blocks are the pages before or after the rewrite, or their last write failed
+-- each lane's blocks that are there are the pages before or after the rewrite, or their last write failed
 abbrev pub LanesHoldEither : State → Type 0
-LanesHoldEither s = (tag : ℕ) → s.known tag ≡ true → failed s tag ≡ false → IsAfter s tag
+LanesHoldEither s = (tag : ℕ) → is_block s.pool.core tag ≡ true → s.known tag ≡ true → failed s tag ≡ false → IsAfter s tag
 
 -- each whose last write didn't fail has the page of its entry, and where it has none its page as before
 pub record LanesHoldAll (s : State) : Type 0 where
   pub written : (k tag : ℕ) (e : Entry) (page : Page) → get_elem? s.log.entries k ≡ some e → IsPageEntry e tag page → s.known tag ≡ true → failed s tag ≡ false → stored s tag ≡ Some page
-  pub other : (tag : ℕ) → s.known tag ≡ true → failed s tag ≡ false → (HasEntry s.log tag → ⊥) → stored s tag ≡ s.origin tag
+  pub other : (tag : ℕ) → is_block s.pool.core tag ≡ true → s.known tag ≡ true → failed s tag ≡ false → (HasEntry s.log tag → ⊥) → stored s tag ≡ s.origin tag
 
 -- What the log and the lanes are after a rewrite that did all blocks, and a checkpoint
 pub record IsResult (r : Rule) (n : ℕ) (s : State) : Type 0 where
@@ -135,8 +135,9 @@ pub record IsResult (r : Rule) (n : ℕ) (s : State) : Type 0 where
 -- A state with the law, whose history is that of a rewrite of all blocks; all entries up to `upto` are stored, and no call is past it
 pub record Finishes (r : Rule) (n : ℕ) (s : State) (calls : List Call) (ps : List BackendCalls) (upto : ℕ) : Type 0 where
   pub laws : Laws s
-  pub history : IsHistory s.known s.origin s.log calls
+  pub history : IsHistory s.known s.origin s.opened_sizes s.log calls
   pub rewrites : RewritesAll r n s.known s.origin calls ps
   pub known : (b : ℕ) → b < n → s.known (r.tag b) ≡ true
+  pub there : (b : ℕ) → b < n → is_block s.pool.core (r.tag b) ≡ true
   pub stored_all : AreStored s upto
   pub reached : (k : ℕ) (c : Call) → get_elem? calls k ≡ some c → place_of c ≤ upto

@@ -29,7 +29,7 @@ pub tag_words : (s : State) → SizesLaw s → TagWordsAreBlocks s
 tag_words s h = record {
   noted = h.blocks;
   quiet = λ e f below named. ⊎_elim (λ (x : is_block s (s.frame f).tag ≡ true). x) (λ (n : IsNoted s f). let fork = tag_fork (s.frame f).tag in let at = h.noted n.0 f n.1 n.2 below n.3 in
-  absurd (flags_differ (sym (h.quiet e fork) ∙ stands (s.size fork) (size_hold n.1 fork) (tallies size_shape s.views fork) ((h.words (suc fork)).columns fork (omega arith)) (term_le (λ (z : View). size_weight excluders (size_hold z fork)) s.views n.0 n.1 n.2) at.may.right))) (h.blocks f below named);
+      absurd (flags_differ (sym (h.quiet e fork) ∙ stands (s.size fork) (size_hold n.1 fork) (tallies size_shape s.views fork) ((h.words (suc fork)).columns fork (omega arith)) (term_le (λ (z : View). size_weight excluders (size_hold z fork)) s.views n.0 n.1 n.2) at.may.right))) (h.blocks f below named);
 }
   where
     stands : (w : SizeWord) (h : SizeHold) (t : SizeTally → ℕ) → SizeLaw w t → size_weight excluders h ≤ t excluders → h.right ≡ size_right.Exclusive → w.exclusive ≡ true

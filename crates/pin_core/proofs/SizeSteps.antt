@@ -72,18 +72,18 @@ module _ (s : State) (h : SizesLaw s) (i : ℕ) (v w : View) (frame' : ℕ → F
         (λ o. ⊎_elim (λ (e : is_block s (s.frame f).tag ≡ true). inl (ap (is_block s) (tags f o) ∙ e)) (λ (e : IsNoted s f). inr (noted_stays s.views i v w f there (ap (λ (x : Link). x.noted) (links f o)) e)) (h.blocks f below (λ e. named (tags f o ∙ e))));
     noted = λ j f u here below e. ⊎_elim
         (λ (t : (j ≡ i) × (w ≡ u)). let now : (link w f).noted ≡ true = ap (λ (x : View). (link x f).noted) t.1 ∙ e in subst (λ (x : View). IsAtSize changed x (frame' f).tag) t.1 (dite (ℕ_discrete f g)
-            (λ same. subst (λ (z : ℕ). IsAtSize changed w (frame' z).tag) (sym same) (let at = at_size (ap (λ (z : ℕ). (link w z).noted) (sym same) ∙ now) in record { may = may_same (tag_fork (frame' g).tag) at.may; at = at.at }))
-            (λ o. subst (λ (z : ℕ). IsAtSize changed w z) (sym (tags f o)) (let at = h.noted i f v there below (sym (ap (λ (x : Link). x.noted) (links f o)) ∙ now) in record { may = may_same (tag_fork (s.frame f).tag) at.may; at = at.at }))))
+        (λ same. subst (λ (z : ℕ). IsAtSize changed w (frame' z).tag) (sym same) (let at = at_size (ap (λ (z : ℕ). (link w z).noted) (sym same) ∙ now) in record { may = may_same (tag_fork (frame' g).tag) at.may; at = at.at }))
+        (λ o. subst (λ (z : ℕ). IsAtSize changed w z) (sym (tags f o)) (let at = h.noted i f v there below (sym (ap (λ (x : Link). x.noted) (links f o)) ∙ now) in record { may = may_same (tag_fork (s.frame f).tag) at.may; at = at.at }))))
         (λ (t : (j ≢ i) × (get_elem? s.views j ≡ some u)). dite (ℕ_discrete f g)
-            (λ same. let x = (others j u t.0 t.1).0 in let y = subst (λ (z : ℕ). (link u z).noted ≡ true) same e in absurd (flags_differ (sym x ∙ y)))
-            (λ o. subst (λ (z : ℕ). IsAtSize changed u z) (sym (tags f o)) (let at = h.noted j f u t.1 below e in record { may = record { right = at.may.right; unmade = at.may.unmade }; at = at.at }))) (at_set s.views i j w u here);
+        (λ same. let x = (others j u t.0 t.1).0 in let y = subst (λ (z : ℕ). (link u z).noted ≡ true) same e in absurd (flags_differ (sym x ∙ y)))
+        (λ o. subst (λ (z : ℕ). IsAtSize changed u z) (sym (tags f o)) (let at = h.noted j f u t.1 below e in record { may = record { right = at.may.right; unmade = at.may.unmade }; at = at.at }))) (at_set s.views i j w u here);
     insides = λ j f u here below e. dite (ℕ_discrete f g)
         (λ same. ⊎_elim
-            (λ (t : (j ≡ i) × (w ≡ u)). absurd (flags_differ (sym unseen ∙ ap (λ (z : ℕ). (link w z).inside) (sym same) ∙ ap (λ (x : View). (link x f).inside) t.1 ∙ e)))
-            (λ (t : (j ≢ i) × (get_elem? s.views j ≡ some u)). let x = (others j u t.0 t.1).1 in let y = subst (λ (z : ℕ). (link u z).inside ≡ true) same e in absurd (flags_differ (sym x ∙ y))) (at_set s.views i j w u here))
+        (λ (t : (j ≡ i) × (w ≡ u)). absurd (flags_differ (sym unseen ∙ ap (λ (z : ℕ). (link w z).inside) (sym same) ∙ ap (λ (x : View). (link x f).inside) t.1 ∙ e)))
+        (λ (t : (j ≢ i) × (get_elem? s.views j ≡ some u)). let x = (others j u t.0 t.1).1 in let y = subst (λ (z : ℕ). (link u z).inside ≡ true) same e in absurd (flags_differ (sym x ∙ y))) (at_set s.views i j w u here))
         (λ o. ap (is_block s) (tags f o) ∙ ⊎_elim
-            (λ (t : (j ≡ i) × (w ≡ u)). h.insides i f v there below (ap (λ (x : Link). x.inside) (sym (links f o)) ∙ ap (λ (x : View). (link x f).inside) t.1 ∙ e))
-            (λ (t : (j ≢ i) × (get_elem? s.views j ≡ some u)). h.insides j f u t.1 below e) (at_set s.views i j w u here));
+        (λ (t : (j ≡ i) × (w ≡ u)). h.insides i f v there below (ap (λ (x : Link). x.inside) (sym (links f o)) ∙ ap (λ (x : View). (link x f).inside) t.1 ∙ e))
+        (λ (t : (j ≢ i) × (get_elem? s.views j ≡ some u)). h.insides j f u t.1 below e) (at_set s.views i j w u here));
     passed = λ j fork n f u here to has below named. let r = old_hold j fork u here in let to' = ap (λ (x : SizeHold). x.cut_to) (sym r.3) ∙ to in let has' = subst (λ (x : SizeHold). Contains x.passed f) r.3 has in dite (ℕ_discrete f g)
         (λ same. subst (λ (z : ℕ). is_cut fork n (frame' z).tag ≡ false) (sym same) (passes r.0 fork n r.1 r.2 to' (subst (λ (z : ℕ). Contains (size_hold r.1 fork).passed z) same has') (λ e. named (ap (λ (z : ℕ). (frame' z).tag) same ∙ e))))
         (λ o. ap (is_cut fork n) (tags f o) ∙ h.passed r.0 fork n f r.1 r.2 to' has' below (λ e. named (tags f o ∙ e)));

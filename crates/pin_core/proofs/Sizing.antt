@@ -268,10 +268,10 @@ module _ (s : State) (h : SizesLaw s) (i fork : ℕ) (v w : View) (w' : SizeWord
         (λ (t : (j ≢ i) × (get_elem? s.views j ≡ some u)). h.insides j f u t.1 below e) (set_at s.views i v w there j u here));
     passed = λ j g n f u here to has below named. ⊎_elim
         (λ (t : (j ≡ i) × (w ≡ u)). dite (ℕ_discrete g fork)
-            (λ same. let now : size_hold u g ≡ hold = ap (λ (x : View). size_hold x g) (sym t.1) ∙ ap (λ (z : ℕ). size_hold w z) same ∙ moved.here in
-                subst (λ (z : ℕ). is_cut z n (s.frame f).tag ≡ false) (sym same) (passes n f (ap (λ (x : SizeHold). x.cut_to) (sym now) ∙ to) (subst (λ (x : SizeHold). Contains x.passed f) now has) below named))
-            (λ o. let now : size_hold u g ≡ size_hold v g = ap (λ (x : View). size_hold x g) (sym t.1) ∙ moved.else g o in
-                h.passed i g n f v there (ap (λ (x : SizeHold). x.cut_to) (sym now) ∙ to) (subst (λ (x : SizeHold). Contains x.passed f) now has) below named))
+        (λ same. let now : size_hold u g ≡ hold = ap (λ (x : View). size_hold x g) (sym t.1) ∙ ap (λ (z : ℕ). size_hold w z) same ∙ moved.here in
+        subst (λ (z : ℕ). is_cut z n (s.frame f).tag ≡ false) (sym same) (passes n f (ap (λ (x : SizeHold). x.cut_to) (sym now) ∙ to) (subst (λ (x : SizeHold). Contains x.passed f) now has) below named))
+        (λ o. let now : size_hold u g ≡ size_hold v g = ap (λ (x : View). size_hold x g) (sym t.1) ∙ moved.else g o in
+        h.passed i g n f v there (ap (λ (x : SizeHold). x.cut_to) (sym now) ∙ to) (subst (λ (x : SizeHold). Contains x.passed f) now has) below named))
         (λ (t : (j ≢ i) × (get_elem? s.views j ≡ some u)). h.passed j g n f u t.1 to has below named) (set_at s.views i v w there j u here);
     quiet = λ e g. dite (ℕ_discrete g fork) (λ same. ap (λ (x : SizeWord). x.exclusive) ((puts s.size fork w' g).same same) ∙ quiet e) (λ o. ap (λ (x : SizeWord). x.exclusive) ((puts s.size fork w' g).other o) ∙ h.quiet e g);
   }
@@ -387,11 +387,11 @@ module _ (s : State) (h : SizesLaw s) (i fork : ℕ) (v : View) (there : get_ele
       → (j g n f : ℕ) (u : View) → get_elem? (set s.views i (view_sized k fork s v)) j ≡ some u → (size_hold u g).cut_to ≡ Some n → Contains (size_hold u g).passed f → f < s.frames → (s.frame f).tag ≢ no_tag → is_cut g n (s.frame f).tag ≡ false
   passed_after k to_same passed_same j g n f u here to has below named = ⊎_elim
       (λ (t : (j ≡ i) × (view_sized k fork s v ≡ u)). let w : View = view_sized k fork s v in dite (ℕ_discrete g fork)
-          (λ same. let now : size_hold u g ≡ size_hold_after k fork (s.size fork) (size_hold v fork) = ap (λ (x : View). size_hold x g) (sym t.1) ∙ ap (λ (z : ℕ). size_hold w z) same ∙ (resized k fork s v).here in
-              subst (λ (z : ℕ). is_cut z n (s.frame f).tag ≡ false) (sym same) (same_passes n f (sym to_same ∙ ap (λ (x : SizeHold). x.cut_to) (sym now) ∙ to)
-              (subst (λ (x : List ℕ). Contains x f) passed_same (subst (λ (x : SizeHold). Contains x.passed f) now has)) below named))
-          (λ o. let now : size_hold u g ≡ size_hold v g = ap (λ (x : View). size_hold x g) (sym t.1) ∙ (resized k fork s v).else g o in
-              h.passed i g n f v there (ap (λ (x : SizeHold). x.cut_to) (sym now) ∙ to) (subst (λ (x : SizeHold). Contains x.passed f) now has) below named))
+      (λ same. let now : size_hold u g ≡ size_hold_after k fork (s.size fork) (size_hold v fork) = ap (λ (x : View). size_hold x g) (sym t.1) ∙ ap (λ (z : ℕ). size_hold w z) same ∙ (resized k fork s v).here in
+      subst (λ (z : ℕ). is_cut z n (s.frame f).tag ≡ false) (sym same) (same_passes n f (sym to_same ∙ ap (λ (x : SizeHold). x.cut_to) (sym now) ∙ to)
+      (subst (λ (x : List ℕ). Contains x f) passed_same (subst (λ (x : SizeHold). Contains x.passed f) now has)) below named))
+      (λ o. let now : size_hold u g ≡ size_hold v g = ap (λ (x : View). size_hold x g) (sym t.1) ∙ (resized k fork s v).else g o in
+      h.passed i g n f v there (ap (λ (x : SizeHold). x.cut_to) (sym now) ∙ to) (subst (λ (x : SizeHold). Contains x.passed f) now has) below named))
       (λ (t : (j ≢ i) × (get_elem? s.views j ≡ some u)). h.passed j g n f u t.1 to has below named) (set_at s.views i v (view_sized k fork s v) there j u here)
 
   quiet_after : (k : SizeKind) → (size_after k (s.size fork)).exclusive ≡ (s.size fork).exclusive → s.resizes ≡ false → (g : ℕ) → (put s.size fork (size_after k (s.size fork)) g).exclusive ≡ false
@@ -487,12 +487,12 @@ module _ (s : State) (h : SizesLaw s) (i fork : ℕ) (v : View) (there : get_ele
           (λ o. ⊎_elim (λ (e : is_block s (s.frame f).tag ≡ true). inl (grown_block (s.frame f).tag e)) (λ (e : IsNoted s f). inr (noted_stays s.views i v grown_view f there (grown_noted f o) e)) (h.blocks f below named));
       noted = λ j f u here below e. ⊎_elim
           (λ (t : (j ≡ i) × (grown_view ≡ u)). let now : (link grown_view f).noted ≡ true = ap (λ (x : View). (link x f).noted) t.1 ∙ e in let o = unnoted_now f now in
-              let was : (link v f).noted ≡ true = sym (grown_noted f o) ∙ now in let at = h.noted i f v there below was in let other = only i f v there below was o in
+          let was : (link v f).noted ≡ true = sym (grown_noted f o) ∙ now in let at = h.noted i f v there below was in let other = only i f v there below was o in
           subst (λ (x : View). IsAtSize grown_state x (s.frame f).tag) t.1 (grown_at grown_view f other (other_may grown (tag_fork (s.frame f).tag) other at.may) at.at))
           (λ (t : (j ≢ i) × (get_elem? s.views j ≡ some u)). let at = h.noted j f u t.1 below e in
           grown_at u f (λ of. dite (ℕ_discrete f g)
-              (λ same. let x = excludes_others j u t.0 t.1 a.may.right in let y = (subst (λ (z : ℕ). MayResize s u z) of at.may).right in two_rights (sym x ∙ y))
-              (λ o. only j f u t.1 below e o of)) (record { right = at.may.right; unmade = at.may.unmade }) at.at)
+          (λ same. let x = excludes_others j u t.0 t.1 a.may.right in let y = (subst (λ (z : ℕ). MayResize s u z) of at.may).right in two_rights (sym x ∙ y))
+          (λ o. only j f u t.1 below e o of)) (record { right = at.may.right; unmade = at.may.unmade }) at.at)
           (set_at s.views i v grown_view there j u here);
       insides = λ j f u here below e. dite (ℕ_discrete f g)
           (λ same. subst (λ (z : ℕ). is_block grown_state (s.frame z).tag ≡ true) (sym same) new_block)

@@ -177,7 +177,7 @@ module _ (s : State) (h : PinInvariant s) (i p : ℕ) (v : View) (there : get_el
     turns = touch turn_shape turn_part turn_part s.partitions s.partition (λ _. tt) (λ _. tt) s.views i p v w (partition_after k (s.partition p) (hold v p)) y h.turns h.turns there below
         (record { own = refl; here = get_or-set_same v.partitions p y no_partition (subst (λ (n : ℕ). p < n) (sym (h.views.wide i v there live).1) below); else = λ q other. get_or-set_other v.partitions p q y no_partition other }) (λ g _ other. refl) (turn_keeps k (s.partition p) (hold v p) a);
     apart = h.apart;
-      maps = maps_after k a;
+    maps = maps_after k a;
     placed = h.placed;
     views = views_set s.frames s.partitions s.backends s.views h.views i v w there (record { emptied = refl; number = refl; next = refl; links = refl; partitions = length-set v.partitions p y });
     accounted = accounted_set s.views i v w h.accounted there refl refl;

@@ -6,7 +6,7 @@ use lib.ListN.{get_elem?}
 use Rattle.block_tag.specs.declared.catalogue.RelEntry.{RelEntry}
 use Rattle.block_tag.specs.Catalogue.{IsCatalogue}
 use Rattle.pin_core.specs.State.{Page}
-use Rattle.history_core.specs.Log.{AreValid, Change, Entry, IsEntryOf, Log, LogLaw, change_size, changed_page, end_of, head_size, image, log_bytes, page_after, record_size, tag_in}
+use Rattle.history_core.specs.Log.{AreOfPages, Change, Entry, IsEntryOf, Log, LogLaw, change_size, changed_page, end_of, head_size, image, log_bytes, page_after, record_size, tag_in}
 use Rattle.history_core.specs.State.{last_position}
 use Rattle.history_core.specs.Unentered.{IsEntered}
 use Rattle.history_core.proofs.Calls.{at_both}
@@ -36,7 +36,7 @@ unfolding without_backends
 none_kept = refl
 
 -- a block has this page after entries that have no other of it, and one at least
-pub settled_on : (word : ℕ) (page : Page) (es : List Entry) (x : Option Page) → AreValid es → ((k : ℕ) (e : Entry) → IsEntryOf es word k e → e.change ≡ image word page) → IsEntered es word → page_after word es x ≡ Some page
+pub settled_on : (word : ℕ) (page : Page) (es : List Entry) (x : Option Page) → AreOfPages es → ((k : ℕ) (e : Entry) → IsEntryOf es word k e → e.change ≡ image word page) → IsEntered es word → page_after word es x ≡ Some page
 unfolding page_after
 settled_on word page [] x valid all entered = absurd (some-ne-none entered.1 (sym entered.2.there))
 settled_on word page (e ∷ es) x valid all entered = ⊎_elim

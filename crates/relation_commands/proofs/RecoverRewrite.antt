@@ -12,11 +12,11 @@ use Rattle.command_line.specs.RelationPath.{relation_number}
 use Rattle.grid.proofs.Lists.{at_end, at_last, at_longer}
 use Rattle.log_device.specs.MemoryLog.{StoredLog}
 use Rattle.pin_core.specs.State.{Page}
-use Rattle.history_core.specs.Log.{AreValid, Change, Entry, IsChange, IsEntryOf, Log, LogLaw, change_size, end_of, head_bytes, head_size, image, log_bytes, log_end, page_after, record_bytes, record_size, records, tag_in}
+use Rattle.history_core.specs.Log.{AreOfPages, Change, Entry, IsChange, IsEntryOf, Log, LogLaw, change_size, end_of, head_bytes, head_size, image, log_bytes, log_end, page_after, record_bytes, record_size, records, tag_in}
 use Rattle.history_core.specs.State.{last_position}
 use Rattle.history_core.specs.Unentered.{IsEntered}
 use Rattle.history_core.proofs.Crashes.{entry_or_none}
-use Rattle.history_core.proofs.Logs.{after_absent, bytes_longer, chain_end, end_longer, log_longer, none_chained}
+use Rattle.history_core.proofs.Logs.{after_absent, bytes_longer, chain_end, end_longer, images_of_pages, log_longer, none_chained}
 use Rattle.table_rule.specs.Blocks.{log_name}
 use Rattle.log_recovery.specs.Laws.{AreWritten, without_backends}
 use Rattle.log_recovery.specs.Records.{HasBadHead, IsLogOf, Reads, from_head, too_short}
@@ -196,8 +196,8 @@ module _ (rewritten : StaysUsed) (path : List ℕ) (blocks base : ℕ) (before a
     pub durable : (block k : ℕ) (e : Entry) → IsEntryOf leaves.log.entries (word_at block) k e → IsDurable leaves.log file e → IsEntered read.entries (word_at block)
     durable block k e of synced = left_whole block k e of (within e synced)
 
-    valid_read : AreValid read.entries
-    valid_read = (is_log (catalog_of path) bytes read is).0.valid
+    valid_read : AreOfPages read.entries
+    valid_read = images_of_pages read.entries (is_log (catalog_of path) bytes read is).1
 
     -- an entry that is read is of the log that stands whole
     of_full : (word k : ℕ) (d : Entry) → IsEntryOf read.entries word k d → (e : Entry) × IsEntryOf w.full.entries word k e × (get_elem? first.kept k ≡ some e) × (d ≡ record e { backend = 0 })

@@ -22,7 +22,7 @@ use Rattle.pin_core.specs.State.{Page}
 use Rattle.history_core.specs.Log.{AreImages, AreValid, Entry, IsEntryOf, Log, page_after}
 use Rattle.history_core.specs.Unentered.{IsEntered}
 use Rattle.history_core.proofs.Crashes.{entry_or_none}
-use Rattle.history_core.proofs.Logs.{after_absent}
+use Rattle.history_core.proofs.Logs.{after_absent, images_of_pages}
 use Rattle.grid.proofs.Lists.{at_longer}
 use Rattle.log_recovery.specs.Records.{HasBadHead, IsLogOf}
 use Rattle.log_recovery.proofs.ReadLogs.{is_log, one_log}
@@ -167,7 +167,7 @@ after_agree es word x y images agree = ⊎_elim
 
 -- redo after redo
 after_twice : (es : List Entry) (word : ℕ) (x : Option Page) → AreValid es → AreImages es → page_after word es (page_after word es x) ≡ page_after word es x
-after_twice es word x valid images = after_agree es word (page_after word es x) x images (λ none. after_absent word es x valid (λ k e of. none (k, e, of)))
+after_twice es word x valid images = after_agree es word (page_after word es x) x images (λ none. after_absent word es x (images_of_pages es images) (λ k e of. none (k, e, of)))
 
 module _ (r : LoggedAsked) (lanes : ℕ) (some_blocks : 1 ≤ r.options.seg_blocks) (old done next new : HostFiles) (first : IsRecoveredAt r old done)
     (paths_are : next.paths ≡ done.paths) (logs_are : next.logs ≡ done.logs) (second : IsRecoveredAt (recovery_of r lanes) next new) where
@@ -211,7 +211,7 @@ module _ (r : LoggedAsked) (lanes : ℕ) (some_blocks : 1 ≤ r.options.seg_bloc
   abbrev IsAsOld : ℕ → Type 0
   IsAsOld block = (was page : Page) → get_elem? (pages_at r old.paths) block ≡ some was → get_elem? (pages_at r left.paths) block ≡ some page → page ≡ was
 
-  module _ (es : List Entry) (valid : AreValid es) (to : RecoversTo r es old done) (first : AreFirstIn r old.logs es)
+  module _ (es : List Entry) (images : AreImages es) (to : RecoversTo r es old done) (first : AreFirstIn r old.logs es)
       (marked : (block : ℕ) → done.failed r.path block ≡ true → IsEnteredIn r old.logs block) where
     file_was : old.logs r.log ≡ Some second.file
     file_was = sym (ap (λ (logs : List ℕ → Option StoredLog). logs r.log) (loses.logs ∙ to.logs)) ∙ second.there
@@ -231,12 +231,12 @@ module _ (r : LoggedAsked) (lanes : ℕ) (some_blocks : 1 ≤ r.options.seg_bloc
         let new = there (pages_at r done.paths) block (omega arith) in
         let unfailed : done.failed r.path block ≡ false = either_way (done.failed r.path block) (λ failed. absurd (none (marked_entered block failed))) (λ is. is) in
         let kept = page_redone r es some_blocks old done to block was new.0 at new.1 unfailed
-        ∙ after_absent (word_at block) es (Some was) valid (λ k e of. none (k, e, record { there = subst (λ (l : List Entry). get_elem? l k ≡ some e) (sym first_of.1) (at_longer es first_of.0 k e of.there); of = of.of })) in
+        ∙ after_absent (word_at block) es (Some was) (images_of_pages es images) (λ k e of. none (k, e, record { there = subst (λ (l : List Entry). get_elem? l k ≡ some e) (sym first_of.1) (at_longer es first_of.0 k e of.there); of = of.of })) in
         loses.stays block new.0 page new.1 left_at none ∙ same_Some new.0 was kept
 
   as_old : RecoverLeaves r old done → (block : ℕ) → (IsEntered second.log.entries (word_at block) → ⊥) → IsAsOld block
   as_old (left_alone keeps) block none was page at left_at = loses.stays block was page (ap (λ (p : Paths). get_elem? (pages_at r p) block) keeps.pages.paths ∙ at) left_at none
-  as_old (redone_upto es first whole to marked) block none was page at left_at = redone_elsewhere es whole.0 to first (λ b failed. (marked b failed).0) block none was page at left_at
+  as_old (redone_upto es first whole to marked) block none was page at left_at = redone_elsewhere es whole.1 to first (λ b failed. (marked b failed).0) block none was page at left_at
 
   completed_at : RecoverLeaves r old done → (block : ℕ) (was now : Page) → get_elem? (pages_at r old.paths) block ≡ some was → block < length (pages_at r left.paths) → get_elem? (pages_at r new.paths) block ≡ some now
       → Some now ≡ page_after (word_at block) second.log.entries (Some was)

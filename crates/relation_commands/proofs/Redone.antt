@@ -22,7 +22,7 @@ use Rattle.pin_core.specs.State.{Page}
 use Rattle.history_core.specs.Log.{Change, image, ranges, resize, is_image, AreImages, AreValid, Entry, IsEntryOf, changed_page, end_of, page_after}
 use Rattle.history_core.specs.Unentered.{IsEntered}
 use Rattle.history_core.proofs.Crashes.{entry_or_none}
-use Rattle.history_core.proofs.Logs.{after_absent}
+use Rattle.history_core.proofs.Logs.{after_absent, images_of_pages}
 use Rattle.log_recovery.specs.Redo.{AreRedone, AreRedoneBut, IsEnteredBlock, IsRedone}
 use Rattle.log_recovery.proofs.Twice.{settled}
 use Rattle.page_jobs.proofs.Standing.{inside, taken}
@@ -165,8 +165,8 @@ module _ (seg_blocks : ℕ) (segments : List (List ℕ)) (some_blocks : 1 ≤ se
       ⊎_elim
       (λ (entered : IsEntered es (word_at block)). each_held block was page x now (new ∙ settled es images (word_at block) entered None (Some was)) held)
       (λ (none : (k : ℕ) (e : Entry) → IsEntryOf es (word_at block) k e → ⊥).
-      let gone = new ∙ after_absent (word_at block) es None valid none in
-      ap (λ (p : Page). Some p) (now ∙ ap (λ (o : Option Page). unwrap_or o was) gone) ∙ sym (after_absent (word_at block) es (Some was) valid none))
+      let gone = new ∙ after_absent (word_at block) es None (images_of_pages es images) none in
+      ap (λ (p : Page). Some p) (now ∙ ap (λ (o : Option Page). unwrap_or o was) gone) ∙ sym (after_absent (word_at block) es (Some was) (images_of_pages es images) none))
       (entry_or_none es (word_at block)))
       (cases_lt block blocks)
 
@@ -204,7 +204,7 @@ module _ (seg_blocks : ℕ) (segments : List (List ℕ)) (some_blocks : 1 ≤ se
   held_entered block past held unmarked = ⊎_elim
       (λ (entered : IsEntered es (word_at block)). entered)
       (λ (none : (k : ℕ) (e : Entry) → IsEntryOf es (word_at block) k e → ⊥).
-      let gone = h.page block (held_named block held) unmarked ∙ ap (λ (o : Option Page). page_after (word_at block) es o) (slice_get_past pages block past) ∙ after_absent (word_at block) es None valid none in
+      let gone = h.page block (held_named block held) unmarked ∙ ap (λ (o : Option Page). page_after (word_at block) es o) (slice_get_past pages block past) ∙ after_absent (word_at block) es None (images_of_pages es images) none in
       absurd (both_ways (is_some (page_in lanes (tag_at Main block))) (ap (λ (o : Option Page). is_some o) gone) held))
       (entry_or_none es (word_at block))
 

@@ -96,6 +96,7 @@ module _ {L G : Type 0} (t : FrameTable L G) where
       frames = λ g. let l = subst (λ (x : Tokens). LinkRests (held_at x g) (link s'.me.0 g)) none (pins_unpinned held tag f s.me.0 s'.me.0 pinned touches.others unpinned g) in record { no_pin = l.role; no_header = l.calm.no_header; no_content = l.unlocked refl; no_io = l.calm.no_io; page_home = l.calm.page_home; no_wait = l.calm.no_wait };
       partitions = λ p. ap (λ (l : List PartitionHold). (slice_index_or l p no_partition).held) touches.partitions ∙ ap (λ (h : PartitionHold). h.held) (latches p);
       lanes = λ n. ap (λ (l : List LaneHold). (slice_index_or l n no_lane).held) (ap (λ (x : View). x.lanes) touches.self) ∙ stands.quiet.free n;
+      sizes = ap (λ (x : View). x.sizes) touches.self ∙ stands.quiet.sizes;
       log = ap (λ (x : View). x.log.held) touches.self ∙ ap (λ (h : LogHold). h.held) stands.quiet.log;
     };
   }
@@ -112,7 +113,7 @@ module _ {L G : Type 0} (t : FrameTable L G) where
 -- seats come and go
 module _ {L G : Type 0} (t : FrameTable L G) where
   pub rests_kept : (s s' : Seat (Value L G) View) → SeatHoldsNothing t s → SameSeat s s' → s'.me.0 ≡ kept_view s.me.0 → SeatHoldsNothing t s'
-  rests_kept s s' r same kept = record { fits = same.table ∙ r.fits; live = ap (λ (v : View). v.emptied) kept ∙ r.live; hand = same.hand ∙ r.hand; free = subst HoldsNothing (sym kept) record { frames = r.free.frames; partitions = r.free.partitions; lanes = r.free.lanes; log = r.free.log } }
+  rests_kept s s' r same kept = record { fits = same.table ∙ r.fits; live = ap (λ (v : View). v.emptied) kept ∙ r.live; hand = same.hand ∙ r.hand; free = subst HoldsNothing (sym kept) record { frames = r.free.frames; partitions = r.free.partitions; lanes = r.free.lanes; sizes = r.free.sizes; log = r.free.log } }
 
   pub rests_new : (s : Seat (Value L G) View) (base : ℕ) (v : View) → Fits t s → s.me ≡ (split_view base v, []) → SeatHoldsNothing t s
   rests_new s base v fits me = let same : s.me.0 ≡ split_view base v = ap (λ (m : Me (Value L G) View). m.0) me in record {
@@ -129,7 +130,7 @@ module _ {L G : Type 0} (t : FrameTable L G) where
     first = again.id ∙ keeps.id ∙ same.id ∙ c.first;
     hand = again.hand ∙ rests.hand;
     live = ap (λ (v : View). v.emptied) joined ∙ rests.live;
-    free = subst HoldsNothing (sym joined) record { frames = rests.free.frames; partitions = rests.free.partitions; lanes = rests.free.lanes; log = rests.free.log };
+    free = subst HoldsNothing (sym joined) record { frames = rests.free.frames; partitions = rests.free.partitions; lanes = rests.free.lanes; sizes = rests.free.sizes; log = rests.free.log };
     joined = (let a = ap (λ (v : View). v.joined) joined in let b = ap (λ (v : View). v.next) joined in let d = keeps.joined in let e = keeps.next in let f = ap (λ (v : View). v.joined) kept in let g = ap (λ (v : View). v.next) kept in let h = c.joined in omega arith);
   }
 
@@ -145,6 +146,7 @@ module _ {L G : Type 0} (t : FrameTable L G) (s s' : Seat (Value L G) View) (p :
       frames = λ f. subst HoldsNothingAt (sym (ap (λ (v : View). link v f) work)) (c.free.frames f);
       partitions = λ q. dite (ℕ_discrete q p) (λ e. ap (λ (k : ℕ). (hold s'.me.0 k).held) e ∙ left) (λ n. ap (λ (h : PartitionHold). h.held) (others q n) ∙ c.free.partitions q);
       lanes = λ n. ap (λ (l : List LaneHold). (slice_index_or l n no_lane).held) lanes ∙ c.free.lanes n;
+      sizes = ap (λ (v : View). v.sizes) work ∙ c.free.sizes;
       log = ap (λ (h : LogHold). h.held) log ∙ c.free.log;
     };
     joined = (let a = ap (λ (v : View). v.joined) work in let b = ap (λ (v : View). v.next) work in let d = c.joined in omega arith);
@@ -166,6 +168,7 @@ module _ {L G : Type 0} (t : FrameTable L G) (s s1 s2 s3 : Seat (Value L G) View
           frames = λ g. let l = links g in record { no_pin = l.role; no_header = l.calm.no_header; no_content = l.unlocked refl; no_io = l.calm.no_io; page_home = l.calm.page_home; no_wait = l.calm.no_wait };
           partitions = λ n. ap (λ (l : List PartitionHold). (slice_index_or l n no_partition).held) (after.partitions ∙ touches.partitions ∙ ap (λ (v : View). v.partitions) gets.aside) ∙ ap (λ (k : PartitionHold). k.held) (r.latches n);
           lanes = λ n. ap (λ (l : List LaneHold). (slice_index_or l n no_lane).held) (ap (λ (v : View). v.lanes) after.self ∙ ap (λ (v : View). v.lanes) touches.self ∙ ap (λ (v : View). v.lanes) gets.aside) ∙ r.quiet.free n;
+          sizes = ap (λ (v : View). v.sizes) after.self ∙ ap (λ (v : View). v.sizes) touches.self ∙ ap (λ (v : View). v.sizes) gets.aside ∙ r.quiet.sizes;
           log = ap (λ (v : View). v.log.held) after.self ∙ ap (λ (v : View). v.log.held) touches.self ∙ ap (λ (v : View). v.log.held) gets.aside ∙ ap (λ (k : LogHold). k.held) r.quiet.log;
         };
       }

@@ -1,7 +1,7 @@
 use Rattle.std.proofs.Common.{ap, sym, ◌∙◌}
 use Rattle.pin_core.specs.declared.view.View.{View}
 use Rattle.buffer_frames.proofs.Bringing.{chooses_unpushed, leaves_unpushed}
-use Rattle.buffer_frames.proofs.Heading.{victim_pinned}
+use Rattle.buffer_frames.proofs.Heading.{has_no_victim, victim_pinned}
 use Rattle.buffer_frames.proofs.Outside.{shape_keeping}
 use Rattle.buffer_frames.proofs.Trying.{chosen_pin, chosen_ring}
 use Rattle.buffer_frames.proofs.WorkSteps.{made_none}
@@ -39,3 +39,6 @@ returns-in-Ok-clause-keeps g c = let v = c.in-Ok.ensures in let p = c.victim_pin
 
 pub returns-in-Err-clause-keeps : goal.returns-in-Err-clause-keeps
 returns-in-Err-clause-keeps g c = keeps_unchosen c.requires.ready c.in-Err.ensures.seat c.in-Err.ensures.left
+
+pub victim_pin-pin-requires-clause-only : goal.victim_pin-pin-requires-clause-only
+victim_pin-pin-requires-clause-only g c = let v = c.in-Ok.ensures in has_no_victim c.args._held.now c.in-Ok.held.frame c.into_frame-frame.result _ c.args.seat.now.me.0 c.victim.new.seat.me.0 c.into_frame-frame.ensures c.requires.ready.rests v.held v.absent

@@ -1,4 +1,7 @@
-use Rattle.std.proofs.Common.{ℕ, rules, sym, subst}
+use Rattle.std.proofs.Common.{ℕ, ap, ◌∙◌, sym, subst}
+use Rattle.state_word.specs.declared.word.StateWord.{StateWord}
+use Rattle.state_word.specs.Fields.{fields}
+use Rattle.pin_core.specs.declared.view.Link.{Link}
 use Rattle.pin_core.specs.State.{link}
 use Rattle.page_core.specs.Kinds as kinds
 use Rattle.frame_table.specs.FrameSteps.{Did}
@@ -95,5 +98,8 @@ returns-then-not-has-clause-clean g c = record {
     work = c.look.ensures.did;
     until = rises_touched c.args.frame _ _ c.unlock_header.ensures.touches;
   };
-  clean = search rules;
+  clean = ap (λ (w : StateWord). w.dirty) (c.look.ensures.word.held (fields c.lock_header-word.result) c.lock_header-word.ensures.locked.header) ∙ sym c.has.ensures ∙ c.if-not-has.true;
 }
+
+pub returns-then-not-has-clause-visited : goal.returns-then-not-has-clause-visited
+returns-then-not-has-clause-visited g c = ap (λ (l : Link). l.visited) c.unlock_header.ensures.unlocked ∙ c.look.ensures.visited (ap (λ (w : StateWord). w.dirty) (c.look.ensures.word.held (fields c.lock_header-word.result) c.lock_header-word.ensures.locked.header) ∙ sym c.has.ensures ∙ c.if-not-has.true)

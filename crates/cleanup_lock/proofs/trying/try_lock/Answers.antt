@@ -2,7 +2,7 @@ use Rattle.std.proofs.Common.{sym, ap, subst, ◌∙◌}
 use Rattle.pin_core.specs.declared.view.Link.{Link}
 use Rattle.pin_core.specs.State.{link}
 use Rattle.frame_table.specs.Seats.{Looked}
-use Rattle.frame_table.proofs.Told.{touches_on}
+use Rattle.frame_table.proofs.Told.{looked_same, touches_on}
 use Rattle.content_locks.proofs.Locking.{locks_waiting}
 use Rattle.cleanup_lock.proofs.Cleaning.{alone_at, bare, relocked}
 use Rattle.cleanup_lock.proofs.trying.try_lock.Goals as goal
@@ -27,3 +27,6 @@ returns-else-pins-eq1-clause-left g c =
     let none = c.requires.view.lock.none in
     relocked (link v f) (link c.look-word.new.seat.me.0 f) (link c.unexclusive.new.seat.me.0 f) none (bare f v c.try_exclusive.new.seat.me.0 (locks_waiting _ _ _ _ c.in-Ok.ensures.did) none)
     (subst (λ (l : Link). Looked l (link c.look-word.new.seat.me.0 f)) c.in-Ok.ensures.exclusive c.look-word.ensures.link) c.unexclusive.ensures.unexclusive
+
+pub returns-in-Err-Changed-clause-left : goal.returns-in-Err-Changed-clause-left
+returns-in-Err-Changed-clause-left g c = looked_same _ _ c.in-Err-Changed.ensures.left

@@ -4,7 +4,7 @@ use Rattle.pin_core.specs.declared.view.Link.{Link}
 use Rattle.pin_core.specs.State.{link}
 use Rattle.frame_table.specs.Kinds.{pages}
 use Rattle.content_locks.specs.Io.{is_input, is_nothing}
-use Rattle.content_locks.proofs.InOut.{unlocked_back, begun_back, can_begin, tag_there, begins, finds, quiet_locked, sees}
+use Rattle.content_locks.proofs.InOut.{unlocked_back, begun_back, can_begin, tag_there, begins, finds, finds_work, looked_none, quiet_locked, sees}
 use Rattle.std.specs.Prelude.{not, ◌||◌}
 use Rattle.frame_table.specs.Seats.{MarksBegun, ViewMarks}
 use Rattle.frame_table.specs.FrameSteps.{Did}
@@ -45,3 +45,10 @@ returns-then-has-clause-touches g c = touches_on _ _ _ _ c.lock_header-word.ensu
 
 pub returns-then-shows_nothing-clause-touches : goal.returns-then-shows_nothing-clause-touches
 returns-then-shows_nothing-clause-touches g c = touches_on _ _ _ _ (touches_on _ _ _ _ c.lock_header-word.ensures.touches c.look.ensures.touches) c.unlock_header-then-shows_nothing.ensures.touches
+
+pub returns-then-has-clause-tried : goal.returns-then-has-clause-tried
+returns-then-has-clause-tried g c = let k = c.lock_header-word.ensures in let u = c.unlock_header.ensures in (
+  unlocked_back _ _ _ k.locked _ _ (looked_none _) u.unlocked (c.requires.headless c.args.frame),
+  finds_work _ _ _ _ k.did _ _ (sym c.has.ensures ∙ c.if-has.true) u.did.1,
+  u.marks ∙ k.marks,
+)
