@@ -1,4 +1,5 @@
 //! Lanes over the files of several relations.
+use crate::checks::{check, check_eq};
 use crate::growth_tests::{had, put_file};
 use block_tag::{Fork, RelNo, Tag};
 use log_device::Failed;
@@ -85,7 +86,7 @@ where
     R::File: FileExt,
 {
     if let Some(lane) = lanes.first_mut() {
-        assert_eq!(rt; grow_both(lane, page), [Ok(()); 4]);
+        check_eq!(rt; grow_both(lane, page), [Ok(()); 4]);
     }
 }
 
@@ -96,7 +97,7 @@ where
 {
     for lane in lanes {
         let answers = [Ok(3), Ok(5), Ok(6), Ok(7), Ok(0), Err(Failed), Err(Failed)];
-        assert_eq!(rt; read_both(lane, page), answers);
+        check_eq!(rt; read_both(lane, page), answers);
     }
 }
 
@@ -119,19 +120,19 @@ fn two_relations_grow_apart(rt: HostRuntime) -> Result<(), Fail> {
     put_file(&rt, "rows", &[(1, 8192), (2, 8192)])?;
     put_file(&rt, "rows.1", &[(3, 8192)])?;
     put_file(&rt, "index", &[(4, 8192)])?;
-    let mut host = FileHost::new(&rt, alloc);
+    let mut host = Box::new(alloc, FileHost::new(&rt, alloc))?;
     let entries = [main_fork(0, "rows"), main_fork(1, "index")];
     let mut opened = host.relations(alloc, &entries, 2, 3)?;
-    assert_eq!(rt; opened.blocks.as_slice(), [3, 1].as_slice());
-    assert_eq!(rt; host.log(alloc, "index").err(), Some(LogOpen::Failed));
-    assert_eq!(rt; host.bytes(alloc, "index").err(), Some(HostError::Failed));
+    check_eq!(rt; opened.blocks.as_slice(), [3, 1].as_slice());
+    check_eq!(rt; host.log(alloc, "index").err(), Some(LogOpen::Failed));
+    check_eq!(rt; host.bytes(alloc, "index").err(), Some(HostError::Failed));
     let mut page = Page::zeroed(alloc)?;
     grow_by_one(&rt, &mut page, &mut opened.lanes);
     read_by_each(&rt, &mut page, &mut opened.lanes);
     host.give_back(opened.lanes, None, None);
-    assert_eq!(rt; (host.read_faults(), host.write_faults()), (7, 0));
+    check_eq!(rt; (host.read_faults(), host.write_faults()), (7, 0));
     for (path, runs) in &GROWN {
-        assert!(rt; had(&rt, path, runs)?, "{path}");
+        check!(rt; had(&rt, path, runs)?, "{path}");
     }
     Ok(())
 }
@@ -152,7 +153,7 @@ fn entries_have_their_own_files(rt: HostRuntime) -> Result<(), Fail> {
     let alloc = rt.alloc();
     put_file(&rt, "own", &[(1, 8192)])?;
     fs::hard_link(&rt, "own", "linked")?;
-    let mut host = FileHost::new(&rt, alloc);
+    let mut host = Box::new(alloc, FileHost::new(&rt, alloc))?;
     let own = main_fork(0, "own");
     let others = [
         main_fork(1, "own"),
@@ -162,10 +163,10 @@ fn entries_have_their_own_files(rt: HostRuntime) -> Result<(), Fail> {
     ];
     for other in others {
         let refused = refusal(alloc, &mut host, &[own, other]);
-        assert_eq!(rt; refused, Some(HostError::Failed), "{}", other.path);
+        check_eq!(rt; refused, Some(HostError::Failed), "{}", other.path);
     }
     let missing = refusal(alloc, &mut host, &[own, main_fork(1, "other")]);
-    assert_eq!(rt;
+    check_eq!(rt;
         (missing, host.read_faults()),
         (Some(HostError::Missing), 4)
     );

@@ -1,4 +1,5 @@
 //! Lanes over files that count their syncs, and of which no byte can be read or written.
+use crate::checks::check_eq;
 use block_tag::{Fork, RelNo, Tag};
 use log_device::Failed;
 use page_layout::Page;
@@ -166,13 +167,13 @@ fn a_sync_reaches_each_segment(rt: HostRuntime) -> Result<(), Fail> {
     let mut host = FileHost::new(&files, rt.alloc());
     let mut lanes = host.relation(rt.alloc(), "synced", 2, 1)?.lanes;
     for lane in &mut lanes {
-        assert_eq!(rt; sync_lane(lane, &syncs), (Ok(()), 2));
-        assert_eq!(rt; sync_lane(lane, &syncs), (Err(Failed), 3));
+        check_eq!(rt; sync_lane(lane, &syncs), (Ok(()), 2));
+        check_eq!(rt; sync_lane(lane, &syncs), (Err(Failed), 3));
         // What the failed sync was to make durable may be lost, so no later one succeeds.
-        assert_eq!(rt; sync_lane(lane, &syncs), (Err(Failed), 3));
+        check_eq!(rt; sync_lane(lane, &syncs), (Err(Failed), 3));
     }
     host.give_back(lanes, None, None);
-    assert_eq!(rt; host.write_faults(), 2);
+    check_eq!(rt; host.write_faults(), 2);
     remove_segments(&rt, segments)?;
     Ok(())
 }
@@ -195,7 +196,7 @@ where
     R::File: FileExt,
 {
     for lane in lanes {
-        assert_eq!(rt; use_lane(lane, page), [Err(Failed), Err(Failed)]);
+        check_eq!(rt; use_lane(lane, page), [Err(Failed), Err(Failed)]);
     }
 }
 
@@ -225,7 +226,7 @@ fn short_reads_and_writes_are_faults(rt: HostRuntime) -> Result<(), Fail> {
     };
     let mut host = FileHost::new(&files, rt.alloc());
     use_files(&rt, rt.alloc(), &mut host, "short")?;
-    assert_eq!(rt; (host.read_faults(), host.write_faults()), (1, 1));
+    check_eq!(rt; (host.read_faults(), host.write_faults()), (1, 1));
     remove_segments(&rt, segments)?;
     Ok(())
 }

@@ -1,6 +1,7 @@
 //! Relations over real files that grow, and a log that is read beside one.
 ghost use Rattle.std.specs.Prelude.{◌≤◌};
 
+use crate::checks::{check, check_eq};
 use block_tag::{Fork, RelNo, Tag};
 use log_device::{Failed, Source};
 use page_layout::Page;
@@ -34,6 +35,23 @@ pub(crate) fn had(rt: &HostRuntime, path: &str, runs: &[(u8, usize)]) -> Result<
     let found = fs::read(rt, path)?;
     fs::remove_file(rt, path)?;
     Ok(found.as_slice() == wanted.as_slice())
+}
+
+/// Puts files at these paths.
+fn put_files(rt: &HostRuntime, files: &[(&str, &[(u8, usize)])]) -> Result<(), Fail> {
+    for (path, runs) in files {
+        put_file(rt, path, runs)?;
+    }
+    Ok(())
+}
+
+/// Whether each file has these bytes. They are removed.
+fn had_all(rt: &HostRuntime, files: &[(&str, &[(u8, usize)])]) -> Result<bool, Fail> {
+    let mut same = true;
+    for (path, runs) in files {
+        same = had(rt, path, runs)? && same;
+    }
+    Ok(same)
 }
 
 fn tag(block: u32) -> Tag {
@@ -84,66 +102,111 @@ fn use_relation(
     Ok((host.read_faults(), host.write_faults()))
 }
 
+/// Files, what two lanes do with them as `use_relation` says, what it returns, and what the files have then.
+#[derive(Clone, Copy)]
+struct Growth<'a> {
+    before: &'a [(&'a str, &'a [(u8, usize)])],
+    path: &'a str,
+    seg_blocks: u32,
+    tags: &'a [Tag],
+    faults: (u64, u64),
+    after: &'a [(&'a str, &'a [(u8, usize)])],
+}
+
+/// Whether files grow so.
+fn grows(rt: &HostRuntime, growth: &Growth<'_>) -> Result<bool, Fail>
+    requires { 1 ≤ growth.now.seg_blocks }
+{
+    put_files(rt, growth.before)?;
+    let faults = use_relation(rt, growth.path, growth.seg_blocks, growth.tags)?;
+    Ok(had_all(rt, growth.after)? && faults == growth.faults)
+}
+
 /// The first lane can't read the block yet; the second can.
 #[test]
 fn zeros_fill_the_gap(rt: HostRuntime) -> Result<(), Fail> {
-    put_file(&rt, "gap", &[(1, 8192)])?;
-    assert_eq!(rt; use_relation(&rt, "gap", 4, &[tag(3)])?, (1, 0));
-    assert!(rt; had(&rt, "gap", &[(1, 8192), (0, 16384), (7, 8192)])?);
+    let growth = Growth {
+        before: &[("gap", &[(1, 8192)])],
+        path: "gap",
+        seg_blocks: 4,
+        tags: &[tag(3)],
+        faults: (1, 0),
+        after: &[("gap", &[(1, 8192), (0, 16384), (7, 8192)])],
+    };
+    check!(rt; grows(&rt, &growth)?);
     Ok(())
 }
 
 #[test]
 fn a_partial_block_becomes_whole(rt: HostRuntime) -> Result<(), Fail> {
-    put_file(&rt, "partial", &[(1, 8192), (2, 100)])?;
-    assert_eq!(rt; use_relation(&rt, "partial", 4, &[tag(1)])?, (1, 0));
-    assert!(rt; had(&rt, "partial", &[(1, 8192), (7, 8192)])?);
-    put_file(&rt, "partial", &[(1, 8192), (2, 100)])?;
-    assert_eq!(rt; use_relation(&rt, "partial", 4, &[tag(2)])?, (1, 0));
-    assert!(rt; had(&rt, "partial", &[(1, 8192), (0, 8192), (7, 8192)])?);
+    let own = Growth {
+        before: &[("partial", &[(1, 8192), (2, 100)])],
+        path: "partial",
+        seg_blocks: 4,
+        tags: &[tag(1)],
+        faults: (1, 0),
+        after: &[("partial", &[(1, 8192), (7, 8192)])],
+    };
+    let next = Growth {
+        tags: &[tag(2)],
+        after: &[("partial", &[(1, 8192), (0, 8192), (7, 8192)])],
+        ..own
+    };
+    check_eq!(rt; (grows(&rt, &own)?, grows(&rt, &next)?), (true, true));
     Ok(())
 }
 
 /// The first segment is short, but there is a file with the next one's name.
 #[test]
 fn a_stale_segment_keeps_its_tail(rt: HostRuntime) -> Result<(), Fail> {
-    put_file(&rt, "stale", &[(1, 8192)])?;
-    put_file(&rt, "stale.1", &[(9, 24676)])?;
-    assert_eq!(rt; use_relation(&rt, "stale", 4, &[tag(5)])?, (1, 0));
-    assert!(rt; had(&rt, "stale", &[(1, 8192), (0, 24576)])?);
-    assert!(rt; had(&rt, "stale.1", &[(0, 8192), (7, 8192), (9, 8292)])?);
+    let growth = Growth {
+        before: &[("stale", &[(1, 8192)]), ("stale.1", &[(9, 24676)])],
+        path: "stale",
+        seg_blocks: 4,
+        tags: &[tag(5)],
+        faults: (1, 0),
+        after: &[
+            ("stale", &[(1, 8192), (0, 24576)]),
+            ("stale.1", &[(0, 8192), (7, 8192), (9, 8292)]),
+        ],
+    };
+    check!(rt; grows(&rt, &growth)?);
     Ok(())
 }
 
 /// After the first new block one before it is written, and then one after it.
 #[test]
 fn segments_are_created(rt: HostRuntime) -> Result<(), Fail> {
-    put_file(&rt, "grown", &[(1, 16384)])?;
-    assert_eq!(rt;
-        use_relation(&rt, "grown", 2, &[tag(5), tag(2), tag(8)])?,
-        (2, 0)
-    );
-    assert!(rt; had(&rt, "grown", &[(1, 16384)])?);
-    assert!(rt; had(&rt, "grown.1", &[(7, 8192), (0, 8192)])?);
-    assert!(rt; had(&rt, "grown.2", &[(0, 8192), (7, 8192)])?);
-    assert!(rt; had(&rt, "grown.3", &[(0, 16384)])?);
-    assert!(rt; had(&rt, "grown.4", &[(7, 8192)])?);
+    let growth = Growth {
+        before: &[("grown", &[(1, 16384)])],
+        path: "grown",
+        seg_blocks: 2,
+        tags: &[tag(5), tag(2), tag(8)],
+        faults: (2, 0),
+        after: &[
+            ("grown", &[(1, 16384)]),
+            ("grown.1", &[(7, 8192), (0, 8192)]),
+            ("grown.2", &[(0, 8192), (7, 8192)]),
+            ("grown.3", &[(0, 16384)]),
+            ("grown.4", &[(7, 8192)]),
+        ],
+    };
+    check!(rt; grows(&rt, &growth)?);
     Ok(())
 }
 
 #[test]
 fn a_far_block_leaves_a_hole(rt: HostRuntime) -> Result<(), Fail> {
     put_file(&rt, "far", &[(1, 8192)])?;
-    assert_eq!(rt; use_relation(&rt, "far", 131072, &[tag(100_000)])?, (1, 0));
+    let faults = use_relation(&rt, "far", 131072, &[tag(100_000)])?;
     let length = fs::metadata(&rt, "far")?.len();
     fs::remove_file(&rt, "far")?;
-    assert_eq!(rt; length, 819_208_192);
+    check_eq!(rt; (faults, length), ((1, 0), 819_208_192));
     Ok(())
 }
 
 #[test]
 fn other_blocks_are_faults(rt: HostRuntime) -> Result<(), Fail> {
-    put_file(&rt, "own", &[(1, 8192)])?;
     let of_a_fork = Tag {
         fork: Fork::Fsm,
         ..tag(1)
@@ -152,34 +215,61 @@ fn other_blocks_are_faults(rt: HostRuntime) -> Result<(), Fail> {
         rel: RelNo(1),
         ..tag(1)
     };
-    let tags = [of_a_fork, of_a_relation, tag(u32::MAX)];
-    assert_eq!(rt; use_relation(&rt, "own", 4, &tags)?, (6, 6));
-    assert!(rt; had(&rt, "own", &[(1, 8192)])?);
+    let growth = Growth {
+        before: &[("own", &[(1, 8192)])],
+        path: "own",
+        seg_blocks: 4,
+        tags: &[of_a_fork, of_a_relation, tag(u32::MAX)],
+        faults: (6, 6),
+        after: &[("own", &[(1, 8192)])],
+    };
+    check!(rt; grows(&rt, &growth)?);
     Ok(())
+}
+
+/// What two calls give that have room for eight bytes, and what these are in the end.
+fn read_twice(source: &mut impl Source) -> ([Result<usize, Failed>; 2], [u8; 8]) {
+    let mut piece = [0; 8];
+    let first = source.next(&mut piece);
+    let second = source.next(&mut piece);
+    ([first, second], piece)
+}
+
+/// Why files are not read as logs, and what is read of one that is.
+type Beside = (
+    [Option<HostError>; 2],
+    ([Result<usize, Failed>; 2], [u8; 8]),
+);
+
+/// Reads logs while the relation is open: another name of its file, one that isn't there, and one that is.
+fn read_beside(alloc: Global, host: &mut FileHost<HostRuntime>) -> Result<Beside, HostError> {
+    let lanes = host.relation(alloc, "redone", 2, 1)?.lanes;
+    let refused = [
+        host.bytes(alloc, "redone.link").err(),
+        host.bytes(alloc, "redone.none").err(),
+    ];
+    let mut source = host.bytes(alloc, "redone.log")?;
+    let read = read_twice(&mut source);
+    host.give_back(lanes, None, Some(source));
+    Ok((refused, read))
+}
+
+/// The same on a host of its own, and how many of its reads failed.
+fn read_on_a_host(rt: &HostRuntime) -> Result<(Beside, u64), HostError> {
+    let mut host = FileHost::new(rt, rt.alloc());
+    let read = read_beside(rt.alloc(), &mut host)?;
+    Ok((read, host.read_faults()))
 }
 
 /// Another name of the relation's file isn't read as a log.
 #[test]
 fn a_log_is_read_beside_a_relation(rt: HostRuntime) -> Result<(), Fail> {
-    let alloc = rt.alloc();
-    put_file(&rt, "redone", &[(1, 8192)])?;
-    put_file(&rt, "redone.log", &[(3, 5)])?;
+    put_files(&rt, &[("redone", &[(1, 8192)]), ("redone.log", &[(3, 5)])])?;
     fs::hard_link(&rt, "redone", "redone.link")?;
-    let mut host = FileHost::new(&rt, alloc);
-    let lanes = host.relation(alloc, "redone", 2, 1)?.lanes;
-    let linked = host.bytes(alloc, "redone.link").err();
-    let missing = host.bytes(alloc, "redone.none").err();
-    assert_eq!(rt;
-        (linked, missing),
-        (Some(HostError::Failed), Some(HostError::Missing))
-    );
-    let mut source = host.bytes(alloc, "redone.log")?;
-    let mut piece = [0; 8];
-    assert_eq!(rt; source.next(&mut piece), Ok(5));
-    assert_eq!(rt; piece, [3, 3, 3, 3, 3, 0, 0, 0]);
-    assert_eq!(rt; source.next(&mut piece), Ok(0));
-    host.give_back(lanes, None, Some(source));
-    assert_eq!(rt; host.read_faults(), 1);
+    let found = read_on_a_host(&rt)?;
+    let refused = [Some(HostError::Failed), Some(HostError::Missing)];
+    let read = ([Ok(5), Ok(0)], [3, 3, 3, 3, 3, 0, 0, 0]);
+    check_eq!(rt; found, ((refused, read), 1));
     for path in ["redone", "redone.log", "redone.link"] {
         fs::remove_file(&rt, path)?;
     }

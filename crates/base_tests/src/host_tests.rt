@@ -1,4 +1,5 @@
 //! Failures that leave a part, on a host in memory.
+use crate::checks::check_eq;
 use block_tag::{Fork, RelNo, Tag};
 use log_device::{Failed, FaultPlan, LogDevice, LogPlan};
 use page_layout::Page;
@@ -77,7 +78,7 @@ fn source_plan(alloc: Global) -> Result<SourcePlan, AllocError> {
 }
 
 /// A host with a relation of two segments.
-fn host_in_memory(alloc: Global) -> Result<MemHost, AllocError> {
+fn host_in_memory(alloc: Global) -> Result<Box<MemHost>, AllocError> {
     let files = two_segment_files(alloc)?;
     let lanes = lane_plan(alloc)?;
     let logs = MemLogs::new(
@@ -87,7 +88,8 @@ fn host_in_memory(alloc: Global) -> Result<MemHost, AllocError> {
         LogPlan::none(alloc),
         source_plan(alloc)?,
     );
-    Ok(MemHost::new(alloc, files, FaultPlan::new(Vec::new(alloc)), lanes, logs))
+    let host = MemHost::new(alloc, files, FaultPlan::new(Vec::new(alloc)), lanes, logs);
+    Ok(Box::new(alloc, host)?)
 }
 
 /// A block of another lane is read, and the second block of the lane twice.
@@ -108,12 +110,12 @@ fn write_lane(lane: &mut MemLane, page: &mut Page) -> [Option<Result<(), Failed>
 }
 
 fn use_lane(rt: &impl Abort, lane: &mut MemLane, page: &mut Page) {
-    assert_eq!(rt;
+    check_eq!(rt;
         read_lane(lane, page),
         [None, Some(Err(Failed)), Some(Ok(()))]
     );
-    assert_eq!(rt; page.bytes(), [2u8; 8192].as_slice());
-    assert_eq!(rt;
+    check_eq!(rt; page.bytes(), [2u8; 8192].as_slice());
+    check_eq!(rt;
         write_lane(lane, page),
         [Some(Ok(())), Some(Err(Failed)), Some(Err(Failed))]
     );
@@ -155,13 +157,13 @@ fn sizes_and_bytes(
 fn lanes_are_given_back(rt: HostRuntime) -> Result<(), Fail> {
     let mut host = host_in_memory(rt.alloc())?;
     use_relation(&rt, rt.alloc(), &mut host)?;
-    assert_eq!(rt; (host.read_faults(), host.write_faults()), (1, 2));
+    check_eq!(rt; (host.read_faults(), host.write_faults()), (1, 2));
     let found = sizes_and_bytes(
         host.segments("base/5/16384"),
         [0, 8191, 8192, 16383],
         [0, 8190, 8191, 8192],
     );
-    assert_eq!(rt; found, Some(([16384, 8292], [7, 7, 1, 1], [8, 8, 3, 2])));
+    check_eq!(rt; found, Some(([16384, 8292], [7, 7, 1, 1], [8, 8, 3, 2])));
     Ok(())
 }
 
@@ -182,8 +184,8 @@ fn append_twice(log: &mut impl LogDevice) -> [Result<(), Failed>; 3] {
 /// The log is opened, written, and given back.
 fn use_log(rt: &impl Abort, alloc: Global, host: &mut MemHost) -> Result<(), LogOpen> {
     let mut log = host.log(alloc, "log")?;
-    assert_eq!(rt; append_twice(&mut log), [Ok(()), Ok(()), Err(Failed)]);
-    assert_eq!(rt; log_of(host), Some((b"".as_slice(), 0)));
+    check_eq!(rt; append_twice(&mut log), [Ok(()), Ok(()), Err(Failed)]);
+    check_eq!(rt; log_of(host), Some((b"".as_slice(), 0)));
     host.give_back(Vec::new(alloc), Some(log), None);
     Ok(())
 }
@@ -191,8 +193,8 @@ fn use_log(rt: &impl Abort, alloc: Global, host: &mut MemHost) -> Result<(), Log
 #[test]
 fn logs_are_given_back(rt: HostRuntime) -> Result<(), Fail> {
     let mut host = host_in_memory(rt.alloc())?;
-    assert_eq!(rt; log_of(&host), None);
+    check_eq!(rt; log_of(&host), None);
     use_log(&rt, rt.alloc(), &mut host)?;
-    assert_eq!(rt; log_of(&host), Some((b"oneof n".as_slice(), 3)));
+    check_eq!(rt; log_of(&host), Some((b"oneof n".as_slice(), 3)));
     Ok(())
 }

@@ -5,6 +5,8 @@
 #[cfg(test)]
 mod catalog_tests;
 #[cfg(test)]
+mod checks;
+#[cfg(test)]
 mod file_tests;
 #[cfg(test)]
 mod growth_tests;

@@ -1,5 +1,6 @@
 //! Failures that leave a part, a writer that takes little, a file that counts its syncs, and sources
 //! of which a call fails.
+use crate::checks::{check, check_eq};
 use log_device::{
     Failed, FaultPlan, FileLog, FileSource, LogDevice, LogPlan, MemLog, MemSink, MemSource, Sink,
     Source, StdSink,
@@ -24,11 +25,11 @@ fn sink_in_memory(rt: HostRuntime) -> Result<(), Fail> {
     let alloc = rt.alloc();
     let puts = FaultPlan::new(vec![in alloc; 2u64; 1]?);
     let mut sink = MemSink::new(alloc, 10, puts)?;
-    assert_eq!(rt;
+    check_eq!(rt;
         use_sink(&mut sink),
         [Ok(()), Err(Failed), Err(Failed), Ok(())]
     );
-    assert_eq!(rt;
+    check_eq!(rt;
         (sink.bytes(), sink.faults()),
         (b"abcdehijkl".as_slice(), 2)
     );
@@ -53,11 +54,11 @@ fn log_in_memory(rt: HostRuntime) -> Result<(), Fail> {
         syncs: FaultPlan::new(vec![in alloc; 2u64; 1]?),
     };
     let mut log = MemLog::new(alloc, 10, plan)?;
-    assert_eq!(rt;
+    check_eq!(rt;
         use_log(&mut log),
         [Ok(()), Ok(()), Err(Failed), Err(Failed), Err(Failed)]
     );
-    assert_eq!(rt;
+    check_eq!(rt;
         (log.bytes(), log.synced(), log.faults()),
         (b"abcdefpast".as_slice(), 4, 3)
     );
@@ -85,9 +86,9 @@ impl Write for Narrow {
 #[test]
 fn sink_over_a_writer(rt: HostRuntime) {
     let mut sink = StdSink::new(Narrow { left: 8 });
-    assert!(rt; sink.put(b"7 bytes").is_ok());
-    assert!(rt; sink.put(b"more").is_err());
-    assert_eq!(rt; sink.faults(), 1);
+    check!(rt; sink.put(b"7 bytes").is_ok());
+    check!(rt; sink.put(b"more").is_err());
+    check_eq!(rt; sink.faults(), 1);
 }
 
 /// A file that takes no bytes but those of its first write, and counts its syncs, one of which fails.
@@ -142,14 +143,14 @@ fn log_over_a_file_is_synced_after_a_fault(rt: HostRuntime) {
         syncs: &syncs,
         failing: 2,
     });
-    assert_eq!(rt;
+    check_eq!(rt;
         (log.append(b"taken"), log.append(b"left")),
         (Ok(()), Err(Failed))
     );
-    assert_eq!(rt; (log.sync(), syncs.get()), (Ok(()), 1));
-    assert_eq!(rt; (log.sync(), syncs.get()), (Err(Failed), 2));
-    assert_eq!(rt; (log.sync(), syncs.get()), (Ok(()), 3));
-    assert_eq!(rt; log.faults(), 2);
+    check_eq!(rt; (log.sync(), syncs.get()), (Ok(()), 1));
+    check_eq!(rt; (log.sync(), syncs.get()), (Err(Failed), 2));
+    check_eq!(rt; (log.sync(), syncs.get()), (Ok(()), 3));
+    check_eq!(rt; log.faults(), 2);
 }
 
 /// What a call answers that has room for three bytes, and what these then are.
@@ -165,12 +166,12 @@ fn source_in_memory(rt: HostRuntime) -> Result<(), Fail> {
     let calls = FaultPlan::new(vec![in alloc; 2u64; 1]?);
     let bytes = b"abcde".as_slice().to_vec(alloc)?;
     let mut source = MemSource::new(bytes, 2, calls);
-    assert_eq!(rt; take_three(&mut source), (Ok(2), *b"ab\0"));
-    assert_eq!(rt; take_three(&mut source), (Err(Failed), [0; 3]));
-    assert_eq!(rt; take_three(&mut source), (Ok(2), *b"cd\0"));
-    assert_eq!(rt; take_three(&mut source), (Ok(1), *b"e\0\0"));
-    assert_eq!(rt; take_three(&mut source), (Ok(0), [0; 3]));
-    assert_eq!(rt; source.faults(), 1);
+    check_eq!(rt; take_three(&mut source), (Ok(2), *b"ab\0"));
+    check_eq!(rt; take_three(&mut source), (Err(Failed), [0; 3]));
+    check_eq!(rt; take_three(&mut source), (Ok(2), *b"cd\0"));
+    check_eq!(rt; take_three(&mut source), (Ok(1), *b"e\0\0"));
+    check_eq!(rt; take_three(&mut source), (Ok(0), [0; 3]));
+    check_eq!(rt; source.faults(), 1);
     Ok(())
 }
 
@@ -195,8 +196,8 @@ impl Read for Faulty {
 #[test]
 fn source_over_a_reader(rt: HostRuntime) {
     let mut source = FileSource::new(Faulty { calls: 0 });
-    assert_eq!(rt; take_three(&mut source), (Ok(2), *b"xx\0"));
-    assert_eq!(rt; take_three(&mut source), (Err(Failed), [0; 3]));
-    assert_eq!(rt; take_three(&mut source), (Ok(2), *b"xx\0"));
-    assert_eq!(rt; source.faults(), 1);
+    check_eq!(rt; take_three(&mut source), (Ok(2), *b"xx\0"));
+    check_eq!(rt; take_three(&mut source), (Err(Failed), [0; 3]));
+    check_eq!(rt; take_three(&mut source), (Ok(2), *b"xx\0"));
+    check_eq!(rt; source.faults(), 1);
 }

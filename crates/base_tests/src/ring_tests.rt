@@ -1,6 +1,7 @@
 //! Sizes of rings, and walks worked out by hand.
 ghost use Rattle.std.specs.Prelude.{◌≤◌};
 
+use crate::checks::check_eq;
 use access_rings::{Memory, Ring, RingKind};
 use std::alloc::Global;
 use std::test::Fail;
@@ -26,7 +27,7 @@ fn sizes_by_kind_and_pool(rt: HostRuntime) -> Result<(), Fail> {
         (512, RingKind::BulkWrite),
         (32, RingKind::Vacuum),
     ];
-    assert_eq!(rt; found, wanted);
+    check_eq!(rt; found, wanted);
     Ok(())
 }
 
@@ -42,12 +43,12 @@ fn next_then_keep(ring: &mut Ring, frame: u32) -> Option<u32> {
 fn frames_come_round(rt: HostRuntime) -> Result<(), Fail> {
     let mut ring = Ring::build(rt.alloc(), RingKind::Vacuum, 24)?;
     let kept = [7, u32::MAX, 7].map(|frame| next_then_keep(&mut ring, frame));
-    assert_eq!(rt; kept, [None; 3]);
+    check_eq!(rt; kept, [None; 3]);
     let first = ring.next();
     let second = next_then_keep(&mut ring, 9);
     let later = [ring.next(), ring.next(), ring.next()];
-    assert_eq!(rt; (first, second), (Some(7), Some(u32::MAX)));
-    assert_eq!(rt; later, [Some(7), Some(7), Some(9)]);
+    check_eq!(rt; (first, second), (Some(7), Some(u32::MAX)));
+    check_eq!(rt; later, [Some(7), Some(7), Some(9)]);
     Ok(())
 }
 
@@ -63,9 +64,9 @@ fn a_bulk_read_rejects_the_current_frame_alone(rt: HostRuntime) -> Result<(), Fa
         ring.reject(0),
         ring.reject(0),
     ];
-    assert_eq!(rt; rejected, [false, false, true, false]);
+    check_eq!(rt; rejected, [false, false, true, false]);
     let found = [empty[0], empty[1], first, ring.next(), ring.next()];
-    assert_eq!(rt; found, [None, None, Some(0), Some(1), None]);
+    check_eq!(rt; found, [None, None, Some(0), Some(1), None]);
     Ok(())
 }
 
@@ -80,7 +81,7 @@ fn reject_kept(alloc: Global, kind: RingKind) -> Result<(bool, [Option<u32>; 3])
 #[test]
 fn other_kinds_reject_nothing(rt: HostRuntime) -> Result<(), Fail> {
     let stays = (false, [None, None, Some(3)]);
-    assert_eq!(rt; reject_kept(rt.alloc(), RingKind::BulkWrite)?, stays);
-    assert_eq!(rt; reject_kept(rt.alloc(), RingKind::Vacuum)?, stays);
+    check_eq!(rt; reject_kept(rt.alloc(), RingKind::BulkWrite)?, stays);
+    check_eq!(rt; reject_kept(rt.alloc(), RingKind::Vacuum)?, stays);
     Ok(())
 }

@@ -1,4 +1,5 @@
 //! Packed tags, partitions, lanes, places and catalogues that were worked out by hand.
+use crate::checks::check_eq;
 use block_tag::{Catalog, CatalogError, Fork, RelEntry, RelNo, Tag, lane_of, segment_place};
 use std::test::Fail;
 
@@ -16,11 +17,11 @@ fn tags_pack_and_spread(rt: HostRuntime) {
     let main = tag(0, Fork::Main, 200);
     let last = tag(1023, Fork::Init, 0xFFFF_FFFE);
     let packed = [vm.pack(), last.pack()];
-    assert_eq!(rt; packed, [0x0000_0302_0000_0005, 0x0003_FF03_FFFF_FFFE]);
+    check_eq!(rt; packed, [0x0000_0302_0000_0005, 0x0003_FF03_FFFF_FFFE]);
     let partitions = [vm.partition(), main.partition(), last.partition()];
-    assert_eq!(rt; partitions, [112, 72, 116]);
-    assert_eq!(rt; lane_of(&vm, 4), 0);
-    assert_eq!(rt; Tag::unpack(0x0003_FF03_FFFF_FFFE), Some(last));
+    check_eq!(rt; partitions, [112, 72, 116]);
+    check_eq!(rt; lane_of(&vm, 4), 0);
+    check_eq!(rt; Tag::unpack(0x0003_FF03_FFFF_FFFE), Some(last));
 }
 
 #[test]
@@ -31,7 +32,7 @@ fn numbers_that_are_no_tags(rt: HostRuntime) {
         Tag::unpack(0x0004_0000_0000_0000),
         Tag::unpack(u64::MAX),
     ];
-    assert_eq!(rt; found, [None; 4]);
+    check_eq!(rt; found, [None; 4]);
 }
 
 #[test]
@@ -41,7 +42,7 @@ fn blocks_lie_in_segments(rt: HostRuntime) {
         segment_place(5, 2),
         segment_place(0xFFFF_FFFE, 131072),
     ];
-    assert_eq!(rt; found, [(1, 0), (2, 1), (32767, 131070)]);
+    check_eq!(rt; found, [(1, 0), (2, 1), (32767, 131070)]);
 }
 
 fn entry(relation: u32) -> RelEntry {
@@ -57,7 +58,7 @@ fn entry(relation: u32) -> RelEntry {
 fn catalogues(rt: HostRuntime) -> Result<(), Fail> {
     let alloc = rt.alloc();
     let twice = Catalog::build(alloc, &[entry(1), entry(2), entry(1), entry(2)]);
-    assert_eq!(rt;
+    check_eq!(rt;
         twice.err(),
         Some(CatalogError::Twice {
             first: 0,
@@ -66,12 +67,12 @@ fn catalogues(rt: HostRuntime) -> Result<(), Fail> {
     );
     let many = vec![in alloc; entry(1); 1025]?;
     let refused = Catalog::build(alloc, &many);
-    assert_eq!(rt; refused.err(), Some(CatalogError::TooMany { count: 1025 }));
+    check_eq!(rt; refused.err(), Some(CatalogError::TooMany { count: 1025 }));
     let one = Catalog::build(alloc, &[entry(9)])?;
     let blocks = [
         one.blocks(RelNo(0), Fork::Main),
         one.blocks(RelNo(1), Fork::Main),
     ];
-    assert_eq!(rt; (one.len(), blocks), (1, [7, 0]));
+    check_eq!(rt; (one.len(), blocks), (1, [7, 0]));
     Ok(())
 }
