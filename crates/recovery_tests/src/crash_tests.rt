@@ -2,6 +2,7 @@
 use crate::bench::{
     BEFORE, Kept, NONE, empty_lanes, lanes_before, outcome_of, put_page, recover_by, tag,
 };
+use crate::checks::check_eq;
 use crate::kept_lane::KeptLane;
 use crate::log_bytes::{page_bytes, three_records, torn_page};
 use std::alloc::Global;
@@ -85,7 +86,7 @@ fn recover_crashed(
     put_found(alloc, &mut lanes, 2, after_third, Found::Before)?;
     let found = recover_by(rt, alloc, &mut lanes, left)?;
     let again = recover_by(rt, alloc, &mut lanes, left)?;
-    assert_eq!(rt;
+    check_eq!(rt;
         [found, again],
         [wanted; 2],
         "{length} bytes, {first:?} and {second:?}"
@@ -124,7 +125,7 @@ fn blocks_are_written_to_their_lanes(rt: HostRuntime) -> Result<(), Fail> {
         first.page(&tag(0)).map_or(0, |page| page.lsn() as usize),
         second.page(&tag(1)).map_or(0, |page| page.lsn() as usize),
     ];
-    assert_eq!(rt; (outcome.held.blocks, found), (2, [0, 28768, 20544]));
+    check_eq!(rt; (outcome.held.blocks, found), (2, [0, 28768, 20544]));
     Ok(())
 }
 
@@ -137,7 +138,7 @@ fn redo_goes_on_and_back(rt: HostRuntime) -> Result<(), Fail> {
     for length in [16464, 24688, 16464] {
         let left = log.get(..length).ok_or("the log is short")?;
         let found = recover_by(&rt, alloc, &mut lanes, left)?;
-        assert_eq!(rt; found, outcome_of(length), "{length} bytes");
+        check_eq!(rt; found, outcome_of(length), "{length} bytes");
     }
     Ok(())
 }

@@ -2,6 +2,7 @@
 ghost use Rattle.std.specs.Prelude.{◌≤◌};
 
 use crate::bench::{NONE, lanes_before, outcome_of, recover_lanes, source};
+use crate::checks::check_eq;
 use crate::log_bytes::three_records;
 use std::alloc::Global;
 use std::process::Abort;
@@ -22,7 +23,7 @@ fn recover_cut(
     let mut source = source(alloc, bytes, most, 0)?;
     let mut lanes = lanes_before(alloc, lanes, 0, NONE)?;
     let found = recover_lanes(rt, alloc, &mut lanes, &mut source)?;
-    assert_eq!(rt; found, outcome_of(length), "{length} bytes, {most} a call");
+    check_eq!(rt; found, outcome_of(length), "{length} bytes, {most} a call");
     Ok(())
 }
 
@@ -30,7 +31,7 @@ fn recover_cut(
 fn a_log_is_cut_anywhere(rt: HostRuntime) -> Result<(), Fail> {
     let alloc = rt.alloc();
     let log = three_records(alloc)?;
-    assert_eq!(rt; log.len(), 24688);
+    check_eq!(rt; log.len(), 24688);
     for length in 0..24689 {
         recover_cut(&rt, alloc, &log, length, usize::MAX, 1)?;
     }

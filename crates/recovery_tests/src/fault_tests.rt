@@ -2,6 +2,7 @@
 use crate::bench::{
     Kept, NONE, Outcome, lanes_before, outcome_of, recover_by, recover_lanes, source, whole_page,
 };
+use crate::checks::check_eq;
 use crate::kept_lane::{Failing, KeptLane};
 use crate::log_bytes::three_records;
 use log_recovery::RecoverError;
@@ -17,7 +18,7 @@ fn recover_again(
     log: &[u8],
 ) -> Result<(), Fail> {
     let again = recover_by(rt, alloc, lanes, log)?;
-    assert_eq!(rt; again, outcome_of(log.len()));
+    check_eq!(rt; again, outcome_of(log.len()));
     Ok(())
 }
 
@@ -34,7 +35,7 @@ fn a_read_fails(rt: HostRuntime) -> Result<(), Fail> {
             answer: Err(RecoverError::ReadFault),
             ..outcome_of(length)
         };
-        assert_eq!(rt; (found, source.faults()), (wanted, 1), "call {call}");
+        check_eq!(rt; (found, source.faults()), (wanted, 1), "call {call}");
         recover_again(&rt, alloc, &mut lanes, &log)?;
     }
     Ok(())
@@ -57,13 +58,13 @@ fn a_write_fails(rt: HostRuntime) -> Result<(), Fail> {
     for (write, [first, second]) in torn() {
         let mut lanes = lanes_before(alloc, 1, 0, Failing { write, sync: 0 })?;
         let found = recover_by(&rt, alloc, &mut lanes, &log)?;
-        assert_eq!(rt;
+        check_eq!(rt;
             found.answer,
             Err(RecoverError::WriteFault),
             "write {write}"
         );
         let wanted = [first, second, whole_page(102, 2048)];
-        assert_eq!(rt; found.held.pages, wanted, "write {write}");
+        check_eq!(rt; found.held.pages, wanted, "write {write}");
         recover_again(&rt, alloc, &mut lanes, &log)?;
     }
     Ok(())
@@ -80,7 +81,7 @@ fn a_sync_fails(rt: HostRuntime) -> Result<(), Fail> {
             answer: Err(RecoverError::WriteFault),
             ..outcome_of(24688)
         };
-        assert_eq!(rt; found, wanted, "lane {lane}");
+        check_eq!(rt; found, wanted, "lane {lane}");
         recover_again(&rt, alloc, &mut lanes, &log)?;
     }
     Ok(())

@@ -1,5 +1,6 @@
 //! Heads and records that aren't well formed.
 use crate::bench::{NONE, Outcome, lanes_before, outcome_of, recover_by};
+use crate::checks::check_eq;
 use crate::log_bytes::{Image, Record, log_bytes};
 use log_recovery::{RecoverError, Redone};
 use std::alloc::Global;
@@ -33,7 +34,7 @@ fn a_bad_head_is_refused(rt: HostRuntime) -> Result<(), Fail> {
             answer: Err(RecoverError::BadLog),
             ..outcome_of(0)
         };
-        assert_eq!(rt;
+        check_eq!(rt;
             recover_three(&rt, alloc, &bytes)?,
             wanted,
             "{mark:?} {base}"
@@ -91,7 +92,7 @@ fn reading_ends_before_a_bad_record(rt: HostRuntime) -> Result<(), Fail> {
     let after = Record::new(20544, 0, 3);
     for (number, bad) in bad_records().into_iter().enumerate() {
         let bytes = log_bytes(alloc, b"PGBUFLOG", 4096, &[before, bad, after])?;
-        assert_eq!(rt;
+        check_eq!(rt;
             recover_three(&rt, alloc, &bytes)?,
             outcome_of(8240),
             "record {number}"
@@ -114,7 +115,7 @@ fn records_end_at_the_last_position(rt: HostRuntime) -> Result<(), Fail> {
             blocks: entries,
         };
         let found = recover_three(&rt, alloc, &bytes)?;
-        assert_eq!(rt; found.answer, Ok(redone), "from {base}");
+        check_eq!(rt; found.answer, Ok(redone), "from {base}");
     }
     Ok(())
 }

@@ -2,6 +2,7 @@
 ghost use Rattle.std.specs.Prelude.{◌≡◌, ◌≤◌};
 
 use crate::bench::{Kept, whole_page};
+use crate::checks::{check, check_eq};
 use crate::log_bytes::{Record, log_bytes, page_bytes};
 use block_tag::{Catalog, CatalogError, Fork, RelEntry, RelNo, Tag};
 use log_device::{FaultPlan, LogPlan};
@@ -96,14 +97,18 @@ impl Run {
     }
 }
 
+fn segment_of(alloc: Global, runs: &[Run]) -> Result<Vec<u8>, AllocError> {
+    let mut bytes = Vec::new(alloc);
+    for run in runs {
+        run.add_to(&mut bytes)?;
+    }
+    Ok(bytes)
+}
+
 fn segments_of(alloc: Global, segments: &[&[Run]]) -> Result<Vec<Vec<u8>>, AllocError> {
     let mut all = Vec::new(alloc);
     for runs in segments {
-        let mut bytes = Vec::new(alloc);
-        for run in *runs {
-            run.add_to(&mut bytes)?;
-        }
-        all.push(bytes)?;
+        all.push(segment_of(alloc, runs)?)?;
     }
     Ok(all)
 }
@@ -123,7 +128,7 @@ fn none(alloc: Global) -> FaultPlan {
 }
 
 /// A host in memory with the relation and the log, of which a call gives 1000 bytes at most.
-fn host_of(alloc: Global, case: &Case<'_>) -> Result<MemHost, AllocError> {
+fn host_of(alloc: Global, case: &Case<'_>) -> Result<Box<MemHost>, AllocError> {
     let path = String::from_str(alloc, PATH)?;
     let segments = segments_of(alloc, case.segments)?;
     let mut files = Vec::new(alloc);
@@ -132,7 +137,8 @@ fn host_of(alloc: Global, case: &Case<'_>) -> Result<MemHost, AllocError> {
     let mut logs = MemLogs::new(alloc, 0, none(alloc), LogPlan::none(alloc), sources);
     logs.put(alloc, LOG, &log_of(alloc, case.blocks)?)?;
     let lanes = LanePlan::none(alloc);
-    Ok(MemHost::new(alloc, files, none(alloc), lanes, logs))
+    let host = MemHost::new(alloc, files, none(alloc), lanes, logs);
+    Ok(Box::new(alloc, host)?)
 }
 
 /// Whether the relation's segments have these bytes.
@@ -157,11 +163,11 @@ fn recover_twice(
 ) -> Result<u64, Fail> {
     let mut host = host_of(alloc, case)?;
     for _turn in 0..2 {
-        let found = recover_relation(alloc, &mut host, 2)?;
-        assert_eq!(rt; found, answer);
-        assert!(rt; has_segments(alloc, &host, wanted)?);
+        let found = recover_relation(alloc, &mut *host, 2)?;
+        check_eq!(rt; found, answer);
+        check!(rt; has_segments(alloc, &host, wanted)?);
     }
-    assert_eq!(rt; host.read_faults(), 0);
+    check_eq!(rt; host.read_faults(), 0);
     Ok(host.write_faults())
 }
 
@@ -181,7 +187,7 @@ fn segments_are_added(rt: HostRuntime) -> Result<(), Fail> {
         &[Run::Same(0, 8192), Run::Page(3, 28768)],
     ];
     let faults = recover_twice(&rt, rt.alloc(), &case, Ok(redone(3)), &wanted)?;
-    assert_eq!(rt; faults, 0);
+    check_eq!(rt; faults, 0);
     Ok(())
 }
 
@@ -199,7 +205,7 @@ fn a_partial_block_is_no_block(rt: HostRuntime) -> Result<(), Fail> {
         &[Run::Same(0, 8192), Run::Page(1, 12320)],
     ];
     let faults = recover_twice(&rt, rt.alloc(), &case, Ok(redone(1)), &wanted)?;
-    assert_eq!(rt; faults, 0);
+    check_eq!(rt; faults, 0);
     Ok(())
 }
 
@@ -223,7 +229,7 @@ fn a_stale_segment_comes_back(rt: HostRuntime) -> Result<(), Fail> {
             blocks: &[block],
         };
         let faults = recover_twice(&rt, rt.alloc(), &case, Ok(redone(1)), &wanted)?;
-        assert_eq!(rt; faults, 0, "block {block}");
+        check_eq!(rt; faults, 0, "block {block}");
     }
     Ok(())
 }
@@ -242,7 +248,7 @@ fn a_relation_without_room_keeps_a_part(rt: HostRuntime) -> Result<(), Fail> {
     ];
     let answer = Err(RecoverError::WriteFault);
     let faults = recover_twice(&rt, rt.alloc(), &case, answer, &wanted)?;
-    assert_eq!(rt; faults, 2);
+    check_eq!(rt; faults, 2);
     Ok(())
 }
 
@@ -257,7 +263,7 @@ fn read_far(rt: &HostRuntime) -> Result<Option<Kept>, Fail> {
         block: FAR,
     };
     let mut page = Page::zeroed(rt.alloc())?;
-    let mut host = FileHost::new(rt, rt.alloc());
+    let mut host = Box::new(rt.alloc(), FileHost::new(rt, rt.alloc()))?;
     let mut lanes = host.relation(rt.alloc(), PATH, 131_072, 1)?.lanes;
     let lane = lanes.first_mut().ok_or("no lane")?;
     let read = lane.read(tag, &mut page);
@@ -281,12 +287,12 @@ fn a_file_grows_far(rt: HostRuntime) -> Result<(), Fail> {
     let alloc = rt.alloc();
     fs::write(&rt, PATH, page_bytes(100, 2048).as_slice())?;
     fs::write(&rt, LOG, log_of(alloc, &[FAR])?.as_slice())?;
-    let mut host = FileHost::new(&rt, alloc);
-    let answer = recover_relation(alloc, &mut host, 131_072)?;
-    assert_eq!(rt; answer, Ok(redone(1)));
-    assert_eq!(rt; read_far(&rt)?, whole_page(1, 12320));
+    let mut host = Box::new(alloc, FileHost::new(&rt, alloc))?;
+    let answer = recover_relation(alloc, &mut *host, 131_072)?;
+    check_eq!(rt; answer, Ok(redone(1)));
+    check_eq!(rt; read_far(&rt)?, whole_page(1, 12320));
     let length = fs::metadata(&rt, "16384.7")?.len();
     remove_files(&rt)?;
-    assert_eq!(rt; length, 675_815_424);
+    check_eq!(rt; length, 675_815_424);
     Ok(())
 }

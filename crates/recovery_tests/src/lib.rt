@@ -5,6 +5,8 @@
 #[cfg(test)]
 mod bench;
 #[cfg(test)]
+mod checks;
+#[cfg(test)]
 mod crash_tests;
 #[cfg(test)]
 mod cut_tests;

@@ -2,6 +2,7 @@
 ghost use Rattle.std.specs.Prelude.{◌≡◌, length};
 
 use crate::bench::{Kept, catalog, source, tag, whole_page};
+use crate::checks::check_eq;
 use crate::log_bytes::{Record, log_bytes, page_bytes};
 use block_tag::{Fork, Tag};
 use log_recovery::{RecoverError, Redone, recover};
@@ -73,9 +74,9 @@ fn a_block_with_room_is_taken(rt: HostRuntime) -> Result<(), Fail> {
         let mut lanes = [lane_with(alloc, &[block])?];
         let wanted = ([whole_page(100, 2048), whole_page(7, 12320)], 0);
         let answer = recover_one(alloc, &mut lanes, block)?;
-        assert_eq!(rt; (answer, look_at(&lanes[0], block)), (Ok(REDONE), wanted));
+        check_eq!(rt; (answer, look_at(&lanes[0], block)), (Ok(REDONE), wanted));
         let again = recover_one(alloc, &mut lanes, block)?;
-        assert_eq!(rt; (again, look_at(&lanes[0], block)), (Ok(REDONE), wanted));
+        check_eq!(rt; (again, look_at(&lanes[0], block)), (Ok(REDONE), wanted));
     }
     Ok(())
 }
@@ -89,11 +90,11 @@ fn a_block_without_room_is_refused(rt: HostRuntime) -> Result<(), Fail> {
         let answer = recover_one(alloc, &mut lanes, block)?;
         let wanted = ([whole_page(100, 2048), None], 1);
         let fault = Err(RecoverError::WriteFault);
-        assert_eq!(rt; (answer, look_at(&lanes[0], block)), (fault, wanted));
+        check_eq!(rt; (answer, look_at(&lanes[0], block)), (fault, wanted));
         lanes[0].reserve(alloc, block)?;
         let again = recover_one(alloc, &mut lanes, block)?;
         let wanted = ([whole_page(100, 2048), whole_page(7, 12320)], 1);
-        assert_eq!(rt; (again, look_at(&lanes[0], block)), (Ok(REDONE), wanted));
+        check_eq!(rt; (again, look_at(&lanes[0], block)), (Ok(REDONE), wanted));
     }
     Ok(())
 }
