@@ -7,6 +7,8 @@
 #![tactic(auto)]
 
 mod census;
+#[cfg(test)]
+mod checks;
 mod choice;
 mod clock;
 mod free_list;

@@ -1,6 +1,7 @@
 //! The free list alone: its order, what it refuses, and that each frame is taken once.
 ghost use Rattle.clock_sweep.specs.FreeLists.{IsOfSweep};
 
+use crate::checks::{check, check_eq};
 use crate::free_list::QueuePass;
 use crate::sweep::Sweep;
 use std::sync::Wait;
@@ -10,43 +11,43 @@ use std::thread::join;
 #[test]
 fn frames_are_free_in_order(rt: HostRuntime) -> Result<(), Fail> {
     let (sweep, mut pass) = Sweep::build(rt.alloc(), 3)?;
-    assert_eq!(rt; sweep.take(&rt, &mut pass), Some(0));
-    assert_eq!(rt; sweep.take(&rt, &mut pass), Some(1));
-    assert_eq!(rt; sweep.take(&rt, &mut pass), Some(2));
-    assert_eq!(rt; sweep.take(&rt, &mut pass), None);
+    check_eq!(rt; sweep.take(&rt, &mut pass), Some(0));
+    check_eq!(rt; sweep.take(&rt, &mut pass), Some(1));
+    check_eq!(rt; sweep.take(&rt, &mut pass), Some(2));
+    check_eq!(rt; sweep.take(&rt, &mut pass), None);
     Ok(())
 }
 
 #[test]
 fn a_freed_frame_is_the_last(rt: HostRuntime) -> Result<(), Fail> {
     let (sweep, mut pass) = Sweep::build(rt.alloc(), 3)?;
-    assert_eq!(rt; sweep.take(&rt, &mut pass), Some(0));
-    assert!(rt; sweep.free(&rt, &mut pass, 0));
-    assert_eq!(rt; sweep.take(&rt, &mut pass), Some(1));
-    assert_eq!(rt; sweep.take(&rt, &mut pass), Some(2));
-    assert_eq!(rt; sweep.take(&rt, &mut pass), Some(0));
-    assert_eq!(rt; sweep.take(&rt, &mut pass), None);
+    check_eq!(rt; sweep.take(&rt, &mut pass), Some(0));
+    check!(rt; sweep.free(&rt, &mut pass, 0));
+    check_eq!(rt; sweep.take(&rt, &mut pass), Some(1));
+    check_eq!(rt; sweep.take(&rt, &mut pass), Some(2));
+    check_eq!(rt; sweep.take(&rt, &mut pass), Some(0));
+    check_eq!(rt; sweep.take(&rt, &mut pass), None);
     Ok(())
 }
 
 #[test]
 fn a_full_list_takes_no_frame(rt: HostRuntime) -> Result<(), Fail> {
     let (sweep, mut pass) = Sweep::build(rt.alloc(), 2)?;
-    assert!(rt; !sweep.free(&rt, &mut pass, 1));
-    assert_eq!(rt; sweep.take(&rt, &mut pass), Some(0));
-    assert!(rt; sweep.free(&rt, &mut pass, 0));
-    assert!(rt; !sweep.free(&rt, &mut pass, 1));
+    check!(rt; !sweep.free(&rt, &mut pass, 1));
+    check_eq!(rt; sweep.take(&rt, &mut pass), Some(0));
+    check!(rt; sweep.free(&rt, &mut pass, 0));
+    check!(rt; !sweep.free(&rt, &mut pass, 1));
     Ok(())
 }
 
 #[test]
 fn a_frame_may_be_listed_twice(rt: HostRuntime) -> Result<(), Fail> {
     let (sweep, mut pass) = Sweep::build(rt.alloc(), 2)?;
-    assert_eq!(rt; sweep.take(&rt, &mut pass), Some(0));
-    assert!(rt; sweep.free(&rt, &mut pass, 1));
-    assert_eq!(rt; sweep.take(&rt, &mut pass), Some(1));
-    assert_eq!(rt; sweep.take(&rt, &mut pass), Some(1));
-    assert_eq!(rt; sweep.take(&rt, &mut pass), None);
+    check_eq!(rt; sweep.take(&rt, &mut pass), Some(0));
+    check!(rt; sweep.free(&rt, &mut pass, 1));
+    check_eq!(rt; sweep.take(&rt, &mut pass), Some(1));
+    check_eq!(rt; sweep.take(&rt, &mut pass), Some(1));
+    check_eq!(rt; sweep.take(&rt, &mut pass), None);
     Ok(())
 }
 
@@ -111,6 +112,6 @@ fn two_threads_take_each_frame_once(rt: HostRuntime) -> Result<(), Fail> {
         sum: 4950,
         squares: 328_350,
     };
-    assert_eq!(rt; first.and(second), each_once);
+    check_eq!(rt; first.and(second), each_once);
     Ok(())
 }
