@@ -6,6 +6,8 @@
 
 pub mod bench;
 #[cfg(test)]
+mod checks;
+#[cfg(test)]
 mod choosing;
 #[cfg(test)]
 mod cleaning;

@@ -1,5 +1,6 @@
 //! Managers that are run.
 use crate::bench::{Bench, block, close, start, start_numbered};
+use crate::checks::{check, check_eq};
 use crate::choosing::read_in_order;
 use crate::cleaning::{
     Asked, NotAlone, OwnPins, try_not_alone, try_twice, try_twice_beside, wait_and_ask,
@@ -51,9 +52,9 @@ fn a_manager_is_refused_and_started(rt: HostRuntime) -> Result<(), Fail> {
         wanted: 2,
         given: 1,
     };
-    assert_eq!(rt; refusal(rt.alloc(), config(15, 3, 1))?, Some((frames, 1)));
-    assert_eq!(rt; refusal(rt.alloc(), config(16, 3, 2))?, Some((lanes, 1)));
-    assert_eq!(rt; refusal(rt.alloc(), config(4096, 64, 1))?, None);
+    check_eq!(rt; refusal(rt.alloc(), config(15, 3, 1))?, Some((frames, 1)));
+    check_eq!(rt; refusal(rt.alloc(), config(16, 3, 2))?, Some((lanes, 1)));
+    check_eq!(rt; refusal(rt.alloc(), config(4096, 64, 1))?, None);
     Ok(())
 }
 
@@ -72,22 +73,22 @@ fn an_unsound_page_is_refused(rt: HostRuntime) -> Result<(), Fail> {
     let unsound = read_once(&manager, &rt, &mut first, 0, block(5), &mut None);
     let past = read_once(&manager, &rt, &mut first, 0, block(0xFFFF_FFFE), &mut None);
     let (lanes, _log) = close(manager, first, second, third, passes);
-    assert_eq!(rt;
+    check_eq!(rt;
         sound,
         Ok(Access {
             frame: 0,
             hit: false
         })
     );
-    assert_eq!(rt; unsound, Err(ReadError::Unsound { tag: block(5) }));
-    assert_eq!(rt;
+    check_eq!(rt; unsound, Err(ReadError::Unsound { tag: block(5) }));
+    check_eq!(rt;
         past,
         Err(ReadError::PastEnd {
             block: 0xFFFF_FFFE,
             blocks: 64
         })
     );
-    assert_eq!(rt; lanes.first().map(|lane| lane.reads), Some(2));
+    check_eq!(rt; lanes.first().map(|lane| lane.reads), Some(2));
     Ok(())
 }
 
@@ -102,7 +103,7 @@ fn no_frame_is_left(rt: HostRuntime) -> Result<(), Fail> {
     } = start_numbered(rt.alloc())?;
     let crowded = crowd_frames(&manager, &rt, &mut first, &mut second, &mut third);
     let (_lanes, _log) = close(manager, first, second, third, passes);
-    assert_eq!(rt;
+    check_eq!(rt;
         crowded,
         Some(Crowded {
             census: Some([0x8304_0001; 16]),
@@ -136,8 +137,8 @@ fn fresh_frames_come_before_the_clock(rt: HostRuntime) -> Result<(), Fail> {
     let after = read_once(&manager, &rt, &mut first, 0, block(17), &mut None);
     let (_lanes, _log) = close(manager, first, second, third, passes);
     let access = |frame, hit| Ok(Access { frame, hit });
-    assert_eq!(rt; (three, others), (Ok((3, 0)), Ok((13, 0))));
-    assert_eq!(rt;
+    check_eq!(rt; (three, others), (Ok((3, 0)), Ok((13, 0))));
+    check_eq!(rt;
         (used, next, after),
         (access(0, true), access(1, false), access(2, false))
     );
@@ -173,7 +174,7 @@ fn a_right_hint_takes_no_latch(rt: HostRuntime) -> Result<(), Fail> {
     };
     let had = HintSeen::Had { frame: 0 };
     let other = |number| HintSeen::Other { tag: block(number) };
-    assert_eq!(rt;
+    check_eq!(rt;
         found,
         [
             sighted(0, false, HintSeen::Nothing, 2),
@@ -198,7 +199,7 @@ fn a_hint_at_an_own_frame_is_passed_over(rt: HostRuntime) -> Result<(), Fail> {
     } = start(rt.alloc(), 65, lane, TestLog::new(rt.alloc(), 0), 0)?;
     let seen = hints_beside_own(&manager, &rt, &mut first);
     let (_lanes, _log) = close(manager, first, second, third, passes);
-    assert_eq!(rt;
+    check_eq!(rt;
         seen,
         Some([
             HintSeen::Own { frame: 0 },
@@ -220,8 +221,8 @@ fn pages_are_their_blocks_in_two_threads(rt: HostRuntime) -> Result<(), Fail> {
     } = start_numbered(rt.alloc())?;
     let wrong = copy_all_twice(&manager, &rt, &mut first, &mut second, 64, rt.alloc());
     let (lanes, _log) = close(manager, first, second, third, passes);
-    assert_eq!(rt; wrong, (Some(0), Some(0)));
-    assert!(rt;
+    check_eq!(rt; wrong, (Some(0), Some(0)));
+    check!(rt;
         lanes
             .first()
             .is_some_and(|lane| lane.reads >= 64 && lane.writes == 0)
@@ -248,14 +249,14 @@ fn copies_beside_changes_are_whole(rt: HostRuntime) -> Result<(), Fail> {
         rt.alloc(),
     );
     let (_lanes, log) = close(manager, first, second, third, passes);
-    assert_eq!(rt;
+    check_eq!(rt;
         copied,
         Copied {
             changes: Some(10000),
             torn: (Some(0), Some(0))
         }
     );
-    assert_eq!(rt; log.bytes.len(), 82_240_000);
+    check_eq!(rt; log.bytes.len(), 82_240_000);
     Ok(())
 }
 
@@ -272,14 +273,14 @@ fn a_content_lock_that_another_has_is_busy(rt: HostRuntime) -> Result<(), Fail> 
     let shared = try_beside_shared(&manager, &rt, &mut first, &mut second, block(0));
     let (_lanes, _log) = close(manager, first, second, third, passes);
     let busy = Some(TryLock::Busy { word: 262144 });
-    assert_eq!(rt;
+    check_eq!(rt;
         exclusive,
         Some(Refusals {
             shared: busy,
             exclusive: busy
         })
     );
-    assert_eq!(rt;
+    check_eq!(rt;
         shared,
         Some(Refusals {
             shared: None,
@@ -327,12 +328,12 @@ fn two_puts_are_two_records(rt: HostRuntime) -> Result<(), Fail> {
     expected.extend_from_slice(b"PGBUFLOG\0\0\0\0\0\0\0\0")?;
     push_record(&mut expected, 0, 0x2020, 7)?;
     push_record(&mut expected, 0x2020, 0x4040, 7)?;
-    assert_eq!(rt;
+    check_eq!(rt;
         (begun, earlier, later),
         (Ok(()), Some(Ok(8224)), Some(Ok(16448)))
     );
-    assert_eq!(rt; log.bytes.len(), 16464);
-    assert!(rt; log.bytes == expected);
+    check_eq!(rt; log.bytes.len(), 16464);
+    check!(rt; log.bytes == expected);
     Ok(())
 }
 
@@ -351,7 +352,7 @@ fn a_read_sees_what_another_put(rt: HostRuntime) -> Result<(), Fail> {
     let seen = copy_around_put(&manager, &rt, &mut first, &mut second, &page, &mut copies);
     let shared = copy_shared(&manager, &rt, &mut third, 2, block(0), &mut page);
     let (lanes, _log) = close(manager, first, second, third, passes);
-    assert_eq!(rt;
+    check_eq!(rt;
         seen,
         Ok(SeenPut {
             hit: false,
@@ -360,11 +361,11 @@ fn a_read_sees_what_another_put(rt: HostRuntime) -> Result<(), Fail> {
         })
     );
     let (before, after) = copies;
-    assert!(rt; before.bytes() == one_item(0).as_slice());
-    assert!(rt; after.bytes()[8184..8188] == [5, 0, 0, 0]);
-    assert_eq!(rt; (after.lsn(), shared), (8224, Ok(8224)));
-    assert!(rt; page.bytes() == after.bytes());
-    assert_eq!(rt; lanes.first().map(|lane| lane.reads), Some(1));
+    check!(rt; before.bytes() == one_item(0).as_slice());
+    check!(rt; after.bytes()[8184..8188] == [5, 0, 0, 0]);
+    check_eq!(rt; (after.lsn(), shared), (8224, Ok(8224)));
+    check!(rt; page.bytes() == after.bytes());
+    check_eq!(rt; lanes.first().map(|lane| lane.reads), Some(1));
     Ok(())
 }
 
@@ -384,8 +385,8 @@ fn the_last_position_fills_the_log(rt: HostRuntime) -> Result<(), Fail> {
     let earlier = put_once(&manager, &rt, &mut first, 0, block(5), &page, &mut None);
     let later = put_once(&manager, &rt, &mut first, 0, block(5), &page, &mut None);
     let (_lanes, _log) = close(manager, first, second, third, passes);
-    assert_eq!(rt; earlier, Some(Ok(end)));
-    assert_eq!(rt; later, Some(Err(PutError::LogFull { end })));
+    check_eq!(rt; earlier, Some(Ok(end)));
+    check_eq!(rt; later, Some(Err(PutError::LogFull { end })));
     Ok(())
 }
 
@@ -405,8 +406,8 @@ fn a_position_behind_the_log_is_refused(rt: HostRuntime) -> Result<(), Fail> {
     let put = put_once(&manager, &rt, &mut first, 0, block(5), &page, &mut None);
     let flushed = flush_once(&manager, &rt, &mut first, 0, block(5));
     let (_lanes, _log) = close(manager, first, second, third, passes);
-    assert_eq!(rt; put, Some(Err(PutError::LogFull { end })));
-    assert_eq!(rt;
+    check_eq!(rt; put, Some(Err(PutError::LogFull { end })));
+    check_eq!(rt;
         flushed,
         Some(Err(FlushError::LogShort { lsn: end + 8, end }))
     );
@@ -429,12 +430,12 @@ fn an_append_that_failed_leaves_the_first_put_unflushed(rt: HostRuntime) -> Resu
     let later = put_once(&manager, &rt, &mut first, 0, block(5), &page, &mut None);
     let flushed = flush_once(&manager, &rt, &mut first, 0, block(5));
     let (_lanes, log) = close(manager, first, second, third, passes);
-    assert_eq!(rt;
+    check_eq!(rt;
         (begun, earlier, later),
         (Ok(()), Some(Ok(8224)), Some(Err(PutError::LogFault)))
     );
-    assert_eq!(rt; flushed, Some(Err(FlushError::LogDown { at: 8224 })));
-    assert_eq!(rt; log.bytes.len(), 8240);
+    check_eq!(rt; flushed, Some(Err(FlushError::LogDown { at: 8224 })));
+    check_eq!(rt; log.bytes.len(), 8240);
     Ok(())
 }
 
@@ -456,8 +457,8 @@ fn a_waiter_is_named_and_woken(rt: HostRuntime) -> Result<(), Fail> {
         rt.alloc(),
     );
     let (_lanes, _log) = close(manager, first, second, third, passes);
-    assert_eq!(rt; waited, Some(None));
-    assert_eq!(rt;
+    check_eq!(rt; waited, Some(None));
+    check_eq!(rt;
         asked,
         Some(Asked {
             refused: Some(CleanupError::OtherWaiter { backend: 0 }),
@@ -478,7 +479,7 @@ fn a_try_that_is_not_alone_is_refused(rt: HostRuntime) -> Result<(), Fail> {
     } = start_numbered(rt.alloc())?;
     let refusals = try_not_alone(&manager, &rt, &mut first, &mut second);
     let (_lanes, _log) = close(manager, first, second, third, passes);
-    assert_eq!(rt;
+    check_eq!(rt;
         refusals,
         Some(NotAlone {
             pinned: Some(TryCleanup::OtherPins { word: 0x8308_0002 }),
@@ -499,14 +500,14 @@ fn two_waiters_at_two_frames_are_woken(rt: HostRuntime) -> Result<(), Fail> {
     } = start_numbered(rt.alloc())?;
     let (asked, waited) = wait_at_both(&manager, &rt, &mut first, &mut second, &mut third);
     let (_lanes, _log) = close(manager, first, second, third, passes);
-    assert_eq!(rt;
+    check_eq!(rt;
         asked,
         (
             Some(Some(CleanupError::OtherWaiter { backend: 0 })),
             Some(Some(CleanupError::OtherWaiter { backend: 1 }))
         )
     );
-    assert_eq!(rt; waited, (Some(None), Some(None)));
+    check_eq!(rt; waited, (Some(None), Some(None)));
     Ok(())
 }
 
@@ -524,7 +525,7 @@ fn a_try_with_two_tokens_is_refused(rt: HostRuntime) -> Result<(), Fail> {
     let (_lanes, _log) = close(manager, first, second, third, passes);
     let twice = Some(TryCleanup::LocalPins { count: 2 });
     let once = Some(TryCleanup::OtherPins { word: 0x8308_0002 });
-    assert_eq!(rt; beside, Some(OwnPins { twice, once }));
-    assert_eq!(rt; alone, Some(OwnPins { twice, once: None }));
+    check_eq!(rt; beside, Some(OwnPins { twice, once }));
+    check_eq!(rt; alone, Some(OwnPins { twice, once: None }));
     Ok(())
 }
