@@ -1,4 +1,5 @@
 //! Tables that are built and closed.
+use crate::checks::check_eq;
 use crate::fixture::table;
 use crate::freeing::{Freed, free_by_another};
 use crate::hinting::{Sighted, sight_by_two};
@@ -14,8 +15,8 @@ fn a_fresh_frame_has_no_tag(rt: HostRuntime) -> Result<(), Fail> {
     let (table, mut seat) = table(rt.alloc())?;
     let refused = refusal(&table, &rt, &mut seat, 3);
     let (lanes, _log) = table.close(seat);
-    assert_eq!(rt; refused, Some(TryPin::Untagged { word: 0 }));
-    assert_eq!(rt; lanes.len(), 1);
+    check_eq!(rt; refused, Some(TryPin::Untagged { word: 0 }));
+    check_eq!(rt; lanes.len(), 1);
     Ok(())
 }
 
@@ -24,7 +25,7 @@ fn a_header_that_another_has_is_locked(rt: HostRuntime) -> Result<(), Fail> {
     let (table, mut first) = table(rt.alloc())?;
     let refused = refusal_of_two(&table, &rt, &mut first, 3);
     let (_lanes, _log) = table.close(first);
-    assert_eq!(rt; refused, Some(TryPin::Locked { word: 4194304 }));
+    check_eq!(rt; refused, Some(TryPin::Locked { word: 4194304 }));
     Ok(())
 }
 
@@ -38,7 +39,7 @@ fn a_victim_is_free_again(rt: HostRuntime) -> Result<(), Fail> {
         frame: 0,
         pushed: true,
     };
-    assert_eq!(rt; freed?, (false, Some(first)));
+    check_eq!(rt; freed?, (false, Some(first)));
     Ok(())
 }
 
@@ -48,7 +49,7 @@ fn a_hint_at_a_frame_without_a_tag_is_passed_over(rt: HostRuntime) -> Result<(),
     let (table, mut seat) = table(rt.alloc())?;
     let sighted = sight_by_two(&table, &rt, &mut seat, rt.alloc(), 4, 3);
     let (_lanes, _log) = table.close(seat);
-    assert_eq!(rt;
+    check_eq!(rt;
         sighted?,
         Sighted {
             hint: HintSeen::Untagged { word: 0 },
@@ -63,7 +64,7 @@ fn a_hint_at_a_locked_frame_is_passed_over(rt: HostRuntime) -> Result<(), Fail> 
     let (table, mut seat) = table(rt.alloc())?;
     let sighted = sight_by_two(&table, &rt, &mut seat, rt.alloc(), 3, 3);
     let (_lanes, _log) = table.close(seat);
-    assert_eq!(rt;
+    check_eq!(rt;
         sighted?,
         Sighted {
             hint: HintSeen::Locked { word: 4194304 },
@@ -78,7 +79,7 @@ fn a_fresh_map_is_empty_and_has_room_for_each_frame(rt: HostRuntime) -> Result<(
     let (table, mut seat) = table(rt.alloc())?;
     let counts = count_entries(&table, &rt, &mut seat, 127);
     let (_lanes, _log) = table.close(seat);
-    assert_eq!(rt; counts, (0, 16));
+    check_eq!(rt; counts, (0, 16));
     Ok(())
 }
 
@@ -87,6 +88,6 @@ fn a_log_begins_flushed_up_to_its_base(rt: HostRuntime) -> Result<(), Fail> {
     let (table, mut seat) = table(rt.alloc())?;
     let positions = positions(&table, &mut seat);
     let (_lanes, _log) = table.close(seat);
-    assert_eq!(rt; positions, (8, 8));
+    check_eq!(rt; positions, (8, 8));
     Ok(())
 }
