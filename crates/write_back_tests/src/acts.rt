@@ -190,7 +190,7 @@ pub fn play<R: Wait>(
     lanes: Vec<PageLane>,
     log: ByteLog,
     acts: &[Act],
-) -> Result<Played, AllocError> {
+) -> Result<Box<Played>, AllocError> {
     play_by_ring(rt, alloc, frames, lanes, log, None, acts)
 }
 
@@ -203,7 +203,7 @@ pub fn play_by_ring<R: Wait>(
     log: ByteLog,
     ring: Option<Ring>,
     acts: &[Act],
-) -> Result<Played, AllocError> {
+) -> Result<Box<Played>, AllocError> {
     let mut page = Page::zeroed(alloc)?;
     page.fill(&one_item(200));
     let copied = Page::zeroed(alloc)?;
@@ -227,11 +227,14 @@ pub fn play_by_ring<R: Wait>(
     );
     let met = second.met();
     let (lanes, log) = close(manager, first, second, third, passes);
-    Ok(Played {
-        answers: answers?,
-        calls: calls_of(&lanes, &log, alloc)?,
+    let answers = answers?;
+    let calls = calls_of(&lanes, &log, alloc)?;
+    let played = Played {
+        answers,
+        calls,
         met,
         lanes,
         log,
-    })
+    };
+    Ok(Box::new(alloc, played)?)
 }

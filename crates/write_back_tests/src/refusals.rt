@@ -1,5 +1,6 @@
 //! A put, a flush and a checkpoint, of which one device call fails.
 use crate::acts::{Act, Answer, Copied, Played, play};
+use crate::checks::check_eq;
 use crate::devices::TestCall::{Append, ReadBlock, SyncLane, SyncLog, WriteBlock};
 use crate::devices::{Failing, TestCall};
 use crate::tests::{checkpoint, devices, put, refused};
@@ -36,7 +37,7 @@ fn run<R: Wait>(
     lane_fails: Failing,
     log_fails: Failing,
     acts: &[Act],
-) -> Result<Played, AllocError> {
+) -> Result<Box<Played>, AllocError> {
     let (lanes, log) = devices(alloc, 1, lane_fails, log_fails)?;
     play(rt, alloc, 16, lanes, log, acts)
 }
@@ -75,7 +76,7 @@ fn a_put_is_flushed_and_stored(rt: HostRuntime) -> Result<(), Fail> {
         lsn: 8224,
         place: 8224,
     };
-    assert_eq!(rt;
+    check_eq!(rt;
         run.answers.as_slice(),
         [
             READ,
@@ -86,8 +87,8 @@ fn a_put_is_flushed_and_stored(rt: HostRuntime) -> Result<(), Fail> {
         ]
         .as_slice()
     );
-    assert_eq!(rt; run.calls.as_slice(), CALLS.as_slice());
-    assert_eq!(rt; Stored::of(&run), STORED);
+    check_eq!(rt; run.calls.as_slice(), CALLS.as_slice());
+    check_eq!(rt; Stored::of(&run), STORED);
     Ok(())
 }
 
@@ -102,7 +103,7 @@ fn a_read_that_failed_is_made_again(rt: HostRuntime) -> Result<(), Fail> {
     ];
     let run = run(&rt, rt.alloc(), Failing::Read(1), Failing::None, &acts)?;
     let fault = ReadError::ReadFault { tag: block(0) };
-    assert_eq!(rt;
+    check_eq!(rt;
         run.answers.as_slice(),
         [
             Answer::Read(Err(fault)),
@@ -113,9 +114,9 @@ fn a_read_that_failed_is_made_again(rt: HostRuntime) -> Result<(), Fail> {
         ]
         .as_slice()
     );
-    assert_eq!(rt; run.calls.first(), Some(&ReadBlock(0)));
-    assert_eq!(rt; run.calls.get(1..), Some(CALLS.as_slice()));
-    assert_eq!(rt; Stored::of(&run), STORED);
+    check_eq!(rt; run.calls.first(), Some(&ReadBlock(0)));
+    check_eq!(rt; run.calls.get(1..), Some(CALLS.as_slice()));
+    check_eq!(rt; Stored::of(&run), STORED);
     Ok(())
 }
 
@@ -129,7 +130,7 @@ fn an_append_that_failed_leaves_the_page(rt: HostRuntime) -> Result<(), Fail> {
         Act::Put(0),
     ];
     let run = run(&rt, rt.alloc(), Failing::None, Failing::Write(1), &acts)?;
-    assert_eq!(rt;
+    check_eq!(rt;
         run.answers.as_slice(),
         [
             Answer::Put(Some(Err(PutError::LogFault))),
@@ -140,7 +141,7 @@ fn an_append_that_failed_leaves_the_page(rt: HostRuntime) -> Result<(), Fail> {
         ]
         .as_slice()
     );
-    assert_eq!(rt;
+    check_eq!(rt;
         run.calls.as_slice(),
         [ReadBlock(0), Append, WriteBlock(0), SyncLane].as_slice()
     );
@@ -148,7 +149,7 @@ fn an_append_that_failed_leaves_the_page(rt: HostRuntime) -> Result<(), Fail> {
         lsn: Some(0),
         log: 0,
     };
-    assert_eq!(rt; Stored::of(&run), stored);
+    check_eq!(rt; Stored::of(&run), stored);
     Ok(())
 }
 
@@ -162,7 +163,7 @@ fn a_log_that_is_not_synced_keeps_the_page_from_its_lane(rt: HostRuntime) -> Res
         Act::Checkpoint,
     ];
     let run = run(&rt, rt.alloc(), Failing::None, Failing::Sync(1), &acts)?;
-    assert_eq!(rt;
+    check_eq!(rt;
         run.answers.as_slice(),
         [
             put(8224),
@@ -173,7 +174,7 @@ fn a_log_that_is_not_synced_keeps_the_page_from_its_lane(rt: HostRuntime) -> Res
         ]
         .as_slice()
     );
-    assert_eq!(rt;
+    check_eq!(rt;
         run.calls.as_slice(),
         [ReadBlock(0), Append, SyncLog].as_slice()
     );
@@ -181,7 +182,7 @@ fn a_log_that_is_not_synced_keeps_the_page_from_its_lane(rt: HostRuntime) -> Res
         lsn: Some(0),
         log: 8224,
     };
-    assert_eq!(rt; Stored::of(&run), stored);
+    check_eq!(rt; Stored::of(&run), stored);
     Ok(())
 }
 
@@ -189,7 +190,7 @@ fn a_log_that_is_not_synced_keeps_the_page_from_its_lane(rt: HostRuntime) -> Res
 fn a_write_that_failed_is_made_by_the_next_flush(rt: HostRuntime) -> Result<(), Fail> {
     let acts = [Act::Put(0), Act::Flush(0), Act::Flush(0), Act::Checkpoint];
     let run = run(&rt, rt.alloc(), Failing::Write(1), Failing::None, &acts)?;
-    assert_eq!(rt;
+    check_eq!(rt;
         run.answers.as_slice(),
         [
             put(8224),
@@ -199,7 +200,7 @@ fn a_write_that_failed_is_made_by_the_next_flush(rt: HostRuntime) -> Result<(), 
         ]
         .as_slice()
     );
-    assert_eq!(rt;
+    check_eq!(rt;
         run.calls.as_slice(),
         [
             ReadBlock(0),
@@ -211,7 +212,7 @@ fn a_write_that_failed_is_made_by_the_next_flush(rt: HostRuntime) -> Result<(), 
         ]
         .as_slice()
     );
-    assert_eq!(rt; Stored::of(&run), STORED);
+    check_eq!(rt; Stored::of(&run), STORED);
     Ok(())
 }
 
@@ -219,7 +220,7 @@ fn a_write_that_failed_is_made_by_the_next_flush(rt: HostRuntime) -> Result<(), 
 fn a_lane_that_is_not_synced_is_synced_again(rt: HostRuntime) -> Result<(), Fail> {
     let acts = [Act::Put(0), Act::Flush(0), Act::Checkpoint, Act::Checkpoint];
     let run = run(&rt, rt.alloc(), Failing::Sync(1), Failing::None, &acts)?;
-    assert_eq!(rt;
+    check_eq!(rt;
         run.answers.as_slice(),
         [
             put(8224),
@@ -229,7 +230,7 @@ fn a_lane_that_is_not_synced_is_synced_again(rt: HostRuntime) -> Result<(), Fail
         ]
         .as_slice()
     );
-    assert_eq!(rt;
+    check_eq!(rt;
         run.calls.as_slice(),
         [
             ReadBlock(0),
@@ -241,6 +242,6 @@ fn a_lane_that_is_not_synced_is_synced_again(rt: HostRuntime) -> Result<(), Fail
         ]
         .as_slice()
     );
-    assert_eq!(rt; Stored::of(&run), STORED);
+    check_eq!(rt; Stored::of(&run), STORED);
     Ok(())
 }

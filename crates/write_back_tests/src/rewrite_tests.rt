@@ -1,6 +1,7 @@
 //! Rewrites that are run.
 ghost use Rattle.std.specs.Prelude.{◌≡◌, Ok};
 
+use crate::checks::check_eq;
 use crate::devices::TestCall::{Append, ReadBlock, SyncLane, SyncLog, WriteBlock};
 use crate::devices::{ByteLog, Failing, Journal, PageLane};
 use crate::rewriting::rewrite_then_checkpoint;
@@ -61,15 +62,15 @@ fn a_rewrite_writes_what_its_ring_gives_up(rt: HostRuntime) -> Result<(), Fail> 
     let (lane, log) = devices(rt.alloc())?;
     let run = rewrite_then_checkpoint(&rt, rt.alloc(), lane, log, &OpenGate, &mut NoBeside)?;
     let totals = run.end.ok().ok_or("the rewrite ended early")?;
-    assert_eq!(rt; (totals.blocks, totals.changed, totals.dead), (4, 4, 8));
-    assert_eq!(rt;
+    check_eq!(rt; (totals.blocks, totals.changed, totals.dead), (4, 4, 8));
+    check_eq!(rt;
         run.checkpoint,
         Ok(Checkpoint {
             upto: 0x16B_B7C0,
             written: 2
         })
     );
-    assert_eq!(rt;
+    check_eq!(rt;
         run.calls.as_slice(),
         [
             ReadBlock(0),
@@ -168,6 +169,6 @@ fn the_last_pass_works_beside_the_others(rt: HostRuntime) -> Result<(), Fail> {
         meeting.beside.load(Ordering::SeqCst),
         meeting.alone.load(Ordering::SeqCst),
     ];
-    assert_eq!(rt; (totals.changed, met), (4, [4, 1, 0]));
+    check_eq!(rt; (totals.changed, met), (4, [4, 1, 0]));
     Ok(())
 }

@@ -1,6 +1,7 @@
 //! Rounds and checkpoints that are run.
 use crate::acts::{Act, Answer, play};
 use crate::bench::BLOCKS;
+use crate::checks::check_eq;
 use crate::devices::TestCall::{Append, ReadBlock, SyncLane, SyncLog, WriteBlock};
 use crate::devices::{ByteLog, Failing, Journal, PageLane};
 use crate::sharing::{TestJob, Use, run_beside};
@@ -80,7 +81,7 @@ fn a_round_leaves_a_used_page_to_a_checkpoint(rt: HostRuntime) -> Result<(), Fai
     let acts = [Act::Put(0), Act::Round, Act::Checkpoint, Act::Checkpoint];
     let (lanes, log) = devices(rt.alloc(), 1, Failing::None, Failing::None)?;
     let run = play(&rt, rt.alloc(), 16, lanes, log, &acts)?;
-    assert_eq!(rt;
+    check_eq!(rt;
         run.answers.as_slice(),
         [
             put(8224),
@@ -90,7 +91,7 @@ fn a_round_leaves_a_used_page_to_a_checkpoint(rt: HostRuntime) -> Result<(), Fai
         ]
         .as_slice()
     );
-    assert_eq!(rt;
+    check_eq!(rt;
         run.calls.as_slice(),
         [
             ReadBlock(0),
@@ -116,8 +117,8 @@ fn a_checkpoint_writes_pages_in_the_order_of_their_tags(rt: HostRuntime) -> Resu
     ];
     let (lanes, log) = devices(rt.alloc(), 1, Failing::None, Failing::None)?;
     let run = play(&rt, rt.alloc(), 16, lanes, log, &acts)?;
-    assert_eq!(rt; run.answers.last(), Some(&checkpoint(32896, 4)));
-    assert_eq!(rt;
+    check_eq!(rt; run.answers.last(), Some(&checkpoint(32896, 4)));
+    check_eq!(rt;
         run.calls.get(8..),
         Some([
             SyncLog,
@@ -138,7 +139,7 @@ fn a_write_that_failed_is_made_by_the_next_checkpoint(rt: HostRuntime) -> Result
     acts.extend_from_slice(&[Act::Checkpoint, Act::Checkpoint])?;
     let (lanes, log) = devices(rt.alloc(), 1, Failing::Write(2), Failing::None)?;
     let run = play(&rt, rt.alloc(), 16, lanes, log, &acts)?;
-    assert_eq!(rt;
+    check_eq!(rt;
         run.answers.get(3..),
         Some([
             refused(CheckpointError::WriteFault { tag: block(1) }),
@@ -146,7 +147,7 @@ fn a_write_that_failed_is_made_by_the_next_checkpoint(rt: HostRuntime) -> Result
         ]
         .as_slice())
     );
-    assert_eq!(rt;
+    check_eq!(rt;
         run.met,
         Met {
             reads: 0,
@@ -154,7 +155,7 @@ fn a_write_that_failed_is_made_by_the_next_checkpoint(rt: HostRuntime) -> Result
             logs: 0
         }
     );
-    assert_eq!(rt;
+    check_eq!(rt;
         run.calls.get(6..),
         Some([
             SyncLog,
@@ -168,7 +169,7 @@ fn a_write_that_failed_is_made_by_the_next_checkpoint(rt: HostRuntime) -> Result
     );
     let lane = run.lanes.first().ok_or("no lane")?;
     for (page, end) in lane.pages.iter().zip([8224, 16448, 24672]) {
-        assert_eq!(rt; page.lsn(), end);
+        check_eq!(rt; page.lsn(), end);
     }
     Ok(())
 }
@@ -178,7 +179,7 @@ fn a_lane_that_is_not_synced_is_named(rt: HostRuntime) -> Result<(), Fail> {
     let acts = [Act::Put(0), Act::Checkpoint, Act::Checkpoint];
     let (lanes, log) = devices(rt.alloc(), 2, Failing::Sync(1), Failing::None)?;
     let run = play(&rt, rt.alloc(), 16, lanes, log, &acts)?;
-    assert_eq!(rt;
+    check_eq!(rt;
         run.answers.get(1..),
         Some([
             refused(CheckpointError::SyncFault { lane: 1 }),
@@ -186,7 +187,7 @@ fn a_lane_that_is_not_synced_is_named(rt: HostRuntime) -> Result<(), Fail> {
         ]
         .as_slice())
     );
-    assert_eq!(rt;
+    check_eq!(rt;
         run.met,
         Met {
             reads: 0,
@@ -194,7 +195,7 @@ fn a_lane_that_is_not_synced_is_named(rt: HostRuntime) -> Result<(), Fail> {
             logs: 0
         }
     );
-    assert_eq!(rt;
+    check_eq!(rt;
         run.calls.get(2..),
         Some([
             SyncLog,
@@ -214,7 +215,7 @@ fn a_log_that_failed_stops_each_checkpoint(rt: HostRuntime) -> Result<(), Fail> 
     let acts = [Act::Put(0), Act::Checkpoint, Act::Checkpoint];
     let (lanes, log) = devices(rt.alloc(), 1, Failing::None, Failing::Sync(1))?;
     let run = play(&rt, rt.alloc(), 16, lanes, log, &acts)?;
-    assert_eq!(rt;
+    check_eq!(rt;
         run.answers.get(1..),
         Some([
             refused(CheckpointError::LogFault),
@@ -222,7 +223,7 @@ fn a_log_that_failed_stops_each_checkpoint(rt: HostRuntime) -> Result<(), Fail> 
         ]
         .as_slice())
     );
-    assert_eq!(rt;
+    check_eq!(rt;
         run.met,
         Met {
             reads: 0,
@@ -230,7 +231,7 @@ fn a_log_that_failed_stops_each_checkpoint(rt: HostRuntime) -> Result<(), Fail> 
             logs: 1
         }
     );
-    assert_eq!(rt; run.calls.get(2..), Some([SyncLog].as_slice()));
+    check_eq!(rt; run.calls.get(2..), Some([SyncLog].as_slice()));
     Ok(())
 }
 
@@ -259,7 +260,7 @@ fn a_round_starts_at_the_hand(rt: HostRuntime) -> Result<(), Fail> {
         run.answers.get(21),
         run.answers.get(25),
     ];
-    assert_eq!(rt;
+    check_eq!(rt;
         rounds,
         [
             Some(&round(16, 12)),
@@ -267,7 +268,7 @@ fn a_round_starts_at_the_hand(rt: HostRuntime) -> Result<(), Fail> {
             Some(&round(16, 1))
         ]
     );
-    assert_eq!(rt;
+    check_eq!(rt;
         run.calls.get(32..),
         Some([
             SyncLog,
@@ -303,7 +304,7 @@ fn a_round_writes_100_pages(rt: HostRuntime) -> Result<(), Fail> {
     acts.extend_from_slice(&[Act::Read(128), Act::Round, Act::Round, Act::Round])?;
     let (lanes, log) = devices(rt.alloc(), 1, Failing::None, Failing::None)?;
     let run = play(&rt, rt.alloc(), 128, lanes, log, &acts)?;
-    assert_eq!(rt;
+    check_eq!(rt;
         run.answers.get(129..),
         Some([round(100, 100), round(128, 27), round(128, 0)].as_slice())
     );
@@ -316,7 +317,7 @@ fn a_round_ends_with_a_write_that_failed(rt: HostRuntime) -> Result<(), Fail> {
     acts.extend_from_slice(&[Act::Read(16), Act::Round, Act::Round])?;
     let (lanes, log) = devices(rt.alloc(), 1, Failing::Write(3), Failing::None)?;
     let run = play(&rt, rt.alloc(), 16, lanes, log, &acts)?;
-    assert_eq!(rt;
+    check_eq!(rt;
         run.answers.get(17..),
         Some([
             Answer::Round(Some(Err(FlushError::WriteFault { tag: block(2) }))),
@@ -367,12 +368,12 @@ fn a_checkpoint_stores_what_was_put_before_it(rt: HostRuntime) -> Result<(), Fai
     let (lanes, log) = devices(rt.alloc(), 1, Failing::None, Failing::None)?;
     let both = (Use::Put, Use::Put);
     let mut run = run_beside(&rt, rt.alloc(), lanes, log, both, TestJob::Checkpoints)?;
-    assert_eq!(rt; run.beside.used, (Some(200), Some(200)));
+    check_eq!(rt; run.beside.used, (Some(200), Some(200)));
     let upto = run.beside.upto.ok_or("a checkpoint was refused")?;
     let lane = run.lanes.first_mut().ok_or("no lane")?;
-    assert_eq!(rt; run.log.bytes.len(), 400 * RECORD_SIZE as usize);
-    assert_eq!(rt; unstored(&run.log.bytes, lane, upto), 0);
-    assert_eq!(rt; wrong(lane), 0);
+    check_eq!(rt; run.log.bytes.len(), 400 * RECORD_SIZE as usize);
+    check_eq!(rt; unstored(&run.log.bytes, lane, upto), 0);
+    check_eq!(rt; wrong(lane), 0);
     Ok(())
 }
 
@@ -381,9 +382,9 @@ fn rounds_are_made_beside_puts_and_reads(rt: HostRuntime) -> Result<(), Fail> {
     let (lanes, log) = devices(rt.alloc(), 1, Failing::None, Failing::None)?;
     let each = (Use::Put, Use::Copy);
     let mut run = run_beside(&rt, rt.alloc(), lanes, log, each, TestJob::Rounds)?;
-    assert_eq!(rt; run.beside.used, (Some(200), Some(200)));
-    assert_eq!(rt; run.beside.upto, Some(0));
+    check_eq!(rt; run.beside.used, (Some(200), Some(200)));
+    check_eq!(rt; run.beside.upto, Some(0));
     let lane = run.lanes.first_mut().ok_or("no lane")?;
-    assert_eq!(rt; wrong(lane), 0);
+    check_eq!(rt; wrong(lane), 0);
     Ok(())
 }
