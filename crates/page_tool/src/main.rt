@@ -4,6 +4,8 @@
 #![tactic(auto)]
 
 #[cfg(test)]
+mod checks;
+#[cfg(test)]
 mod recover_fault_tests;
 #[cfg(test)]
 mod rewrite_fault_tests;

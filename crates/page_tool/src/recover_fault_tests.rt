@@ -1,4 +1,5 @@
 //! Recoveries in which a call of a device fails, and recoveries of what is left of a relation.
+use crate::checks::{check, check_eq};
 use crate::test_hosts::{Call, NONE_FAIL, answer_of, error_line, failing_of, roomy, stored};
 use crate::test_pages::{dead_items_page, one_page_log, rewritten_page};
 use std::alloc::Global;
@@ -82,7 +83,7 @@ pub(crate) fn check_recovery<R: Abort + Threads + Wait + Sync>(
         answer.has_pages(left.len() / 8192, redone, None),
         answer.has_log(log),
     );
-    assert_eq!(rt; ends, (true, true), "{redone}");
+    check_eq!(rt; ends, (true, true), "{redone}");
     Ok(())
 }
 
@@ -103,7 +104,7 @@ fn check_fault<R: Abort + Threads + Wait + Sync>(
         answer.has_pages(1, redone, torn),
         answer.has_log(Some(&log)),
     );
-    assert_eq!(rt; ends, (true, true), "{call:?} {number}");
+    check_eq!(rt; ends, (true, true), "{call:?} {number}");
     check_recovery(rt, alloc, answer.relation_bytes(), Some(&log))
 }
 
@@ -142,7 +143,7 @@ fn a_relation_grows_into_its_room(rt: HostRuntime) -> Result<(), Fail> {
         NONE_FAIL,
     )?;
     answer.check(&rt, 0, REDONE[1], "");
-    assert!(rt; answer.has_segments(&[&first, &longer, &third]));
+    check!(rt; answer.has_segments(&[&first, &longer, &third]));
 
     let answer = answer_of(
         &rt,
@@ -152,6 +153,6 @@ fn a_relation_grows_into_its_room(rt: HostRuntime) -> Result<(), Fail> {
         NONE_FAIL,
     )?;
     answer.check(&rt, 5, "", error_line(5));
-    assert!(rt; answer.has_segments(&[&first, &page]));
+    check!(rt; answer.has_segments(&[&first, &page]));
     Ok(())
 }

@@ -1,4 +1,5 @@
 //! Rewrites in which a call of a device fails, and recoveries after them.
+use crate::checks::check_eq;
 use crate::recover_fault_tests::check_recovery;
 use crate::test_hosts::{Answer, Call, Failing, answer_of, error_line, failing_of, stored};
 use crate::test_pages::{dead_items_page, rewrite_log};
@@ -83,7 +84,7 @@ fn rewrite_over<R: Threads + Wait + Sync>(
     pages: &[u8],
     log: Option<&[u8]>,
     failing: Failing,
-) -> Result<Answer, Fail> {
+) -> Result<Box<Answer>, Fail> {
     answer_of(rt, alloc, LINE, stored(&[pages], log), failing)
 }
 
@@ -110,7 +111,7 @@ fn check_fault<R: Abort + Threads + Wait + Sync>(
         answer.has_log(log),
         answer.write_faults > 0,
     );
-    assert_eq!(rt; left, (true, true, status == 5), "{call:?} {number}");
+    check_eq!(rt; left, (true, true, status == 5), "{call:?} {number}");
     let recovered = if length.is_some() { log } else { None };
     check_recovery(rt, alloc, answer.relation_bytes(), recovered)
 }

@@ -1,5 +1,6 @@
 //! Runs of the tests on hosts in memory.
 use crate::OpenGate;
+use crate::checks::check_eq;
 use crate::run::run;
 use crate::test_pages::{dead_items_page, rewritten_page};
 use log_device::{Failed, FaultPlan, LogPlan, MemSink, Sink};
@@ -176,13 +177,18 @@ fn logs_of(alloc: Global, before: Before, failing: Failing) -> Result<MemLogs, F
     Ok(logs)
 }
 
-/// A host that has this.
-pub(crate) fn host_of(alloc: Global, before: Before, failing: Failing) -> Result<MemHost, Fail> {
+/// A host that has this. It is boxed: to drop a box takes the prover a twentieth of the time.
+pub(crate) fn host_of(
+    alloc: Global,
+    before: Before,
+    failing: Failing,
+) -> Result<Box<MemHost>, Fail> {
     let openings = plan(alloc, failing.openings)?;
     let lanes = lane_plan(alloc, failing)?;
     let logs = logs_of(alloc, before, failing)?;
     let files = files_of(alloc, before)?;
-    Ok(MemHost::new(alloc, files, openings, lanes, logs))
+    let host = MemHost::new(alloc, files, openings, lanes, logs);
+    Ok(Box::new(alloc, host)?)
 }
 
 /// Whether a block has its page with dead line pointers; of the first blocks, so many, whether it has the
@@ -223,8 +229,7 @@ impl Sink for CountingSink<'_> {
     ghost faults_fit = { λ _. search rules };
 }
 
-/// The status of a run, what it wrote, and what it left. It owns no host: each exit of a function that
-/// owns one has to be proved to drop it, which takes the prover half a minute.
+/// The status of a run, what it wrote, and what it left.
 #[derive(Drop)]
 pub(crate) struct Answer {
     pub status: u8,
@@ -240,9 +245,9 @@ pub(crate) struct Answer {
 impl Answer {
     /// Fails the test unless the run ended with this status, and wrote these texts.
     pub(crate) fn check<R: Abort>(&self, rt: &R, status: u8, out: &str, err: &str) {
-        assert_eq!(rt; self.err.as_slice(), err.as_bytes(), "on the error stream");
-        assert_eq!(rt; self.status, status, "{err}");
-        assert_eq!(rt; self.out.as_slice(), out.as_bytes(), "{out}");
+        check_eq!(rt; self.err.as_slice(), err.as_bytes(), "on the error stream");
+        check_eq!(rt; self.status, status, "{err}");
+        check_eq!(rt; self.out.as_slice(), out.as_bytes(), "{out}");
     }
 
     /// Whether the relation has these segments.
@@ -320,15 +325,16 @@ fn answer_by(
     out: &MemSink,
     err: &MemSink,
     host: &MemHost,
-) -> Result<Answer, Fail> {
-    Ok(Answer {
+) -> Result<Box<Answer>, Fail> {
+    let answer = Answer {
         status,
         out: out.bytes().to_vec(alloc)?,
         err: err.bytes().to_vec(alloc)?,
         relation: relation_left(alloc, host)?,
         log: log_left(alloc, host)?,
         write_faults: host.write_faults(),
-    })
+    };
+    Ok(Box::new(alloc, answer)?)
 }
 
 /// Runs a command line, whose words stand apart by blanks, on a host that has this and where these calls
@@ -340,12 +346,12 @@ pub(crate) fn answer_at<R: Threads + Wait + Sync, G: Gate + Sync>(
     before: Before,
     failing: Failing,
     gate: &G,
-) -> Result<Answer, Fail> {
+) -> Result<Box<Answer>, Fail> {
     let words = words_of(alloc, line)?;
     let mut out = MemSink::new(alloc, 1 << 20, plan(alloc, failing.puts)?)?;
     let mut err = MemSink::new(alloc, 1 << 16, plan(alloc, &[])?)?;
     let mut host = host_of(alloc, before, failing)?;
-    let status = run(rt, alloc, &words, &mut host, &mut out, &mut err, gate);
+    let status = run(rt, alloc, &words, &mut *host, &mut out, &mut err, gate);
     answer_by(alloc, status, &out, &err, &host)
 }
 
@@ -356,6 +362,6 @@ pub(crate) fn answer_of<R: Threads + Wait + Sync>(
     line: &str,
     before: Before,
     failing: Failing,
-) -> Result<Answer, Fail> {
+) -> Result<Box<Answer>, Fail> {
     answer_at(rt, alloc, line, before, failing, &OpenGate)
 }

@@ -1,4 +1,5 @@
 //! Commands by several workers, and scans in which a call of a device fails.
+use crate::checks::check_eq;
 use crate::run::run;
 use crate::test_hosts::{
     Answer, Call, CountingSink, Failing, NONE_FAIL, answer_at, answer_of, error_line, failing_of,
@@ -157,7 +158,7 @@ fn answer_over<R: Threads + Wait + Sync>(
     command: &str,
     bytes: &[u8],
     gate: &HoldingGate,
-) -> Result<Answer, Fail> {
+) -> Result<Box<Answer>, Fail> {
     answer_at(rt, alloc, command, pages(&[bytes]), NONE_FAIL, gate)
 }
 
@@ -177,9 +178,9 @@ fn check_held<R: Abort + Threads + Wait + Sync>(
     let line = format!(in alloc; "{command} --backends {backends}")?;
     let answer = answer_over(rt, alloc, line.as_str(), bytes, &gate)?;
     let pinned = (free.pinned_once(), gate.pinned_once());
-    assert_eq!(rt; pinned, (true, true), "{line}");
-    assert_eq!(rt; (alone.status, answer.status), (0, 0), "{line}");
-    assert_eq!(rt; answer.out.as_slice(), alone.out.as_slice(), "{line}");
+    check_eq!(rt; pinned, (true, true), "{line}");
+    check_eq!(rt; (alone.status, answer.status), (0, 0), "{line}");
+    check_eq!(rt; answer.out.as_slice(), alone.out.as_slice(), "{line}");
     Ok(())
 }
 
@@ -218,7 +219,7 @@ fn a_sample_pins_its_blocks(rt: HostRuntime) -> Result<(), Fail> {
         let gate = HoldingGate::new(Holds::Nobody);
         let line = format!(in alloc; "sample 7 4 --backends {backends}")?;
         let answer = answer_at(&rt, alloc, line.as_str(), pages(&[]), NONE_FAIL, &gate)?;
-        assert_eq!(rt; (answer.status, gate.seen()), (0, (false, 9, 33)), "{line}");
+        check_eq!(rt; (answer.status, gate.seen()), (0, (false, 9, 33)), "{line}");
     }
     Ok(())
 }
@@ -266,7 +267,7 @@ fn the_log_is_down_for_the_others(rt: HostRuntime) -> Result<(), Fail> {
     };
     let came = gate.came.load(Ordering::SeqCst);
     let left = (came, answer.has_pages(65, 0, None), log_length);
-    assert_eq!(rt; left, (true, true, 4128));
+    check_eq!(rt; left, (true, true, 4128));
     Ok(())
 }
 
@@ -291,7 +292,7 @@ fn one_worker_meets_a_fault(rt: HostRuntime) -> Result<(), Fail> {
         let line = format!(in alloc; "scan base/5/16384 --lanes 1 --backends {backends}")?;
         let answer = answer_of(&rt, alloc, line.as_str(), pages(&[&bytes]), failing)?;
         let begins = text.as_bytes().starts_with(&answer.out);
-        assert_eq!(rt;
+        check_eq!(rt;
             (answer.status, begins, answer.err.as_slice()),
             (4, true, READ_FAULT.as_bytes())
         );
@@ -335,11 +336,11 @@ fn output_begins_at_once(rt: HostRuntime) -> Result<(), Fail> {
     };
     let words = words_of(alloc, "scan base/5/16384 --backends 1")?;
     let mut host = host_of(alloc, pages(&[&bytes]), NONE_FAIL)?;
-    let status = run(&rt, alloc, &words, &mut host, &mut out, &mut err, &gate);
+    let status = run(&rt, alloc, &words, &mut *host, &mut out, &mut err, &gate);
     let before_8 = gate.before_8.load(Ordering::SeqCst);
     let before_16 = gate.before_16.load(Ordering::SeqCst);
     let all = puts.load(Ordering::SeqCst);
-    assert_eq!(rt; (status, before_8, before_16, all), (0, 1, 2, 10));
+    check_eq!(rt; (status, before_8, before_16, all), (0, 1, 2, 10));
     Ok(())
 }
 
@@ -386,7 +387,7 @@ fn a_full_window_holds_workers_up(rt: HostRuntime) -> Result<(), Fail> {
     answer.check(&rt, 0, text.as_str(), "");
     let came = gate.came.load(Ordering::SeqCst);
     let went_on = gate.went_on.load(Ordering::SeqCst);
-    assert_eq!(rt; (came, went_on), (true, false));
+    check_eq!(rt; (came, went_on), (true, false));
     Ok(())
 }
 
@@ -417,7 +418,7 @@ fn later_pieces_may_fail(rt: HostRuntime) -> Result<(), Fail> {
         let cut = answer_of(&rt, alloc, line.as_str(), pages(&[&bytes]), failing)?;
         let (text, piece) = (whole.out.as_slice(), cut.out.as_slice());
         let is_cut = piece.len() > 32768 && piece.len() < text.len() && text.starts_with(piece);
-        assert_eq!(rt; (whole.status, cut.status, is_cut), (0, 7, true), "{line}");
+        check_eq!(rt; (whole.status, cut.status, is_cut), (0, 7, true), "{line}");
     }
     Ok(())
 }
