@@ -1,0 +1,52 @@
+"""Pieces of Markdown."""
+import os
+import re
+
+REFERENCE = 'docs/reference'
+NOTE = '<!-- Written by tools/pages from the comments in crates/: change those, and run it again. -->'
+
+
+def link(text, path, folder=REFERENCE):
+    """A link to a file of the repository from a page in a folder."""
+    return f'[{text}]({os.path.relpath(path, folder)})'
+
+
+def anchor(heading):
+    """The anchor that GitHub gives a heading."""
+    text = re.sub(r'\]\([^)]*\)', '', heading)
+    return re.sub(r'[^\w\- ]', '', text).strip().lower().replace(' ', '-')
+
+
+def to_heading(text, heading):
+    """A link to a heading of the same page."""
+    return f'[{text}](#{anchor(heading)})'
+
+
+def table(heads, rows):
+    """A table, as lines."""
+    return ['| ' + ' | '.join(str(y) for y in x) + ' |' for x in [heads, ['---'] * len(heads), *rows]] + ['']
+
+
+def code(text):
+    """A block of code, as lines."""
+    return ['```rust', *text.split('\n'), '```', '']
+
+
+def cell(text):
+    """A comment on one line, as a cell of a table."""
+    return ' '.join(text.split()).replace('|', '\\|')
+
+
+def first_sentence(comment):
+    """The first sentence of a comment, as a cell of a table."""
+    return re.split(r'(?<=[\w)`])[.:] ', cell(comment) + ' ')[0].strip().rstrip('.:')
+
+
+def capital(text):
+    """The text with a capital letter at its beginning."""
+    return text[:1].upper() + text[1:]
+
+
+def page_text(lines):
+    """The text of a page, with one blank line between blocks."""
+    return re.sub(r'\n{3,}', '\n\n', '\n'.join([NOTE, '', *lines])).rstrip() + '\n'
