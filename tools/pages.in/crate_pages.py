@@ -2,7 +2,7 @@
 import os
 
 from citations import Citations, in_reading_order
-from markdown import capital, code, link, page_text
+from markdown import capital, code, page_text, to_file
 from sources import COMMENT, plain, read, unique
 
 
@@ -16,12 +16,12 @@ def crate_page(crate, cites, folder):
     """A crate's page: what its root says, its types and functions that other crates may name, its definitions."""
     types = [x for x in crate.items if x.kind in ('struct', 'enum', 'trait') and x.public and x.name in crate.exported]
     calls = [x for x in crate.items if x.kind == 'fn' and x.public and (x.owner or x.name) in crate.exported]
-    lines = [f'# {crate.name}', '', crate.comment, '', link('Source', crate.root, folder), '']
+    lines = [f'# {crate.name}', '', crate.comment, '', to_file('Source', crate.root, folder), '']
     for title, items, lines_of in (('Types', types, type_lines), ('Functions', calls, call_lines)):
         lines += [f'## {title}', ''] if items else []
         for item in items:
             name = item.title() if item.kind == 'fn' else f'{item.kind} {item.name}'
-            lines += [f'### {name}', '', item.comment, '', link('Source', item.path, folder), '', *lines_of(item, cites)]
+            lines += [f'### {name}', '', item.comment, '', to_file('Source', item.path, folder), '', *lines_of(item, cites)]
     return lines + definition_lines(crate, folder)
 
 
@@ -53,7 +53,7 @@ def definition_lines(crate, folder):
     lines = ['## Definitions', ''] if crate.specs else []
     for path in unique(x.path for x in crate.specs):
         comment = plain(x for x in read(path).split('\n\n')[0].split('\n') if COMMENT.match(x))
-        lines += [f'### {os.path.basename(path)}', '', f'{comment} {link("Source", path, folder)}', '']
+        lines += [f'### {os.path.basename(path)}', '', f'{comment} {to_file("Source", path, folder)}', '']
         lines += [f'- `{x.name}`: ' + (capital(x.comment) or f'`{x.text.splitlines()[0]}`') for x in crate.specs if x.path == path]
         lines.append('')
     return lines

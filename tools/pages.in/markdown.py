@@ -6,9 +6,9 @@ REFERENCE = 'docs/reference'
 NOTE = '<!-- Written by tools/pages from the comments in crates/: change those, and run it again. -->'
 
 
-def link(text, path, folder=REFERENCE):
-    """A link to a file of the repository from a page in a folder."""
-    return f'[{text}]({os.path.relpath(path, folder)})'
+def page_text(lines):
+    """The text of a page, with one blank line between its parts."""
+    return re.sub(r'\n{3,}', '\n\n', '\n'.join([NOTE, '', *lines])).rstrip() + '\n'
 
 
 def anchor(heading):
@@ -22,9 +22,14 @@ def to_heading(text, heading):
     return f'[{text}](#{anchor(heading)})'
 
 
+def to_file(text, path, folder=REFERENCE):
+    """A link to a file of the repository from a page in a folder."""
+    return f'[{text}]({os.path.relpath(path, folder)})'
+
+
 def table(heads, rows):
     """A table, as lines."""
-    return ['| ' + ' | '.join(str(y) for y in x) + ' |' for x in [heads, ['---'] * len(heads), *rows]] + ['']
+    return ['| ' + ' | '.join(str(cell) for cell in row) + ' |' for row in [heads, ['---'] * len(heads), *rows]] + ['']
 
 
 def code(text):
@@ -32,21 +37,12 @@ def code(text):
     return ['```rust', *text.split('\n'), '```', '']
 
 
-def cell(text):
-    """A comment on one line, as a cell of a table."""
-    return ' '.join(text.split()).replace('|', '\\|')
-
-
 def first_sentence(comment):
     """The first sentence of a comment, as a cell of a table."""
-    return re.split(r'(?<=[\w)`])[.:] ', cell(comment) + ' ')[0].strip().rstrip('.:')
+    text = ' '.join(comment.split()).replace('|', '\\|')
+    return re.split(r'(?<=[\w)`])\. ', text)[0].rstrip('.:')
 
 
 def capital(text):
     """The text with a capital letter at its beginning."""
     return text[:1].upper() + text[1:]
-
-
-def page_text(lines):
-    """The text of a page, with one blank line between blocks."""
-    return re.sub(r'\n{3,}', '\n\n', '\n'.join([NOTE, '', *lines])).rstrip() + '\n'

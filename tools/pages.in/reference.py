@@ -6,22 +6,17 @@ import os
 import re
 
 from citations import Citations, in_reading_order
-from markdown import REFERENCE, capital, first_sentence, link, page_text, table, to_heading
+from markdown import REFERENCE, capital, first_sentence, page_text, table, to_file, to_heading
 from sources import COMMENT, files_in, plain, read, unique
 
 # The functions whose contracts say what the whole does: crate, function.
 CALLS = [('page_tool', 'run'), ('log_recovery', 'recover'), ('history_core', 'all_histories'),
          ('backend_pass', 'Manager::close'), ('backend_pass', 'Pass::read_buffer'), ('backend_pass', 'Pass::put')]
-# The crate with the whole protocol: its specs say what a state is, which steps there are, and the law.
+# The crate whose specs say what a state is (State), which steps there are (Run, IsReached), and the law (Laws).
 PROTOCOL = 'history_core'
 
-# A line with more links than this has none: the sections that follow are those that it would lead to.
-MOST_LINKS = 6
-
-# Backquoted words in comments that are in no code, and aren't PostgreSQL's.
-NOT_POSTGRESQL = ['bench', 'PGBUFLOG']
-# What stands first at a name of PostgreSQL: functions, then files by their first comments.
-KIND_ORDER = {'fn': 0, 'file': 1}
+MOST_LINKS = 6          # on a line; one with more has none, since the sections that follow are those that it cites
+NOT_POSTGRESQL = ['bench', 'PGBUFLOG']      # backquoted words in comments, in no code, and not PostgreSQL's
 
 NOTATION = [
     ('`self.old`, `self.new`', 'what `self` was before the call, and is after it; so with each `&mut` parameter'),
@@ -44,12 +39,12 @@ NOTATION = [
 def reference_pages(crates):
     """The text of each page of docs/reference, by its path."""
     cites = Citations(crates)
-    protocol = Protocol(crates, cites)
+    sections = protocol_sections(crates, cites)
     pages = {
         'README.md': index_page(crates),
-        'LAWS.md': laws_page(protocol),
-        'THEOREMS.md': theorems_page(protocol),
-        'STEPS.md': steps_page(protocol),
+        'LAWS.md': laws_page(sections, cites),
+        'THEOREMS.md': theorems_page(crates, sections, cites),
+        'STEPS.md': steps_page(sections, cites),
         'TRUSTED_DEFINITIONS.md': trusted_definitions_page(crates, cites),
         'C_NAMES.md': c_names_page(crates),
         'SIZES.md': sizes_page(crates),
@@ -57,28 +52,28 @@ def reference_pages(crates):
     return {f'{REFERENCE}/{name}': page_text(lines) for name, lines in pages.items()}
 
 
+def named(items, crate, title):
+    """The item of this title among those of a crate."""
+    for item in items:
+        if item.title() == title and item.kind != 'impl':
+            return item
+    raise SystemExit(f'{crate} has no {title} any more: change the name in tools/pages.in/reference.py, and run tools/pages')
+
+
 # ---- LAWS.md, THEOREMS.md, STEPS.md ----
 
-class Protocol:
-    """The records and data that the protocol's law, steps and theorems rest on. Each stands on one page: in the first
-    of `state`, `steps`, `laws` and `theorems` that rests on it."""
-
-    def __init__(self, crates, cites):
-        self.cites = cites
-        self.shown = set()
-        named = {x.name: x for x in crates[PROTOCOL].specs}
-        self.state = self.section([named['State']])
-        self.steps = self.section([named['Run'], named['IsReached']])
-        self.laws = self.section([named['Laws']])
-        order = [crates[PROTOCOL], *(x for x in crates.values() if x.name != PROTOCOL)]
-        self.theorems = {x.name: self.section(y for y in x.items if is_theorem(y)) for x in order}
-
-    def section(self, roots):
-        """The items that the roots rest on, and that no section has yet."""
-        found = [x for x in self.cites.closure(list(roots)) if x.kind in ('record', 'data') or is_theorem(x)]
-        found = [x for x in found if x not in self.shown]
-        self.shown.update(found)
-        return found
+def protocol_sections(crates, cites):
+    """The records, data and theorems of each section of these pages. Each of them stands in one section: in the first
+    that rests on it, in this order. The sections of theorems have the names of their crates."""
+    state, run, reached, laws = (named(crates[PROTOCOL].specs, PROTOCOL, x) for x in ('State', 'Run', 'IsReached', 'Laws'))
+    roots = {'a state': [state], 'the steps': [run, reached], 'the law': [laws]}
+    for crate in [crates[PROTOCOL], *crates.values()]:
+        roots[crate.name] = [x for x in crate.items if is_theorem(x)]
+    sections, shown = {}, set()
+    for name, items in roots.items():
+        sections[name] = [x for x in cites.closure(items) if has_heading(x) and x not in shown]
+        shown.update(sections[name])
+    return sections
 
 
 def is_theorem(item):
@@ -86,55 +81,64 @@ def is_theorem(item):
     return item.kind == 'fn' and item.public and item.text.endswith('()') and bool(item.parts)
 
 
+def has_heading(item):
+    """Whether it has a heading on these pages."""
+    return item.kind in ('record', 'data') or is_theorem(item)
+
+
 def heading(item):
-    """The heading above a record or a theorem. Several crates may have one of this name."""
+    """The heading above an item: several crates may have one of this name."""
     return f'{item.name} ({item.crate})'
 
 
 def section_lines(items, cites):
-    """The items of a section, each with a line for each of its fields, cases or clauses."""
+    """The items of a section: their comments, and those of their parts."""
     lines = []
     for item in items:
         comment = capital(item.comment).rstrip('.') + '. ' if item.comment else ''
-        lines += [f'### {heading(item)}', '', comment + link('Source', item.path), '']
-        lines += part_lines(item, items, cites) + ['']
+        lines += [f'### {heading(item)}', '', comment + to_file('Source', item.path), '', *part_lines(item, items, cites), '']
     return lines
 
 
 def part_lines(item, items, cites):
-    """A line for each comment in an item. Parts without a comment stand with the one above them, unless they apply a
-    definition that has a comment. A formula is shown if there is no comment at all."""
-    groups = []         # what is said, the parts of which, and whether the next part may join them
+    """A line for each comment in an item. Parts without a comment stand with those above them, unless they apply a
+    definition that has one. If there is no comment at all, the formula stands in its place."""
+    groups = []         # what is said, of which parts, and whether that is their own comment
     for part in item.parts:
         says = part.comment or comment_of_applied(part, item, cites)
-        if part.kind == 'comment' or says or not groups or not groups[-1][2]:
-            groups.append((says or f'`{formula(part)}`', [part], bool(part.comment) and part.kind != 'comment'))
+        if says or not groups or not groups[-1][2]:
+            groups.append((says or f'`{formula(part)}`', [part], bool(part.name and part.comment)))
         else:
             groups[-1][1].append(part)
     return [line for says, parts, _ in groups for line in group_lines(says, parts, item, items, cites)]
 
 
 def group_lines(says, parts, item, items, cites):
-    """The line of a group of parts: what is said of them, their names, and links to the items that say more."""
+    """The line of some parts: what is said of them, their names, and links to what they cite."""
     if parts[0].kind == 'comment':
         return ['', says, '']
     names = ', '.join(f'`{x.name}`' for x in parts if x.name)
-    below = unique(to_heading(x.name, heading(x)) for part in parts for x in items_below(part, item, items, cites))
-    more = '; '.join(x for x in (names, ', '.join(below if len(below) <= MOST_LINKS else [])) if x)
+    links = unique(to_heading(x.name, heading(x)) for part in parts for x in items_below(part, item, items, cites))
+    links = ', '.join(links if len(links) <= MOST_LINKS else [])
+    if parts[0].kind == 'case':
+        return [f'- {names}: {says}' + (f' ({links})' if links else '')]
+    more = '; '.join(x for x in (names, links) if x)
     return [f'- {capital(says)}' + (f' ({more})' if more else '')]
 
 
 def formula(part):
-    """The formula of a field, case or clause."""
+    """The formula of a field, a case or a clause."""
     return ' '.join(re.sub(r'^(ensures|requires) ?\w* \{ | \}$', '', part.text).split())
 
 
 def comment_of_applied(part, item, cites):
-    """The comment of the definition that a field or a clause applies, if it says no more. Of a clause the premises are
-    left out: the comment above it has them."""
-    premise = r'.*' if part.kind == 'ensures' else r'(\([^()]*\) → |\S+ → )*'
-    applies = re.sub(rf'^{premise} → |^{premise}', '', formula(part))
-    if part.kind not in ('field', 'ensures') or re.search('[→×⊎≡≢λ]', applies):
+    """The comment of the definition that a field or a clause applies, if it says no more than that. The premises of a
+    clause are left out: the comment above it names them."""
+    if part.kind not in ('field', 'ensures'):
+        return ''
+    premises = r'.* → ' if part.kind == 'ensures' else r'(\([^()]*\) → |\S+ → )*'
+    applies = re.sub(f'^{premises}', '', formula(part))
+    if re.search('[→×⊎≡≢λ]', applies):
         return ''
     applied = cites.in_text(applies.split(' ')[0], item.scope)
     return applied[0].comment.rstrip('.') if applied and applied[0].name[0].isupper() else ''
@@ -142,48 +146,45 @@ def comment_of_applied(part, item, cites):
 
 def items_below(part, item, items, cites):
     """The items of a section that a part cites, or that definitions without a heading do that it cites."""
-    found, seen, waiting = [], set(), cites.in_text(part.text, item.scope)
+    found, seen, waiting = [], {item}, cites.in_text(part.text, item.scope)
     while waiting:
         cited = waiting.pop(0)
-        if cited in seen or cited is item:
-            continue
-        seen.add(cited)
-        if cited in items:
-            found.append(cited)
-        elif cited.is_definition() and cited.kind not in ('record', 'data'):
-            waiting += cites.cited_by(cited)
+        if cited not in seen and cited.is_definition():
+            seen.add(cited)
+            found += [cited] if cited in items else []
+            waiting += [] if has_heading(cited) else cites.cited_by(cited)
     return found
 
 
-HOW_TO_READ = ('A line is the comment at a field in `specs/`, at a kind of step or at a clause; the formula, if there is '
-               'no comment. In brackets are its names in the source, and links to what says more of it. '
-               '[The notation](README.md#the-notation) is short.')
+HOW_TO_READ = ('Each line is the comment at a field of `specs/`, at a kind of step or at a clause, or its formula if it has '
+               'none. In brackets stand the names in the source, and links to what says more. '
+               '[The notation](README.md#the-notation) of formulas is short.')
 
 
-def laws_page(protocol):
+def laws_page(sections, cites):
     """LAWS.md: what a state is, and what holds in each."""
     return ['# The laws of every state', '',
-            'For readers who ask what holds at every moment, whatever the backends do and in whatever order. ' + HOW_TO_READ, '',
-            '## What a state is', '', *section_lines(protocol.state, protocol.cites),
-            '## What holds in every state', '', *section_lines(protocol.laws, protocol.cites)]
+            f'For readers who ask what holds at every moment, whatever the backends do and in whatever order. {HOW_TO_READ}', '',
+            '## What a state is', '', *section_lines(sections['a state'], cites),
+            '## What holds in every state', '', *section_lines(sections['the law'], cites)]
 
 
-def theorems_page(protocol):
-    """THEOREMS.md: the theorems, by crate."""
+def theorems_page(crates, sections, cites):
+    """THEOREMS.md: the theorems, by crate, the protocol's first."""
     lines = ['# The theorems', '',
-             'For readers who ask what is proved of the protocol, of recovery and of the layouts. A theorem is a public '
-             'function that takes nothing and does nothing, so its contract always holds; below it are the records that '
-             'it speaks of. ' + HOW_TO_READ, '']
-    for crate, items in protocol.theorems.items():
-        lines += [f'## {crate}', '', *section_lines(items, protocol.cites)] if items else []
+             'For readers who ask what is proved of the protocol, of recovery, of pages and of files. A theorem is a public '
+             'function that takes nothing and does nothing: its contract always holds. Below each are the records that it '
+             f'speaks of. {HOW_TO_READ}', '']
+    for name, items in sections.items():
+        lines += [f'## {name}', '', *section_lines(items, cites)] if name in crates and items else []
     return lines
 
 
-def steps_page(protocol):
+def steps_page(sections, cites):
     """STEPS.md: which steps there are, and when each may be taken."""
     return ['# The steps', '',
-            'For readers who ask what a backend may do, and when. ' + HOW_TO_READ, '',
-            '## Which steps there are, and when one may be taken', '', *section_lines(protocol.steps, protocol.cites)]
+            f'For readers who ask what a backend may do, and when. {HOW_TO_READ}', '',
+            '## Which steps there are, and when one may be taken', '', *section_lines(sections['the steps'], cites)]
 
 
 # ---- TRUSTED_DEFINITIONS.md ----
@@ -192,16 +193,16 @@ def trusted_definitions_page(crates, cites):
     """TRUSTED_DEFINITIONS.md: all that the contracts of CALLS rest on."""
     rows, sections = [], []
     for crate, title in CALLS:
-        call = next(x for x in crates[crate].items if x.kind == 'fn' and x.title() == title)
+        call = named(crates[crate].items, crate, title)
         rests_on = cites.closure([call])[1:]
         definitions = [x for x in rests_on if x.is_definition()]
-        types = sorted((x for x in rests_on if not x.is_definition()), key=cites.place.get)
+        types = [x for x in rests_on if not x.is_definition()]
         rows.append([to_heading(f'`{title}`', title), len(definitions), sum(x.lines() for x in definitions),
                      len({x.path for x in definitions}), len(types), sum(x.lines() for x in types)])
-        sections += [f'## {title}', '', f'{first_sentence(call.comment)}. {link("Source", call.path)}', '',
-                     'Its clauses cite, each below the comment of the contract that it follows:', '',
+        sections += [f'## {title}', '', f'{first_sentence(call.comment)}. {to_file("Source", call.path)}', '',
+                     'Its clauses cite, below the comments of the contract:', '',
                      *contract_lines(call, cites), '',
-                     f'In all it rests on {len(definitions)} definitions. In an order to read them in, by file:', '',
+                     f'In all it rests on {len(definitions)} definitions. By file, in an order to read them in:', '',
                      *(definitions_line(path, x) for path, x in in_reading_order(definitions, cites).items()), '',
                      f'And on {len(types)} types and traits: {types_by_crate(types)}.', '']
     heads = ['Call', 'Definitions', 'Lines', 'Files', 'Types and traits', 'Lines']
@@ -215,28 +216,27 @@ def trusted_definitions_page(crates, cites):
 
 def contract_lines(call, cites):
     """The comments in a contract, and what its clauses cite, each definition once."""
-    lines, cited = [], set()
+    lines, seen = [], set()
     for part in call.parts:
-        if part.kind == 'comment':
-            lines += ['', part.comment, '']
+        lines += ['', part.comment, ''] if part.kind == 'comment' else []
         for item in cites.in_text(part.text, call.scope):
-            if item.is_definition() and item not in cited:
-                cited.add(item)
+            if item.is_definition() and item not in seen:
+                seen.add(item)
                 says = capital(item.comment) or f'`{item.text.splitlines()[0]}`'
-                lines.append(f'- {link(f"`{item.name}`", item.path)}: {says}')
+                lines.append(f'- {to_file(f"`{item.name}`", item.path)}: {says}')
     return lines
 
 
 def definitions_line(path, definitions):
     """A line for the definitions of a file."""
     name = f'{definitions[0].crate} {os.path.basename(path)[:-len(".antt")]}'
-    return f'- {link(name, path)}: ' + ', '.join(f'`{x.name}`' for x in definitions)
+    return f'- {to_file(name, path)}: ' + ', '.join(f'`{x.name}`' for x in definitions)
 
 
 def types_by_crate(types):
     """The names of types and traits, by crate."""
     crates = {}
-    for item in types:
+    for item in sorted(types, key=lambda x: x.path):
         crates.setdefault(item.crate, []).append(f'`{item.name}`')
     return '; '.join(f'{", ".join(names)} ({crate})' for crate, names in crates.items())
 
@@ -244,33 +244,33 @@ def types_by_crate(types):
 # ---- C_NAMES.md ----
 
 def c_names_page(crates):
-    """C_NAMES.md: PostgreSQL's names in our comments, and where they stand."""
+    """C_NAMES.md: PostgreSQL's names in our comments, and at what they stand."""
     places = places_of_c_names(crates)
     lines = ['# PostgreSQL\'s names', '',
-             'For readers who know `bufmgr.c`: the names of PostgreSQL that stand in our comments, and what of ours each stands '
-             'at. Functions come first, from the top of the library down, then files, then kinds of step and types.', '']
+             'For readers who know `bufmgr.c`: the names of PostgreSQL that our comments have, and at what of ours. Functions '
+             'come first, from the top of the library down, then files, then kinds of step, types and definitions.', '']
     for title, is_constant in (('Functions, types and fields', False), ('Flags, constants and macros', True)):
-        rows = [[f'`{name}`', places[name][0][1], ', '.join(x for x, _ in places[name][1:])]
+        rows = [[f'`{name}`', to_file(*places[name][0]), ', '.join(text for text, _ in places[name][1:])]
                 for name in sorted(places, key=str.lower) if name.isupper() == is_constant]
         lines += [f'## {title}', '', *table(['PostgreSQL', 'Here', 'Also at'], rows)]
     return lines
 
 
 def places_of_c_names(crates):
-    """Of each name of PostgreSQL the places where it stands, functions first: as text, and with a link."""
-    ours, places = words_of_code(crates), {}
+    """What each name of PostgreSQL stands at, functions first: its name with the crate's, and its file."""
+    ours, places, order = words_of_code(crates), {}, {'fn': 0, 'file': 1}
     for crate in reversed(list(crates.values())):
         for item in crate.items + crate.specs:
             for title, comment in comments_of(item):
                 for name in re.findall(r'`(\w{4,})(?:\(\))?`', comment):
-                    place = (f'`{title}` ({crate.name})', f'{link(f"`{title}`", item.path)} ({crate.name})')
                     if name not in ours:
-                        places.setdefault(name, {}).setdefault(place, KIND_ORDER.get(item.kind, 2))
+                        place = (f'`{title}` ({crate.name})', item.path)
+                        places.setdefault(name, {}).setdefault(place, order.get(item.kind, 2))
     return {name: sorted(found, key=found.get) for name, found in places.items()}
 
 
 def words_of_code(crates):
-    """The words that aren't PostgreSQL's names in a comment: those of our code, and some more."""
+    """The words that aren't PostgreSQL's, if they stand in a comment: those of our code, and a few more."""
     words = {*crates, *NOT_POSTGRESQL}
     for crate in crates.values():
         for path in crate.files + files_in(f'crates/{crate.name}/specs', '.antt'):
@@ -279,7 +279,7 @@ def words_of_code(crates):
 
 
 def comments_of(item):
-    """The comments at an item: with each the title of what it stands at, as Kind.unpin for a case of an enum."""
+    """The comments at an item, each with the title of what it stands at: Kind.unpin, say, for a case of an enum."""
     if item.kind == 'fn':
         return [(item.title(), plain(re.findall(r'//.*', item.source)))]
     return [(item.title(), item.comment), *((f'{item.name}.{x.name}', x.comment) for x in item.parts)]
@@ -289,32 +289,33 @@ def comments_of(item):
 
 def sizes_page(crates):
     """SIZES.md: how large each crate is."""
-    rows = [[link(f'`{x.name}`', x.root), *sizes_of(x)] for x in crates.values()]
+    rows = [[to_file(f'`{x.name}`', x.root), *sizes_of(x)] for x in crates.values()]
     total = ['all', *(sum(x) for x in list(zip(*rows))[1:])]
     heads = ['Crate', 'Code', 'Contracts', 'Tests', 'Specs', 'Proofs', 'Functions', 'Must-fail edits', 'By hand']
     return ['# Sizes', '',
-            'For readers who change a crate, or ask what of it is code and what is proof. From the bottom of the library up. '
-            'The first five columns are lines without blanks and comments: of `src/`, apart those of clauses and ghost members '
-            '(`requires`, `ensures`, `ghost`) and those of files for tests alone; of `specs/`; of `proofs/`. Functions are the '
-            '`fn` of items that are written in `src/`, without those of tests and those that derives and macros write. Edits '
-            'are the files in `must-fail/`, which the gate tries, and in `tests/by_hand/edits/`.', '',
+            'For readers who change a crate, or ask how much of it is code and how much is proof. From the bottom up.', '',
+            '- Code, contracts, tests, specs, proofs: lines without blanks and comments. Contracts are the clauses and ghost '
+            'members in `src/` (`requires`, `ensures`, `ghost`), tests the files that are compiled for tests alone.',
+            '- Functions: each `fn` outside of bodies, macros and tests. The count that a check prints has those besides that '
+            'derives and macros write.',
+            '- Must-fail edits: the files in `must-fail/`, which the gate tries. By hand: those in `tests/by_hand/edits/`.', '',
             *table(heads, [*rows, total])]
 
 
 def sizes_of(crate):
-    """The numbers of a crate, as the head of SIZES.md says them."""
+    """The numbers of a crate, in the order of SIZES.md."""
     sources = [x for path in crate.files if path not in crate.test_files for x in code_lines(path)]
     contracts = contract_line_count(sources)
-    counts = [sum(len(code_lines(x)) for x in paths)
-              for paths in (crate.test_files, *(files_in(f'crates/{crate.name}/{x}', '.antt') for x in ('specs', 'proofs')))]
+    specs, proofs = (files_in(f'crates/{crate.name}/{x}', '.antt') for x in ('specs', 'proofs'))
+    others = [sum(len(code_lines(path)) for path in paths) for paths in (crate.test_files, specs, proofs)]
+    functions = sum(x.kind == 'fn' for x in crate.items)
     edits = [len(files_in(x, '.edit')) for x in (f'crates/{crate.name}/must-fail', f'tests/by_hand/edits/{crate.name}')]
-    return [len(sources) - contracts, contracts, *counts, sum(x.kind == 'fn' for x in crate.items), *edits]
+    return [len(sources) - contracts, contracts, *others, functions, *edits]
 
 
 def code_lines(path):
-    """The lines of a file that aren't blank or comments, without comments at their ends."""
-    lines = [re.sub(r'(//|--) .*', '', x) for x in read(path).split('\n') if not COMMENT.match(x)]
-    return [x for x in lines if x.strip()]
+    """The lines of a file that aren't blank or comments."""
+    return [x for x in read(path).split('\n') if x.strip() and not COMMENT.match(x)]
 
 
 def contract_line_count(lines):
@@ -323,6 +324,7 @@ def contract_line_count(lines):
     for line in lines:
         if depth > 0 or re.match(r' *(requires|ensures|(pub )?ghost)\b', line):
             count += 1
+            line = re.sub(r'//.*', '', line)
             depth += line.count('{') - line.count('}')
     return count
 
@@ -332,18 +334,18 @@ def contract_line_count(lines):
 def index_page(crates):
     """README.md: what each page says and for whom, what each crate is, and how to read a clause."""
     pages = [
-        ('LAWS', 'what a state is, and what holds in each', 'ask why nothing goes wrong between two backends'),
-        ('THEOREMS', 'what follows: of the protocol, of recovery, of the layouts', 'ask what is proved'),
+        ('LAWS', 'what a state is, and what holds in each', 'ask why no two backends go wrong together'),
+        ('THEOREMS', 'what follows: of the protocol, of recovery, of pages and of files', 'ask what is proved'),
         ('STEPS', 'which steps there are, and when one may be taken', 'change the protocol, or compare it with PostgreSQL'),
         ('TRUSTED_DEFINITIONS', 'all that the contracts of six calls rest on', 'check what a contract says'),
         ('C_NAMES', 'PostgreSQL\'s names, and where ours are', 'know `bufmgr.c`'),
-        ('SIZES', 'lines, functions and must-fail edits by crate', 'change a crate'),
+        ('SIZES', 'lines, functions and must-fail edits, by crate', 'change a crate'),
     ]
     return ['# Reference', '',
             'What the comments in `crates/` say, by subject: to look things up, not to read through. `tools/pages` writes these '
-            'pages from the sources, so to change one change the comment there, and run it. `tools/pages --crates out/crates` '
-            'writes besides a page for each crate, with its functions and their contracts.', '',
+            'pages from the sources: to change one, change the comment and run it. `tools/pages --crates out/crates` writes '
+            'another page for each crate, with its functions and their contracts.', '',
             *table(['Page', 'What it says', 'For readers who'], [(f'[{x}]({x}.md)', y, z) for x, y, z in pages]),
-            '## The crates', '', 'From the bottom of the library up.', '',
-            *table(['Crate', 'What it is'], [(link(f'`{x.name}`', x.root), first_sentence(x.comment)) for x in crates.values()]),
+            '## The crates', '', 'From the bottom up.', '',
+            *table(['Crate', 'What it is'], [(to_file(f'`{x.name}`', x.root), first_sentence(x.comment)) for x in crates.values()]),
             '## The notation', '', *table(['In a clause', 'it means'], NOTATION)]

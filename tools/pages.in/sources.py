@@ -68,10 +68,10 @@ class Crate:
 # ---- Files ----
 
 def all_files():
-    """The files of the repository, but for what rt makes (out/)."""
+    """The files of the repository, without what rt makes (out/) and what begins with a dot, but for .ci."""
     found = []
     for folder, folders, names in os.walk(TOP):
-        folders[:] = [x for x in folders if x not in ('.git', 'out')]
+        folders[:] = [x for x in folders if x != 'out' and (x == '.ci' or not x.startswith('.'))]
         found += [os.path.relpath(os.path.join(folder, x), TOP) for x in names]
     return sorted(found)
 
@@ -178,7 +178,7 @@ CLAUSE = re.compile(r' {4}(requires|ensures)\b ?(\w*)')
 
 def pieces(text):
     """The pieces of Rust code between blank lines that have an unindented line below: an item in each."""
-    return [x.strip('\n').split('\n') for x in re.split(r'\n\n+(?=\S)', text)]
+    return [x.strip('\n') for x in re.split(r'\n\n+(?=\S)', text)]
 
 
 def read_source(crate, path):
@@ -192,10 +192,11 @@ def read_source(crate, path):
 def read_pieces(text, crate, path, scope, around=None):
     """The items in the text of a file, or in the body of the impl or trait that is around it."""
     items = []
-    for lines in pieces(text):
+    for piece in pieces(text):
+        lines = piece.split('\n')
         heads = [at for at, line in enumerate(lines) if ITEM.match(line) and not line.startswith('ghost use ')]
         if len(heads) > 1:
-            raise SystemExit(f'{path}: no blank line above: {lines[heads[1]]}\nrt fmt writes it')
+            raise SystemExit(f'{path}: no blank line above `{lines[heads[1]]}`: run rt fmt, and then tools/pages')
         if heads:
             item = read_item(lines, heads[0], crate, path, scope)
             if around and item.kind == 'ghost':
