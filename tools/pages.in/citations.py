@@ -54,19 +54,23 @@ class Citations:
                     break
 
     def cited_by(self, item):
-        """All that an item cites. A contract also cites the types of its signature, a type what contracts read it
-        by, and a trait what its members and functions say. A type's invariant isn't looked at."""
+        """All that an item cites. A contract also cites the types of its signature, a type the impl by which contracts
+        read it, and a trait what its functions do. The invariant of a type isn't looked at: it holds of each value."""
         if item not in self.known:
-            texts = [x.text for x in item.parts if x.name != 'invariant']
-            if item.is_definition():
-                texts = [item.text, item.parameters]
-            found = [x for text in texts for x in self.in_text(text, item.scope)]
-            found += [] if item.is_definition() else self.types_in(item)
-            inner = item.inner if item.kind == 'trait' else [self.models.get((item.crate, item.name))]
-            for part in inner if item.kind in ('struct', 'enum', 'trait') else []:
-                found += self.cited_by(part) if part else []
-            self.known[item] = unique(x for x in found if x is not item)
+            self.known[item] = unique(x for x in self.citations(item) if x is not item)
         return self.known[item]
+
+    def citations(self, item):
+        """What `cited_by` finds, with repetitions."""
+        texts = [item.text, item.parameters] if item.is_definition() else [x.text for x in item.parts if x.name != 'invariant']
+        for text in texts:
+            yield from self.in_text(text, item.scope)
+        if not item.is_definition():
+            yield from self.types_in(item)
+        if (item.crate, item.name) in self.models and item.kind in ('struct', 'enum'):
+            yield self.models[item.crate, item.name]
+        for function in item.inner if item.kind == 'trait' else []:
+            yield from self.cited_by(function)
 
     def closure(self, roots):
         """The roots and all that they rest on: what an item cites comes after it, unless it came before."""

@@ -36,16 +36,7 @@ def type_lines(item, cites):
 
 def call_lines(item, cites):
     """The signature and the contract of a function."""
-    return code(contract_text(item))
-
-
-def contract_text(item):
-    """The signature and the contract of a function, with its comments, as in the source."""
-    lines = [item.text]
-    for part in item.parts:
-        text = f'\n// {part.comment}' if part.kind == 'comment' else part.text
-        lines.append(text.replace('\n', '\n    ') if part.kind == 'comment' else '    ' + text.replace('\n', '\n    '))
-    return '\n'.join(lines)
+    return code(item.contract())
 
 
 def definition_lines(crate, folder):
@@ -70,7 +61,5 @@ def reading(crates, title):
     texts = []
     for path, items in in_reading_order(cites.closure(calls)[1:], cites).items():
         texts.append(f'-- {path}')
-        for item in items:
-            model = cites.models.get((item.crate, item.name)) if item.kind == 'struct' else None
-            texts += [x.source for x in (item, model) if x]
-    return '\n\n'.join([*texts, f'-- {calls[0].path}', contract_text(calls[0])])
+        texts += [x.source for x in items]
+    return '\n\n'.join([*texts, f'-- {calls[0].path}', calls[0].contract()])

@@ -2,12 +2,13 @@
 
 For another page write another function, and name it in `reference_pages`.
 """
+import hashlib
 import os
 import re
 
 from citations import Citations, in_reading_order
 from markdown import REFERENCE, capital, first_sentence, page_text, table, to_file, to_heading
-from sources import COMMENT, files_in, plain, read, unique
+from sources import code_lines, files_in, plain, read, unique
 
 # The functions whose contracts say what the whole does: crate, function.
 CALLS = [('page_tool', 'run'), ('log_recovery', 'recover'), ('history_core', 'all_histories'),
@@ -58,6 +59,16 @@ def named(items, crate, title):
         if item.title() == title and item.kind != 'impl':
             return item
     raise SystemExit(f'{crate} has no {title} any more: change the name in tools/pages.in/reference.py, and run tools/pages')
+
+
+def line_count(items):
+    """How many lines some items have."""
+    return sum(len(code_lines(x.text)) for x in items)
+
+
+def sum_of(texts):
+    """A short number that changes if a text does."""
+    return hashlib.sha256('\n'.join(texts).encode()).hexdigest()[:8]
 
 
 # ---- LAWS.md, THEOREMS.md, STEPS.md ----
@@ -196,22 +207,24 @@ def trusted_definitions_page(crates, cites):
         call = named(crates[crate].items, crate, title)
         rests_on = cites.closure([call])[1:]
         definitions = [x for x in rests_on if x.is_definition()]
-        types = [x for x in rests_on if not x.is_definition()]
-        rows.append([to_heading(f'`{title}`', title), len(definitions), sum(x.lines() for x in definitions),
-                     len({x.path for x in definitions}), len(types), sum(x.lines() for x in types)])
+        types = [x for x in rests_on if x.kind in ('struct', 'enum', 'trait')]
+        rows.append([to_heading(f'`{title}`', title), len(definitions), line_count(definitions),
+                     len({x.path for x in definitions}), len(types), line_count(types),
+                     sum_of([call.contract(), *(line for x in rests_on for line in code_lines(x.source))])])
         sections += [f'## {title}', '', f'{first_sentence(call.comment)}. {to_file("Source", call.path)}', '',
                      'Its clauses cite, below the comments of the contract:', '',
                      *contract_lines(call, cites), '',
                      f'In all it rests on {len(definitions)} definitions. By file, in an order to read them in:', '',
                      *(definitions_line(path, x) for path, x in in_reading_order(definitions, cites).items()), '',
                      f'And on {len(types)} types and traits: {types_by_crate(types)}.', '']
-    heads = ['Call', 'Definitions', 'Lines', 'Files', 'Types and traits', 'Lines']
+    heads = ['Call', 'Definitions', 'Lines', 'Files', 'Types and traits', 'Lines', 'Sum']
     return ['# What to read to believe a contract', '',
             'For readers who check what a contract says, and leave its proof to the prover. For each of these calls: every '
             'definition of `specs/` that its clauses cite, or by which contracts read the types and traits of its signature, '
             'or that one of these cites, and so on. Beside these there are only the kit\'s own definitions: nothing else in '
             '`specs/`, and nothing in `proofs/`, can make the contract say anything else. `tools/pages --read CALL` prints '
-            'them all as one text. Lines are without blanks and comments.', '', *table(heads, rows), *sections]
+            'them all as one text. Lines are without blanks and comments. The sum is of all of it: if it is the one that you '
+            'noted, nothing has changed since you read it, but comments.', '', *table(heads, rows), *sections]
 
 
 def contract_lines(call, cites):
@@ -289,33 +302,36 @@ def comments_of(item):
 
 def sizes_page(crates):
     """SIZES.md: how large each crate is."""
-    rows = [[to_file(f'`{x.name}`', x.root), *sizes_of(x)] for x in crates.values()]
-    total = ['all', *(sum(x) for x in list(zip(*rows))[1:])]
-    heads = ['Crate', 'Code', 'Contracts', 'Tests', 'Specs', 'Proofs', 'Functions', 'Must-fail edits', 'By hand']
+    sizes = {x.name: sizes_of(x) for x in crates.values()}
+    rows = [[to_file(f'`{x.name}`', x.root), *sizes[x.name], sum_of_contracts(x)] for x in crates.values()]
+    rows.append(['all', *(sum(x) for x in zip(*sizes.values())), ''])
+    heads = ['Crate', 'Code', 'Contracts', 'Tests', 'Specs', 'Proofs', 'Functions', 'Must-fail edits', 'By hand', 'Sum']
     return ['# Sizes', '',
             'For readers who change a crate, or ask how much of it is code and how much is proof. From the bottom up.', '',
             '- Code, contracts, tests, specs, proofs: lines without blanks and comments. Contracts are the clauses and ghost '
             'members in `src/` (`requires`, `ensures`, `ghost`), tests the files that are compiled for tests alone.',
             '- Functions: each `fn` outside of bodies, macros and tests. The count that a check prints has those besides that '
             'derives and macros write.',
-            '- Must-fail edits: the files in `must-fail/`, which the gate tries. By hand: those in `tests/by_hand/edits/`.', '',
-            *table(heads, [*rows, total])]
+            '- Must-fail edits: the files in `must-fail/`, which the gate tries. By hand: those in `tests/by_hand/edits/`.',
+            '- Sum: of all contracts and definitions with their comments. A change that leaves it as it was changes none.', '',
+            *table(heads, rows)]
 
 
 def sizes_of(crate):
     """The numbers of a crate, in the order of SIZES.md."""
-    sources = [x for path in crate.files if path not in crate.test_files for x in code_lines(path)]
+    sources = [x for path in crate.files if path not in crate.test_files for x in code_lines(read(path))]
     contracts = contract_line_count(sources)
     specs, proofs = (files_in(f'crates/{crate.name}/{x}', '.antt') for x in ('specs', 'proofs'))
-    others = [sum(len(code_lines(path)) for path in paths) for paths in (crate.test_files, specs, proofs)]
+    others = [sum(len(code_lines(read(path))) for path in paths) for paths in (crate.test_files, specs, proofs)]
     functions = sum(x.kind == 'fn' for x in crate.items)
     edits = [len(files_in(x, '.edit')) for x in (f'crates/{crate.name}/must-fail', f'tests/by_hand/edits/{crate.name}')]
     return [len(sources) - contracts, contracts, *others, functions, *edits]
 
 
-def code_lines(path):
-    """The lines of a file that aren't blank or comments."""
-    return [x for x in read(path).split('\n') if x.strip() and not COMMENT.match(x)]
+def sum_of_contracts(crate):
+    """The sum of a crate's contracts and definitions."""
+    contracts = [x.comment + x.contract() for x in crate.items if x.kind == 'fn']
+    return sum_of(contracts + [x.source for x in crate.specs])
 
 
 def contract_line_count(lines):

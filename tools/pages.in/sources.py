@@ -46,9 +46,13 @@ class Item:
         """Whether it is a definition of specs/."""
         return self.path.endswith('.antt')
 
-    def lines(self):
-        """How many lines it has that aren't blank or comments."""
-        return sum(1 for x in self.text.split('\n') if not re.match(r'\s*(--|//|$)', x))
+    def contract(self):
+        """A function's signature and its clauses, with the comments between them."""
+        lines = [self.text]
+        for part in self.parts:
+            text = f'\n// {part.comment}' if part.kind == 'comment' else part.text
+            lines.append('    ' + text.replace('\n', '\n    '))
+        return '\n'.join(x.rstrip() for x in '\n'.join(lines).split('\n'))
 
 
 @dataclass
@@ -88,6 +92,11 @@ def read(path):
     """The text of a file."""
     with open(os.path.join(TOP, path), encoding='utf-8') as file:
         return file.read()
+
+
+def code_lines(text):
+    """The lines of a text that aren't blank or comments."""
+    return [x for x in text.split('\n') if x.strip() and not COMMENT.match(x)]
 
 
 def unique(things):
