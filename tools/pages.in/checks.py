@@ -36,10 +36,12 @@ def key(item):
 
 
 def sources_by_key():
-    """The sources of the functions and types of the crate."""
-    paths = files_in(f"crates/{QUOTED}/src", ".rt")
-    items = [x for path in paths for x in read_source(QUOTED, path)]
-    return {key(x): x.source for x in items if not x.owner}
+    """The sources of the functions and types of the crate. Methods of several types may have one key."""
+    sources = {}
+    for path in files_in(f"crates/{QUOTED}/src", ".rt"):
+        for item in read_source(QUOTED, path):
+            sources.setdefault(key(item), []).append(item.source)
+    return sources
 
 
 def quoted_in(piece):
@@ -55,7 +57,8 @@ def with_quotes():
         texts = pieces(block[1])
         for at, piece in enumerate(texts):
             for item in quoted_in(piece):
-                texts[at] = sources.get(key(item), piece)
+                found = sources.get(key(item), [piece])
+                texts[at] = piece if piece in found else found[0]
         return "```rust\n" + "\n\n".join(texts) + "\n```"
 
     return CODE.sub(as_in_sources, read(QUOTING))

@@ -27,9 +27,6 @@ PROTOCOL = "history_core"
 # A line with more links than this has none: what they lead to is what follows.
 MOST_LINKS = 6
 
-# Words in backquotes in comments, in no code, and not PostgreSQL's.
-NOT_POSTGRESQL = ["bench", "PGBUFLOG"]
-
 NOTATION = [
     ("`self.old`, `self.new`", "`self` before the call and after it; so with each `&mut` parameter"),
     ("`x.now`", "the value behind a `&`"),
@@ -375,8 +372,8 @@ def places_of_c_names(crates):
 
 
 def words_of_code(crates):
-    """The words that aren't PostgreSQL's if they stand in a comment: those of our code, and a few."""
-    words = {*crates, *NOT_POSTGRESQL}
+    """The words of our code, which aren't PostgreSQL's if they stand in a comment."""
+    words = {*crates}
     for crate in crates.values():
         specs = files_in(f"crates/{crate.name}/specs", ".antt")
         for path in crate.files + crate.test_files + specs:

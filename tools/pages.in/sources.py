@@ -121,6 +121,12 @@ def code_lines(text):
     return [x for x in text.split("\n") if x.strip() and not is_comment(x)]
 
 
+def refuse_two(items, path):
+    """Ends with an error if these first lines of the items in one block are more than one."""
+    if len(items) > 1:
+        raise SystemExit(f"{path}: no blank line above `{items[1].strip()}`: run rt fmt, then tools/pages")
+
+
 def names_brought_in(lines):
     """What lines like `use MODULE.{A, B}` and `use MODULE as A` bring in."""
     scope = {}
@@ -152,7 +158,7 @@ def read_parts(kind, lines, pattern):
 # ---- specs/ ----
 
 DEFINITION = re.compile(
-    r"( *)(abbrev pub|unfoldable pub|pub record|pub data|pub(?= \S+ :)) ([^\s:({]+)"
+    r" *(abbrev pub|unfoldable pub|pub record|pub data|pub(?= \S+ :)) ([^\s:({]+)"
 )
 FIELD = re.compile(r" *pub (\S+) : (.*)")
 CASE = re.compile(r" *([\w'?]+) : (.*)")
@@ -167,6 +173,7 @@ def read_specs(crate, path):
     for block in re.split(r"\n\n+", text.strip("\n")):
         lines = block.split("\n")
         head = next((at for at, x in enumerate(lines) if DEFINITION.match(x)), None)
+        refuse_two([x for x in lines if re.match(r" *(abbrev|unfoldable|pub record|pub data) ", x)], path)
         if head is None:
             continue
         first = next(at for at, x in enumerate(lines) if not is_comment(x))
@@ -187,7 +194,7 @@ def read_specs(crate, path):
 def read_definition(lines, crate, path, scope):
     """The definition in some lines, of which the first ones are its comment."""
     head = next(at for at, x in enumerate(lines) if DEFINITION.match(x))
-    _, kind, name = DEFINITION.match(lines[head]).groups()
+    kind, name = DEFINITION.match(lines[head]).groups()
     kind = kind.replace("pub", "").strip() or "lemma"
     item = Item(kind, name, comment_text(lines[:head]), "\n".join(lines[head:]), "\n".join(lines),
                 crate, path, scope)
@@ -231,8 +238,7 @@ def read_items(text, crate, path, scope, around=None):
     for piece in pieces(text):
         lines = piece.split("\n")
         heads = [at for at, line in enumerate(lines) if ITEM.match(line)]
-        if len(heads) > 1:
-            raise SystemExit(f"{path}: no blank line above `{lines[heads[1]]}`: run rt fmt")
+        refuse_two([lines[at] for at in heads], path)
         if not heads:
             continue
         item = read_item(lines, heads[0], crate, path, scope)
@@ -332,7 +338,7 @@ def read_crates():
     lines = re.findall(r"^(\w+)[^:#\n]*:([^#\n]*)", read("crates.txt"), re.M)
     uses = {name: names.split() for name, names in lines}
     order = []
-    while len(order) < len(uses):
+    for _ in uses:              # often enough, since each round places a layer
         order += [x for x in uses if x not in order
                   and all(y in order or y not in uses for y in uses[x])]
     return {name: read_crate(name, uses[name]) for name in order}
