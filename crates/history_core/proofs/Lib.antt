@@ -47,6 +47,7 @@ pub mod Sizes
 pub mod Always
 pub mod Residents
 pub mod Listed
+pub mod Marked
 pub mod Images
 pub mod EntryBlocks
 pub mod There

@@ -22,7 +22,7 @@ ghost use Rattle.history_core.specs.Unentered.{DirtyHaveEntries, WrittenHaveEntr
 ghost use Rattle.history_core.specs.Crashes.{CrashesRedo};
 ghost use Rattle.history_core.specs.Torn.{CrashRuns};
 ghost use Rattle.history_core.specs.Counters.{CountersAreSums};
-ghost use Rattle.history_core.specs.Residents.{LostWereCleared, PinsAreListed, ResidentsStay};
+ghost use Rattle.history_core.specs.Residents.{LoadsMarkGone, LostWereCleared, PinsAreListed, ResidentsStay};
 ghost use Rattle.history_core.specs.Trail.{HasSameWords, ListedIsMade};
 ghost use Rattle.history_core.specs.Steps.{Event, Run};
 ghost use Rattle.history_core.specs.Sample.{SampleRuns};
@@ -101,6 +101,7 @@ pub fn all_histories()
     ensures residents { (s : State) → Laws s → LostWereCleared s }
     ensures residents_stay { (s : State) → Laws s → ResidentsStay s }
     ensures sighted { (s : State) → Laws s → PinsAreListed s }
+    ensures marked { (s : State) → LoadsMarkGone s }
     ensures unique { (s : State) → Laws s → TagsAreUnique s.pool.core }
     ensures remembers { (s : State) → Laws s → PinsRemember s.pool.core }
 

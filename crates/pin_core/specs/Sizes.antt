@@ -1,5 +1,5 @@
 -- The sizes of forks: the kinds of step at one, and what holds of them.
-use Rattle.std.specs.Prelude.{◌≡◌, ◌≢◌, ◌⊎◌, ℕ, ◌+◌, ◌-◌, ◌<◌, ◌≤◌, Bool, true, false, List, [], ◌∷◌, ◌++◌, map, slice_set, Contains, Option, Some, None, if◌then◌else◌}
+use Rattle.std.specs.Prelude.{◌≡◌, ◌≢◌, ◌⊎◌, ℕ, ◌+◌, ◌-◌, ◌<◌, ◌≤◌, Bool, true, false, List, [], ◌∷◌, ◌++◌, map, slice_set, Contains, Option, Some, None, nat_eq, not, if◌then◌else◌}
 use mathlib.Core.Option.{some}
 use lib.ListN.{get_elem?}
 use Rattle.pin_core.specs.declared.view.Role.TheVariants.{HandedOut}
@@ -12,9 +12,10 @@ use Rattle.pin_core.specs.declared.view.SizeHold.{SizeHold}
 use Rattle.pin_core.specs.declared.view.LoadedWord.{LoadedWord}
 use Rattle.pin_core.specs.declared.view.LoadedWord.TheVariants as seen
 use Rattle.pin_core.specs.declared.view.Link.{Link}
+use Rattle.pin_core.specs.declared.view.Resident.{Resident}
 use Rattle.pin_core.specs.declared.view.View.{View}
 use Rattle.pin_core.specs.State.{Frame, State, SizeWord, no_tag, no_size, without_size, size_hold, link, tag_fork, tag_block, is_block, is_cut}
-use Rattle.pin_core.specs.Kinds.{load_of}
+use Rattle.pin_core.specs.Kinds.{load_of, seen_gone}
 use Rattle.pin_core.specs.Tallies.{flag_weight}
 use Rattle.grid.specs.Shape.{Shape, Part, Grid, put}
 
@@ -176,6 +177,11 @@ sizes_seen exclude_size fork s = seen.Size fork (s.size fork).blocks ∷ []
 sizes_seen (pass_frame f n) fork s = seen.Tag f (s.frame f).tag ∷ []
 sizes_seen _ fork s = []
 
+-- the blocks that were seen in frames: the one that is passed is seen to have its tag, and no other
+abbrev pub residents_sized : SizeKind → State → List Resident → List Resident
+residents_sized (pass_frame f n) s rs = seen_gone (λ (r : Resident). not (nat_eq r.tag (s.frame f).tag)) f rs
+residents_sized _ s rs = rs
+
 -- how many steps other than loads a kind is
 abbrev pub size_steps : SizeKind → ℕ
 size_steps load_size = 0
@@ -189,6 +195,7 @@ view_sized k fork s v = record v {
   sizes = sizes_after k fork (s.size fork) v;
   loads = v.loads ++ map (load_of v) (sizes_seen k fork s);
   steps = v.steps + size_steps k;
+  residents = residents_sized k s v.residents;
 }
 
 -- the state after a step of the kind k at the fork by backend i, whose view is v

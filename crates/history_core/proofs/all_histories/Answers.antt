@@ -13,6 +13,7 @@ use Rattle.history_core.proofs.Crashes.{dirty_have, written_have, crashes_redo}
 use Rattle.history_core.proofs.Counters.{counters_sums}
 use Rattle.history_core.proofs.Residents.{residents_stay, lost_cleared}
 use Rattle.history_core.proofs.Listed.{pins_listed}
+use Rattle.history_core.proofs.Marked.{loads_mark_gone}
 use Rattle.pin_core.proofs.SizeSchedules as sized
 use Rattle.page_core.proofs.Histories.{new_blocks}
 use Rattle.history_core.proofs.all_histories.Goals as goal
@@ -166,6 +167,9 @@ returns-clause-residents_stay c = residents_stay
 
 pub returns-clause-sighted : goal.returns-clause-sighted
 returns-clause-sighted c = pins_listed
+
+pub returns-clause-marked : goal.returns-clause-marked
+returns-clause-marked c = loads_mark_gone
 
 pub returns-clause-size_rights : goal.returns-clause-size_rights
 returns-clause-size_rights c = λ s fork r. sized.rights s.pool.core fork r.invariant.pool.sizes
