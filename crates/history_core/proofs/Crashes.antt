@@ -264,8 +264,8 @@ module _ (s : State) (h : HistoryInvariant s) where
         by_failure (inr x) = x
 
     redone : CrashesRedo s
-    redone pages es c tag block (inl (k, e, p, at, is)) = inl (same_after tag k es e p (pages tag) (s.origin tag) at is)
-    redone pages es c tag block (inr (known, synced, based)) = ⊎_elim
+    redone pages es c tag (inl (k, e, p, at, is)) = inl (same_after tag k es e p (pages tag) (s.origin tag) at is)
+    redone pages es c tag (inr (block, known, synced, based)) = ⊎_elim
         (λ (t : IsEntered es tag). inl (by_entry pages es tag (λ k e spans at is. whole_left redo es c.log tag k e spans known at is (based k e spans at is)) t.0 t.1 t.1.change refl t.2.there t.2.of))
         (λ (none : (k : ℕ) (e : Entry) → IsEntryOf es tag k e → ⊥). either_way (unsynced s tag)
         (λ written. inr (excepted pages es c tag synced none (inl written)))

@@ -475,6 +475,10 @@ module _ (s : State) (h : HistoryInvariant s) (m : RedoLaw s) (i : ℕ) (v : Vie
   words_redo raise_redo a = raises_redo a
   words_redo k a = let w : View = after_word k s v in redo_same s (state_after_word k s i v) (record { log = refl; end = refl; redo = refl; based = λ b. b; knows = λ tag y. y }) (one_raised s.pool.core.views i v w there refl (same_calls v w refl)) m (one_holds s.pool.core.views i v w there (λ r y. y))
 
+words_been : (s : State) (i : ℕ) (v : View) → get_elem? s.pool.core.views i ≡ some v → (k : WordKind) → (r : ℕ) → HasBeenRedo s r → HasBeenRedo (state_after_word k s i v) r
+words_been s i v there raise_redo = been_still s (state_after_word raise_redo s i v) refl (raised_kept s.pool.core.views i v (after_word raise_redo s v) (s.end ∷ []) there refl)
+words_been s i v there k = let w : View = after_word k s v in been_still s (state_after_word k s i v) refl (raised_kept s.pool.core.views i v w [] there (sym (append-nil v.redo_raised)))
+
 -- a step at the log notes no redo position
 hold_less : (k : LogKind) (h : LogHold) (r : ℕ) → (log_hold_after k h).redo ≡ Some r → h.redo ≡ Some r
 hold_less leave_log h r e = absurd (cc)
@@ -498,6 +502,19 @@ redo_kept {t = t} (enters {s = s} i f p ch v there live inside x) h n m = enters
 redo_kept {t = t} (reads {s = s} i f tag p v there live inside a) h n m = let w : View = looked (seen.LogEnd s.end) (has_read s.end tag p v) in redo_same s t (record { log = refl; end = refl; redo = refl; based = λ b. b; knows = λ tag k. k }) (one_raised s.pool.core.views i v w there refl (read_calls v w v.number tag p s.end refl)) m (one_holds s.pool.core.views i v w there (λ r y. y))
 redo_kept {t = t} (reads_size {s = s} i fork v there live a) h n m = let w : View = looked (seen.LogEnd s.end) (has_seen_size s.end fork (size_hold v fork).blocks v) in redo_same s t (record { log = refl; end = refl; redo = refl; based = λ b. b; knows = λ tag k. k }) (one_raised s.pool.core.views i v w there refl (size_calls v w v.number fork (size_hold v fork).blocks s.end refl)) m (one_holds s.pool.core.views i v w there (λ r y. y))
 redo_kept (words {s = s} i k v there live a) h n m = words_redo s h m i v there k a
+
+-- where the redo position stood stays listed
+pub been_kept : {e : Event} {s t : State} → Step e s t → (r : ℕ) → HasBeenRedo s r → HasBeenRedo t r
+been_kept {t = t} (pools {s = s} (page_steps.cores x) a) = been_still s t refl (pools_raised s x).0.kept
+been_kept {t = t} (pools {s = s} (page_steps.touches i f k v there live inside a around) plain) = let w : View = paged k s.pool f v in been_still s t refl (one_raised s.pool.core.views i v w there refl (same_calls v w refl)).kept
+been_kept {t = t} (lanes {s = s} i q k v there live low a alone) = let w : View = stepped (laned k q v v) in been_still s t refl (one_raised s.pool.core.views i v w there refl (same_calls v w refl)).kept
+been_kept {t = t} (writes {s = s} i q f k v there live low inside a x) = let w : View = laned k q v (paged begin_write s.pool f v) in been_still s t refl (one_raised s.pool.core.views i v w there refl (same_calls v w refl)).kept
+been_kept {t = t} (notes {s = s} i q f noted k v there live low inside a x) = let w : View = laned (lane_back noted) q v (paged k (pool_noting k s f) f v) in been_still s t refl (one_raised s.pool.core.views i v w there refl (same_calls v w refl)).kept
+been_kept {t = t} (logs {s = s} i k v there live a record_is) = let w : View = view_logged k v in been_still s t refl (one_raised s.pool.core.views i v w there refl (same_calls v w refl)).kept
+been_kept {t = t} (enters {s = s} i f p ch v there live inside x) = let w : View = has_written ch (link v f).copied (s.end + change_size ch) (s.pool.core.frame f).tag p (paged (make_entry p) s.pool f v) in been_still s t refl (raised_kept s.pool.core.views i v w [] there (sym (append-nil v.redo_raised)))
+been_kept {t = t} (reads {s = s} i f tag p v there live inside a) = let w : View = looked (seen.LogEnd s.end) (has_read s.end tag p v) in been_still s t refl (raised_kept s.pool.core.views i v w [] there (sym (append-nil v.redo_raised)))
+been_kept {t = t} (reads_size {s = s} i fork v there live a) = let w : View = looked (seen.LogEnd s.end) (has_seen_size s.end fork (size_hold v fork).blocks v) in been_still s t refl (raised_kept s.pool.core.views i v w [] there (sym (append-nil v.redo_raised)))
+been_kept (words {s = s} i k v there live a) = words_been s i v there k
 
 pub redo_open : (c : Config) (store : Store) (page : Page) → RedoLaw (opening c store page)
 redo_open c store page = let w : View = first_view c.base c.frames c.partitions c.lanes in record {

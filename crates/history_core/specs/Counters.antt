@@ -25,6 +25,10 @@ pub record CountersLaw (counter : ℕ → ℕ) (views : List View) : Type 0 wher
   pub fixed : FollowsCounters counter views
   pub bounded : (i : ℕ) (v : View) → get_elem? views i ≡ some v → IsBounded i v
 
+-- Each backend has added to a counter no more than it may, for itself and for each that was joined into it
+abbrev pub CountersAreBounded : State → Type 0
+CountersAreBounded s = (i : ℕ) (v : View) → get_elem? s.pool.core.views i ≡ some v → IsBounded i v
+
 -- Each counter is the sum of what the backends have added to it, those too that were joined into the first
 abbrev pub CountersAreSums : State → Type 0
 CountersAreSums s = (number : ℕ) → s.counter number ≡ total (λ (v : View). added_to number v) s.pool.core.views

@@ -32,14 +32,14 @@ RangesAreBased s es tag = (k : ℕ) (e : Entry) (spans : List Span) → get_elem
 abbrev pub StartsSynced : State → ℕ → Type 0
 StartsSynced s tag = s.unsynced_at_start tag ≡ false
 
--- What redo needs of a block: one of the entries has its whole page; or the contents of its lane are known, it had been synced when the table was opened over it, and where an entry changes bytes of it the log began past the pages' positions
+-- What redo needs of a block: one of the entries has its whole page; or the block is there and the contents of its lane are known, it had been synced when the table was opened over it, and where an entry changes bytes of it the log began past the pages' positions
 abbrev pub CanRedo : State → List Entry → ℕ → Type 0
-CanRedo s es tag = HasWhole es tag ⊎ ((s.known tag ≡ true) × StartsSynced s tag × RangesAreBased s es tag)
+CanRedo s es tag = HasWhole es tag ⊎ ((is_block s.pool.core tag ≡ true) × (s.known tag ≡ true) × StartsSynced s tag × RangesAreBased s es tag)
 
 -- What redo makes of a block: its page after the surviving entries, done on the page of the start. The exceptions are blocks whose frame a backend marked dirty with no entry made
 abbrev pub RedoGives : State → (ℕ → Option Page) → List Entry → ℕ → Type 0
 RedoGives s pages es tag = (cell pages es tag ≡ cell s.origin es tag) ⊎ (IsExcepted s es tag × IsUnentered s tag)
 
--- Redo makes each surviving entry's change, in order, on the pages that a crash left, whatever these pages' own positions are. It says nothing of blocks that aren't there
+-- Redo makes each surviving entry's change, in order, on the pages that a crash left, whatever these pages' own positions are
 abbrev pub CrashesRedo : State → Type 0
-CrashesRedo s = (pages : ℕ → Option Page) (es : List Entry) → Crashed s pages es → (tag : ℕ) → is_block s.pool.core tag ≡ true → CanRedo s es tag → RedoGives s pages es tag
+CrashesRedo s = (pages : ℕ → Option Page) (es : List Entry) → Crashed s pages es → (tag : ℕ) → CanRedo s es tag → RedoGives s pages es tag

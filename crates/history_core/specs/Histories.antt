@@ -23,7 +23,7 @@ use Rattle.history_core.specs.Lanes.{LaneKind, lane_out, sync_lane}
 use Rattle.history_core.specs.Device.{HasRisen}
 use Rattle.history_core.specs.Invariant.{HasNumber, KeptLaw}
 use Rattle.history_core.specs.Steps.{Event, pool, lane, write, enter, read, read_size, new_entry, logged_as, Step, Run}
-use Rattle.history_core.specs.Redo.{HasBeenRedo, StartsBased, FollowsImage}
+use Rattle.history_core.specs.Redo.{HasBeenRedo}
 use Rattle.history_core.specs.Rest.{NoneAppended, HasRest}
 use Rattle.grid.specs.Shape.{total}
 
@@ -250,9 +250,12 @@ FramesAreSound s = (f : ℕ) → f < s.pool.core.frames → (s.pool.core.frame f
 abbrev pub FramesHoldCells : State → Type 0
 FramesHoldCells s = (f : ℕ) → s.known (s.pool.core.frame f).tag ≡ true → f < s.pool.core.frames → HasTag (s.pool.core.frame f) → (s.pool.core.frame f).word.valid ≡ true → NoneUnapplied s.pool f → cell s.origin s.log.entries (s.pool.core.frame f).tag ≡ Some (s.pool.core.frame f).page
 
--- full page writes: where no sound page had a position past the log's base at the start, each entry of ranges that starts where the redo position stood, or after it, follows an entry of its block's whole page that does, if the contents of the block's lane are known
-abbrev pub RangesFollowImages : State → Type 0
-RangesFollowImages s = StartsBased s → (tag r k : ℕ) (e : Entry) (spans : List Span) → HasBeenRedo s r → get_elem? s.log.entries k ≡ some e → e.change ≡ ranges tag spans → s.known tag ≡ true → r ≤ e.start → FollowsImage s.log.entries tag r k
+-- The redo position, and each that it has been, is the log's base or one that a view lists
+pub record RedoIsListed (s : State) : Type 0 where
+  pub now : HasBeenRedo s s.redo
+  pub stays : (e : Event) (t : State) → Step e s t → (r : ℕ) → HasBeenRedo s r → HasBeenRedo t r
+  -- the holder of the log's latch has loaded the redo position, and has not raised it since: it stands there
+  pub loaded : (i : ℕ) (v : View) (r : ℕ) → get_elem? s.pool.core.views i ≡ some v → v.log.redo ≡ Some r → r ≡ s.redo
 
 -- The words of the log
 pub record LogWords (s : State) : Type 0 where

@@ -259,6 +259,8 @@ pub record IsLegalWrite (known : ℕ → Bool) (origin : ℕ → Option Page) (l
   pub sized : change_size entry.change ≡ logged.size
   -- the position that was tested is that of the block's page after the entries before this one
   pub tested : (t : ImageTest) → logged.test ≡ Some t → known tag ≡ true → (q : Page) × (cell origin (cut entry.start log.entries) tag ≡ Some q) × (lsn_of q ≡ t.before)
+  -- a record shorter than that of a whole page was chosen by a test: the page's position was past the redo position
+  pub past : logged.size < record_size → (t : ImageTest) × (logged.test ≡ Some t) × (t.redo < t.before)
   pub writes : known tag ≡ true → cell origin (cut place log.entries) tag ≡ Some page
 
 -- A change of a fork's size is legal where it is an entry of its backend, and its place the entry's end

@@ -57,6 +57,14 @@ ChosenBy s (Size backend fork blocks place) = Unit {0}
 ChosenBy s (Sized backend fork blocks place) = Unit {0}
 ChosenBy s (Write backend tag page place logged) = (t : ImageTest) → logged.test ≡ Some t → HasBeenRedo s t.redo × (t.redo + logged.size ≤ place)
 
+-- full page writes: where no sound page had a position past the log's base at the start, each entry of ranges that starts where the redo position stood, or after it, follows an entry of its block's whole page that does, if the contents of the block's lane are known
+abbrev pub RangesFollowImages : State → Type 0
+RangesFollowImages s = StartsBased s → (tag r k : ℕ) (e : Entry) (spans : List Span) → HasBeenRedo s r → get_elem? s.log.entries k ≡ some e → e.change ≡ ranges tag spans → s.known tag ≡ true → r ≤ e.start → FollowsImage s.log.entries tag r k
+
+-- the redo position by which a write's record was tested had stood before the record was made
+abbrev pub TestsStood : State → Type 0
+TestsStood s = (i k : ℕ) (v : View) (c : Call) → get_elem? s.pool.core.views i ≡ some v → get_elem? v.calls k ≡ some c → ChosenBy s c
+
 pub record RedoLaw (s : State) : Type 0 where
   -- what the holder of the log's latch has loaded under it is the redo position
   pub loaded : (i : ℕ) (v : View) (r : ℕ) → get_elem? s.pool.core.views i ≡ some v → v.log.redo ≡ Some r → r ≡ s.redo
@@ -65,6 +73,7 @@ pub record RedoLaw (s : State) : Type 0 where
   pub highest : IsHighestRaised s.log.base s.redo s.pool.core.views
   -- wherever it stood no entry lies across
   pub between : (r : ℕ) → HasBeenRedo s r → (k : ℕ) (e : Entry) → get_elem? s.log.entries k ≡ some e → (end_of e ≤ r) ⊎ (r ≤ e.start)
-  -- and each entry of ranges that starts there or after it follows an image of its block that does
-  pub follows : StartsBased s → (tag r k : ℕ) (e : Entry) (spans : List Span) → HasBeenRedo s r → get_elem? s.log.entries k ≡ some e → e.change ≡ ranges tag spans → s.known tag ≡ true → r ≤ e.start → FollowsImage s.log.entries tag r k
-  pub chosen : (i k : ℕ) (v : View) (c : Call) → get_elem? s.pool.core.views i ≡ some v → get_elem? v.calls k ≡ some c → ChosenBy s c
+  -- each entry of ranges that starts where it stood, or after it, follows an image of its block that does
+  pub follows : RangesFollowImages s
+  -- each test was of one that stood
+  pub chosen : TestsStood s

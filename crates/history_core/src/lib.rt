@@ -8,8 +8,9 @@
 
 ghost use Rattle.std.specs.Prelude.{◌≡◌, ℕ, ◌<◌, List};
 ghost use Rattle.pin_core.specs.State.{CanOpen, Config, Page};
-ghost use Rattle.pin_core.specs.Schedules.{TagsAreUnique, PinsRemember, SizeRights, SizesAreLogged, SeenBlocksStay};
+ghost use Rattle.pin_core.specs.Schedules.{TagsAreUnique, TagWordsAreBlocks, PinsRemember, SizeRights, SizesAreLogged, SeenBlocksStay};
 ghost use Rattle.page_core.specs.Histories.{CleanupIsAlone};
+ghost use Rattle.page_core.specs.Invariant.{OthersHaveNoPage};
 ghost use Rattle.history_core.specs.State.{CanStore, State, Store, opening};
 ghost use Rattle.history_core.specs.Laws.{Laws};
 ghost use Rattle.history_core.specs.Ends.{EndsLaw};
@@ -21,8 +22,10 @@ ghost use Rattle.history_core.specs.Sizes.{BlocksThere};
 ghost use Rattle.history_core.specs.Unentered.{DirtyHaveEntries, WrittenHaveEntries};
 ghost use Rattle.history_core.specs.Crashes.{CrashesRedo};
 ghost use Rattle.history_core.specs.Torn.{CrashRuns};
-ghost use Rattle.history_core.specs.Counters.{CountersAreSums};
+ghost use Rattle.history_core.specs.Counters.{CountersAreBounded, CountersAreSums};
 ghost use Rattle.history_core.specs.Residents.{LoadsMarkGone, LostWereCleared, PinsAreListed, ResidentsStay};
+ghost use Rattle.history_core.specs.Redo.{RangesFollowImages, TestsStood};
+ghost use Rattle.history_core.specs.Rest.{HasRest};
 ghost use Rattle.history_core.specs.Trail.{HasSameWords, ListedIsMade};
 ghost use Rattle.history_core.specs.Steps.{Event, Run};
 ghost use Rattle.history_core.specs.Sample.{SampleRuns};
@@ -32,7 +35,7 @@ ghost use Rattle.history_core.specs.Faults.{FaultRuns};
 ghost use Rattle.history_core.specs.Checkpoints.{CheckpointRuns};
 ghost use Rattle.history_core.specs.Evictions.{EvictionRuns, WaitRuns};
 ghost use Rattle.page_core.specs.Histories.{NewBlocksAreZero};
-ghost use Rattle.history_core.specs.Histories.{SizesFollowLog, IsReached, BlocksAreThere, CallsAreLegal, EntriesAreOfBlocks, ImagesAlone, RangesFollowImages, ReadsAtBase, SyncsMakeDurable, SyncsCover, JoinedAreApart, CallsAreOwn, FrontsAreReached, CallsStay, CallsAreInOrder, LoadedIsFlushed, LanesGoOutFlushed, HoldsKeepFlushed, NotedWritesAreDone, LogIsHeld, HintsNameFrames, WritesAreEntries, ReadsStand, SizesStand, WritesStand, LogBeforeData, LanesHoldFlushedPages, CleanBlocksAreStored, FramesAreSound, FramesHoldCells, LogWords, EntriesAreDurable, DeviceHoldsLog, LanesAreHeld};
+ghost use Rattle.history_core.specs.Histories.{SizesFollowLog, IsReached, BlocksAreThere, CallsAreLegal, EntriesAreOfBlocks, ImagesAlone, RedoIsListed, ReadsAtBase, SyncsMakeDurable, SyncsCover, JoinedAreApart, CallsAreOwn, FrontsAreReached, CallsStay, CallsAreInOrder, LoadedIsFlushed, LanesGoOutFlushed, HoldsKeepFlushed, NotedWritesAreDone, LogIsHeld, HintsNameFrames, WritesAreEntries, ReadsStand, SizesStand, WritesStand, LogBeforeData, LanesHoldFlushedPages, CleanBlocksAreStored, FramesAreSound, FramesHoldCells, LogWords, EntriesAreDurable, DeviceHoldsLog, LanesAreHeld};
 
 /// What every list of events keeps, whatever the backends do and in whatever order.
 pub fn all_histories()
@@ -54,7 +57,9 @@ pub fn all_histories()
     ensures in_order { (s : State) → Laws s → CallsAreInOrder s }
     ensures entries { (s : State) → Laws s → WritesAreEntries s }
     ensures images_alone { (s : State) → Laws s → ImagesAlone s }
+    ensures redo { (s : State) → Laws s → RedoIsListed s }
     ensures ranges_follow { (s : State) → Laws s → RangesFollowImages s }
+    ensures tested { (s : State) → Laws s → TestsStood s }
     ensures of_blocks { (s : State) → Laws s → EntriesAreOfBlocks s }
     ensures at_base { (s : State) → Laws s → ReadsAtBase s }
     ensures reads_stand { (s : State) → Laws s → ReadsStand s }
@@ -75,6 +80,7 @@ pub fn all_histories()
     ensures ends { (s : State) → Laws s → EndsLaw s }
     ensures durable { (s : State) → Laws s → EntriesAreDurable s }
     ensures device_holds { (s : State) → Laws s → DeviceHoldsLog s }
+    ensures behind { (s : State) → Laws s → HasRest s }
     ensures held { (s : State) → Laws s → LanesAreHeld s }
     ensures log_held { (s : State) → Laws s → LogIsHeld s }
 
@@ -89,6 +95,8 @@ pub fn all_histories()
     ensures sizes_logged { (s : State) (fork : ℕ) → Laws s → SizesAreLogged s.pool.core fork }
     ensures seen_blocks { (s : State) → Laws s → SeenBlocksStay s.pool.core }
     ensures new_blocks { (s : State) → Laws s → NewBlocksAreZero s.pool }
+    ensures tags { (s : State) → Laws s → TagWordsAreBlocks s.pool.core }
+    ensures others { (s : State) → Laws s → OthersHaveNoPage s.pool }
     ensures by_log { (s : State) → Laws s → SizesFollowLog s }
 
     // and of the frames:
@@ -107,6 +115,7 @@ pub fn all_histories()
 
     // and of the counters:
     ensures counters { (s : State) → Laws s → CountersAreSums s }
+    ensures bounded { (s : State) → Laws s → CountersAreBounded s }
 {}
 
 /// No block has two frames.

@@ -139,22 +139,22 @@ module _ (relations : List RelEntry) (s : State) (laws : Laws s) (by : IsLogBy r
 
     module _ (pages : ℕ → Option Page) (stays : (tag : ℕ) → unsynced s tag ≡ false → pages tag ≡ stored s tag) where
       -- what survives is redone
-      by_entries : (es : List Entry) → Survives s es → (tag : ℕ) → is_block relations tag ≡ true → CanRedo s (without_backends es) tag → RedoGives s pages (without_backends es) tag
-      by_entries es survives tag block can = ⊎_elim
+      by_entries : (es : List Entry) → Survives s es → (tag : ℕ) → CanRedo s (without_backends es) tag → RedoGives s pages (without_backends es) tag
+      by_entries es survives tag can = ⊎_elim
           (λ (same : cell pages es tag ≡ cell s.origin es tag). inl (after_backends tag es (pages tag) ∙ same ∙ sym (after_backends tag es (s.origin tag))))
           (λ (x : IsExcepted s es tag × IsUnentered s tag). inr (record { none = none_with es tag x.0.none; lost = x.0.lost }, x.1))
-          (crashes_redo s laws pages es (record { stays = stays; log = survives }) tag (by.blocks tag ∙ block) (can_with can))
+          (crashes_redo s laws pages es (record { stays = stays; log = survives }) tag (can_with can))
         where
           can_with : CanRedo s (without_backends es) tag → CanRedo s es tag
           can_with (inl whole) = inl (whole_with es tag whole)
-          can_with (inr (known, synced, whole)) = inr (known, synced, ranges_with s es tag whole)
+          can_with (inr (block, known, synced, whole)) = inr (block, known, synced, ranges_with s es tag whole)
 
-      pub by_read : (es ds : List Entry) → ds ≡ without_backends es → Survives s es → (tag : ℕ) → is_block relations tag ≡ true → CanRedo s ds tag → RedoGives s pages ds tag
-      by_read es ds read survives tag block = subst (λ (l : List Entry). CanRedo s l tag → RedoGives s pages l tag) (sym read) (by_entries es survives tag block)
+      pub by_read : (es ds : List Entry) → ds ≡ without_backends es → Survives s es → (tag : ℕ) → CanRedo s ds tag → RedoGives s pages ds tag
+      by_read es ds read survives tag = subst (λ (l : List Entry). CanRedo s l tag → RedoGives s pages l tag) (sym read) (by_entries es survives tag)
 
 pub survivors_read : SurvivorsAreRead
 survivors_read relations s laws by bytes left log is = survivors relations s laws by bytes left log is
 
 pub crashes_recover : CrashesRecover
-crashes_recover relations s laws by bytes left log is pages stays tag block = let read = survivors relations s laws by bytes left log is in
-    by_read relations s laws by bytes left pages stays read.0 log.entries read.2 read.1 tag block
+crashes_recover relations s laws by bytes left log is pages stays tag = let read = survivors relations s laws by bytes left log is in
+    by_read relations s laws by bytes left pages stays read.0 log.entries read.2 read.1 tag
