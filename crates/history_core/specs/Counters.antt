@@ -6,7 +6,7 @@ use Rattle.pin_core.specs.declared.view.Published.{Published}
 use Rattle.pin_core.specs.declared.view.View.{View}
 use Rattle.history_core.specs.Balances.{Balances, added_to}
 use Rattle.history_core.specs.State.{State}
-use Rattle.history_core.specs.Words.{last_published}
+use Rattle.history_core.specs.Words.{most_published}
 use Rattle.grid.specs.Shape.{total}
 
 -- The views fix each counter: an addition leaves what was added more than it found
@@ -17,7 +17,7 @@ FollowsCounters counter views = (number : ℕ) → Balances (λ (v : View). v.pu
 -- How much view i may have added
 pub record IsBounded (i : ℕ) (v : View) : Type 0 where
   -- to each counter, for itself and for each that it took in
-  pub within : (number : ℕ) → added_to number v ≤ (v.joined + 1) * last_published
+  pub within : (number : ℕ) → added_to number v ≤ (v.joined + 1) * most_published
   -- only the first takes in others
   pub alone : i ≢ 0 → v.joined ≡ 0
 

@@ -23,7 +23,7 @@ use Rattle.history_core.specs.Lanes.{LaneKind, lane_out, sync_lane}
 use Rattle.history_core.specs.Device.{HasRisen}
 use Rattle.history_core.specs.Invariant.{HasNumber, KeptLaw}
 use Rattle.history_core.specs.Steps.{Event, pool, lane, write, enter, read, read_size, new_entry, logged_as, Step, Run}
-use Rattle.history_core.specs.Redo.{HasBeenRedo, StartsBased, FollowsImage}
+use Rattle.history_core.specs.Redo.{HasBeenRedo, StartsAtBase, FollowsImage}
 use Rattle.history_core.specs.Rest.{NoneAppended, HasRest}
 use Rattle.grid.specs.Shape.{total}
 
@@ -252,7 +252,7 @@ FramesHoldCells s = (f : ℕ) → s.known (s.pool.core.frame f).tag ≡ true →
 
 -- full page writes: where no sound page had a position past the log's base at the start, each entry of ranges that starts where the redo position stood, or after it, follows an entry of its block's whole page that does, if the contents of the block's lane are known
 abbrev pub RangesFollowImages : State → Type 0
-RangesFollowImages s = StartsBased s → (tag r k : ℕ) (e : Entry) (spans : List Span) → HasBeenRedo s r → get_elem? s.log.entries k ≡ some e → e.change ≡ ranges tag spans → s.known tag ≡ true → r ≤ e.start → FollowsImage s.log.entries tag r k
+RangesFollowImages s = StartsAtBase s → (tag r k : ℕ) (e : Entry) (spans : List Span) → HasBeenRedo s r → get_elem? s.log.entries k ≡ some e → e.change ≡ ranges tag spans → s.known tag ≡ true → r ≤ e.start → FollowsImage s.log.entries tag r k
 
 -- The words of the log
 pub record LogWords (s : State) : Type 0 where

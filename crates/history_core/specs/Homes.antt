@@ -66,7 +66,7 @@ abbrev pub IsUnframed : ℕ → (ℕ → Frame) → ℕ → Type 0
 IsUnframed frames frame tag = (f : ℕ) → f < frames → (frame f).tag ≢ tag
 
 -- an entry of the log adds the block to its fork, ends past the position, and no later entry cuts the block away
-pub record Extends (es : List Entry) (upto tag : ℕ) : Type 0 where
+pub record AddsBlock (es : List Entry) (upto tag : ℕ) : Type 0 where
   pub index : ℕ
   pub entry : Entry
   pub there : get_elem? es index ≡ some entry
@@ -75,8 +75,8 @@ pub record Extends (es : List Entry) (upto tag : ℕ) : Type 0 where
   pub kept : (j : ℕ) (d : Entry) (fork old new : ℕ) → index < j → get_elem? es j ≡ some d → d.change ≡ resize fork old new → new < old → is_cut fork new tag ≡ false
 
 -- The block isn't there, or what added it to its fork isn't in the lane's page
-pub record IsFresh (es : List Entry) (tag : ℕ) (h : Home) : Type 0 where
-  pub fresh : (h.inside ≡ false) ⊎ Extends es h.stored_upto tag
+pub record IsUnwrittenNew (es : List Entry) (tag : ℕ) (h : Home) : Type 0 where
+  pub fresh : (h.inside ≡ false) ⊎ AddsBlock es h.stored_upto tag
   -- the lane holds zeros then, or what it held at the start
   pub page : (h.stored ≡ Some zero_page) ⊎ (h.stored ≡ h.held)
 
@@ -86,4 +86,4 @@ pub record IsFlushedCell (origin : ℕ → Option Page) (log : Log) (flushed tag
   pub based : log.base ≤ h.stored_upto
   pub within : h.stored_upto ≤ flushed
   -- where the lane's contents are known, and the block's last write didn't fail, its page is the block's after the entries up to there, or it is fresh
-  pub is_cell : h.known ≡ true → h.failed ≡ false → (h.stored ≡ cell origin (cut h.stored_upto log.entries) tag) ⊎ IsFresh log.entries tag h
+  pub is_cell : h.known ≡ true → h.failed ≡ false → (h.stored ≡ cell origin (cut h.stored_upto log.entries) tag) ⊎ IsUnwrittenNew log.entries tag h

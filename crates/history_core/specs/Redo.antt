@@ -21,12 +21,12 @@ abbrev pub HasBeenRedo : State → ℕ → Type 0
 HasBeenRedo s r = (r ≡ s.log.base) ⊎ IsRaised s.pool.core.views r
 
 -- no sound page had a position past the log's base at the start, where the contents of its lane are known
-abbrev pub StartsBased : State → Type 0
-StartsBased s = (tag : ℕ) (p : Page) → s.known tag ≡ true → s.origin tag ≡ Some p → is_sound_page p ≡ true → lsn_of p ≤ s.log.base
+abbrev pub StartsAtBase : State → Type 0
+StartsAtBase s = (tag : ℕ) (p : Page) → s.known tag ≡ true → s.origin tag ≡ Some p → is_sound_page p ≡ true → lsn_of p ≤ s.log.base
 
 -- one of the entries has the whole page of the block
-abbrev pub HasWhole : List Entry → ℕ → Type 0
-HasWhole es tag = (k : ℕ) × (e : Entry) × (p : Page) × (get_elem? es k ≡ some e) × (e.change ≡ image tag p)
+abbrev pub HasWholePage : List Entry → ℕ → Type 0
+HasWholePage es tag = (k : ℕ) × (e : Entry) × (p : Page) × (get_elem? es k ≡ some e) × (e.change ≡ image tag p)
 
 -- Before the entry k an entry has the whole page of the block, which starts at r or after it
 pub record FollowsImage (es : List Entry) (tag r k : ℕ) : Type 0 where
@@ -41,7 +41,7 @@ pub record FollowsImage (es : List Entry) (tag r k : ℕ) : Type 0 where
 -- What redo needs of the next entry: ranges are of a block that has a whole page in the log, if that was so of the start
 abbrev pub CanFollow : State → Change → Type 0
 CanFollow s (image t q) = Unit {0}
-CanFollow s (ranges t spans) = StartsBased s → s.known t ≡ true → HasWhole s.log.entries t
+CanFollow s (ranges t spans) = StartsAtBase s → s.known t ≡ true → HasWholePage s.log.entries t
 CanFollow s (resize fork old new) = ⊥
 
 -- The redo position is the base, or the largest to which a view raised it
@@ -66,5 +66,5 @@ pub record RedoLaw (s : State) : Type 0 where
   -- wherever it stood no entry lies across
   pub between : (r : ℕ) → HasBeenRedo s r → (k : ℕ) (e : Entry) → get_elem? s.log.entries k ≡ some e → (end_of e ≤ r) ⊎ (r ≤ e.start)
   -- and each entry of ranges that starts there or after it follows an image of its block that does
-  pub follows : StartsBased s → (tag r k : ℕ) (e : Entry) (spans : List Span) → HasBeenRedo s r → get_elem? s.log.entries k ≡ some e → e.change ≡ ranges tag spans → s.known tag ≡ true → r ≤ e.start → FollowsImage s.log.entries tag r k
+  pub follows : StartsAtBase s → (tag r k : ℕ) (e : Entry) (spans : List Span) → HasBeenRedo s r → get_elem? s.log.entries k ≡ some e → e.change ≡ ranges tag spans → s.known tag ≡ true → r ≤ e.start → FollowsImage s.log.entries tag r k
   pub chosen : (i k : ℕ) (v : View) (c : Call) → get_elem? s.pool.core.views i ≡ some v → get_elem? v.calls k ≡ some c → ChosenBy s c

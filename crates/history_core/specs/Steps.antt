@@ -182,10 +182,10 @@ pub record IsPastRedo (h : LogHold) (l : Link) : Type 0 where
   pub copied : l.copied ≡ Some before
   pub past : redo < lsn_of before
 
-abbrev pub MayPass : Change → LogHold → Link → Type 0
-MayPass (image t q) h l = Unit {0}
-MayPass (ranges t spans) h l = IsPastRedo h l
-MayPass (resize fork old new) h l = ⊥
+abbrev pub MaySkipImage : Change → LogHold → Link → Type 0
+MaySkipImage (image t q) h l = Unit {0}
+MaySkipImage (ranges t spans) h l = IsPastRedo h l
+MaySkipImage (resize fork old new) h l = ⊥
 
 -- the page p is a whole page that the backend may enter by the change for the block of the frame f, whose tag is this, and has the position of the entry's end, which is at most the last one
 pub record CanLog (s : State) (f tag : ℕ) (p : Page) (c : Change) (v : View) : Type 0 where
@@ -197,7 +197,7 @@ pub record CanLog (s : State) (f tag : ℕ) (p : Page) (c : Change) (v : View) :
   pub ends : lsn_of p ≡ s.end + change_size c
   pub room : s.end + change_size c ≤ last_position
   pub makes : MakesPage c (s.end + change_size c) tag p (link v f)
-  pub past : MayPass c v.log (link v f)
+  pub past : MaySkipImage c v.log (link v f)
   pub allowed : MayMake s.ranges c
 
 -- what is appended is the record of the entry that the backend would make of the page now; an append that fails leaves the first bytes of it
@@ -218,7 +218,7 @@ pub record CanEnter (s : State) (f : ℕ) (p : Page) (c : Change) (v : View) : T
   pub ends : lsn_of p ≡ s.end + change_size c
   pub room : s.end + change_size c ≤ last_position
   pub makes : MakesPage c (s.end + change_size c) (s.pool.core.frame f).tag p (link v f)
-  pub past : MayPass c v.log (link v f)
+  pub past : MaySkipImage c v.log (link v f)
   pub allowed : MayMake s.ranges c
   pub appended : v.log.appended ≡ Some (record_bytes s.names (new_entry s v.number c))
 

@@ -18,8 +18,8 @@ abbrev pub counter_count : ℕ
 counter_count = 20
 
 -- the most that one backend may add to a counter
-abbrev pub last_published : ℕ
-last_published = 281474976710655
+abbrev pub most_published : ℕ
+most_published = 281474976710655
 
 -- how many hint words a table of n frames has
 abbrev pub hint_count : ℕ → ℕ
@@ -100,7 +100,7 @@ WordAllowed raise_flushed s v = v.log.synced ≡ true
 WordAllowed load_redo s v = v.log.held ≡ true
 WordAllowed raise_redo s v = v.log.end ≡ Some s.end
 WordAllowed (load_counter number) s v = number < counter_count
-WordAllowed (add_counter number more) s v = (number < counter_count) × (added_to number v + more ≤ last_published)
+WordAllowed (add_counter number more) s v = (number < counter_count) × (added_to number v + more ≤ most_published)
 WordAllowed (load_hint number) s v = number < hint_count s.pool.core.frames
 WordAllowed (store_hint number value) s v = (number < hint_count s.pool.core.frames) × (value ≤ s.pool.core.frames)
 WordAllowed _ s v = Unit {0}

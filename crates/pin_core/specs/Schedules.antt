@@ -97,22 +97,22 @@ pub record TagWordsAreBlocks (s : State) : Type 0 where
   pub noted : (f : ℕ) → f < s.frames → (s.frame f).tag ≢ no_tag → (is_block s (s.frame f).tag ≡ true) ⊎ IsNoted s f
   pub quiet : s.resizes ≡ false → (f : ℕ) → f < s.frames → (s.frame f).tag ≢ no_tag → is_block s (s.frame f).tag ≡ true
 
-abbrev pub is_shared : SizeRight → Bool
-is_shared size_right.Unheld = false
-is_shared size_right.Shared = true
-is_shared size_right.Exclusive = false
+abbrev pub is_size_shared : SizeRight → Bool
+is_size_shared size_right.Unheld = false
+is_size_shared size_right.Shared = true
+is_size_shared size_right.Exclusive = false
 
-abbrev pub is_exclusive : SizeRight → Bool
-is_exclusive size_right.Unheld = false
-is_exclusive size_right.Shared = false
-is_exclusive size_right.Exclusive = true
+abbrev pub is_size_exclusive : SizeRight → Bool
+is_size_exclusive size_right.Unheld = false
+is_size_exclusive size_right.Shared = false
+is_size_exclusive size_right.Exclusive = true
 
 -- whether the view has the shared right on the fork's size, or the exclusive one
 abbrev pub shares_size : ℕ → View → Bool
-shares_size fork v = is_shared (size_hold v fork).right
+shares_size fork v = is_size_shared (size_hold v fork).right
 
 abbrev pub excludes_size : ℕ → View → Bool
-excludes_size fork v = is_exclusive (size_hold v fork).right
+excludes_size fork v = is_size_exclusive (size_hold v fork).right
 
 -- A size word counts the backends with the shared right, and its bit stands where one has the exclusive right, which excludes the others
 pub record SizeRights (s : State) (fork : ℕ) : Type 0 where

@@ -40,14 +40,14 @@ pub data SizeKind : Type 0 where
   enter_cut : ℕ → ℕ → SizeKind
 
 -- A fork's number, and no right of the view on its size
-pub record IsFree (s : State) (v : View) (fork : ℕ) : Type 0 where
+pub record CanTakeSize (s : State) (v : View) (fork : ℕ) : Type 0 where
   pub is_fork : s.is_fork fork ≡ true
   pub unheld : (size_hold v fork).right ≡ size_right.Unheld
   pub free : (s.size fork).exclusive ≡ false
 
 -- neither a sharer nor an exclusive right
-pub record CanExclude (s : State) (v : View) (fork : ℕ) : Type 0 where
-  pub free : IsFree s v fork
+pub record CanExcludeSize (s : State) (v : View) (fork : ℕ) : Type 0 where
+  pub free : CanTakeSize s v fork
   pub alone : (s.size fork).sharers ≡ 0
   pub allowed : s.resizes ≡ true
 
@@ -63,7 +63,7 @@ abbrev pub MaySee : Option ℕ → State → View → ℕ → Type 0
 MaySee None s v fork = Unit {0}
 MaySee (Some f) s v fork = SeesBlock s v fork f
 
-pub record CanUnshare (seen : Option ℕ) (s : State) (v : View) (fork : ℕ) : Type 0 where
+pub record CanUnshareSize (seen : Option ℕ) (s : State) (v : View) (fork : ℕ) : Type 0 where
   pub right : (size_hold v fork).right ≡ size_right.Shared
   pub sees : MaySee seen s v fork
 
@@ -109,9 +109,9 @@ pub record CanEnterCut (n : ℕ) (s : State) (v : View) (fork : ℕ) : Type 0 wh
 
 abbrev pub SizeAllowed : SizeKind → State → View → ℕ → Type 0
 SizeAllowed load_size s v fork = Unit {0}
-SizeAllowed share_size s v fork = IsFree s v fork
-SizeAllowed exclude_size s v fork = CanExclude s v fork
-SizeAllowed (unshare_size seen) s v fork = CanUnshare seen s v fork
+SizeAllowed share_size s v fork = CanTakeSize s v fork
+SizeAllowed exclude_size s v fork = CanExcludeSize s v fork
+SizeAllowed (unshare_size seen) s v fork = CanUnshareSize seen s v fork
 SizeAllowed unexclude_size s v fork = CanUnexclude s v fork
 SizeAllowed (pass_frame f n) s v fork = CanPass f n s v fork
 SizeAllowed store_size s v fork = CanStoreSize s v fork
@@ -143,11 +143,11 @@ size_hold_after (enter_extension f end) fork w h = record h { fork = fork; made 
 size_hold_after (enter_cut n end) fork w h = record h { fork = fork; made = Some (record { blocks = n; end = end; cut = true }) }
 
 -- what the view has of the sizes of all forks
-abbrev pub sizes_after : SizeKind → ℕ → SizeWord → View → List SizeHold
-sizes_after load_size fork w v = v.sizes
-sizes_after (unshare_size seen) fork w v = without_size fork v.sizes
-sizes_after unexclude_size fork w v = without_size fork v.sizes
-sizes_after k fork w v = size_hold_after k fork w (size_hold v fork) ∷ without_size fork v.sizes
+abbrev pub size_holds_after : SizeKind → ℕ → SizeWord → View → List SizeHold
+size_holds_after load_size fork w v = v.sizes
+size_holds_after (unshare_size seen) fork w v = without_size fork v.sizes
+size_holds_after unexclude_size fork w v = without_size fork v.sizes
+size_holds_after k fork w v = size_hold_after k fork w (size_hold v fork) ∷ without_size fork v.sizes
 
 -- under an exclusive content lock the growth is an entry that was made
 abbrev pub entered_under : Content → Bool → Bool
@@ -192,7 +192,7 @@ size_steps _ = 1
 abbrev pub view_sized : SizeKind → ℕ → State → View → View
 view_sized k fork s v = record v {
   links = links_after k v;
-  sizes = sizes_after k fork (s.size fork) v;
+  sizes = size_holds_after k fork (s.size fork) v;
   loads = v.loads ++ map (load_of v) (sizes_seen k fork s);
   steps = v.steps + size_steps k;
   residents = residents_sized k s v.residents;
