@@ -1,4 +1,5 @@
--- Steps at the words after those of the frames: the log's end, the flushed position, the clock's hand, the counters, and the hint words.
+-- Steps at the words after those of the frames: the log's end, the flushed and the redo position,
+-- the clock's hand, the counters, and the hint words.
 use Rattle.std.specs.Prelude.{◌≡◌, ◌≢◌, ℕ, ◌+◌, ◌*◌, ◌<◌, ◌≤◌, false, true, [], ◌∷◌, ◌++◌, Option, Some, None, unwrap_or}
 use mathlib.Core.Option.{some}
 use lib.ListN.{get_elem?}
@@ -135,6 +136,6 @@ module _ {L G : Type 0} where
   abbrev pub tells_hint : ℕ → ℕ → Step (Value L G) → Me (Value L G) View → ℕ → Me (Value L G) View → Type 0
   tells_hint n number st m found m' = tells_word (load_hint number) st m found m' × (found ≤ n)
 
-  -- a load of a counter: it is no more than 64 backends may add
+  -- a load of a counter: it is at most what 64 backends may add
   abbrev pub tells_counter : ℕ → Step (Value L G) → Me (Value L G) View → ℕ → Me (Value L G) View → Type 0
   tells_counter number st m found m' = tells_word (load_counter number) st m found m' × (found ≤ 64 * most_published)

@@ -52,7 +52,7 @@ impl<L: BlockLane, G: LogDevice> FrameTable<L, G> {
         self.table.shared.fetch_add::<StepAt<D>>(seat, at, more);
     }
 
-    /// Adds to a counter. A backend adds no more to one than its 48 bits hold.
+    /// Adds to a counter. All that one backend adds to it is less than 2^48.
     pub fn add_counter(&self, seat: &mut Seat<Value<L, G>, View>, number: u32, more: u64)
         requires seat { IsSeat self.now seat.old }
         requires below { number < counter_count }

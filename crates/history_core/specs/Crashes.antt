@@ -24,7 +24,8 @@ pub record IsExcepted (s : State) (es : List Entry) (tag : ℕ) : Type 0 where
   pub none : (k : ℕ) (e : Entry) → IsEntryOf es tag k e → ⊥
   pub lost : (unsynced s tag ≡ true) ⊎ (failed s tag ≡ true)
 
--- where an entry changes bytes of the block's page, no sound page had a position past the log's base at the start. It says nothing of a block with whole pages alone, or with no entry
+-- if an entry changes bytes of the block's page, no sound page had a position past the log's base
+-- at the start. It says nothing of a block with whole pages alone, or with no entry
 abbrev pub RangesStartAtBase : State → List Entry → ℕ → Type 0
 RangesStartAtBase s es tag = (k : ℕ) (e : Entry) (spans : List Span) → get_elem? es k ≡ some e → e.change ≡ ranges tag spans → StartsAtBase s
 
@@ -32,7 +33,9 @@ RangesStartAtBase s es tag = (k : ℕ) (e : Entry) (spans : List Span) → get_e
 abbrev pub StartsSynced : State → ℕ → Type 0
 StartsSynced s tag = s.unsynced_at_start tag ≡ false
 
--- What redo needs of a block: one of the entries has its whole page; or the contents of its lane are known, it had been synced when the table was opened over it, and where an entry changes bytes of it the log began past the pages' positions
+-- What redo needs of a block: one of the entries has its whole page; or the contents of its lane
+-- are known, it had been synced when the table was opened over it, and if an entry changes bytes
+-- of it the log began past the pages' positions
 abbrev pub CanRedo : State → List Entry → ℕ → Type 0
 CanRedo s es tag = HasWholePage es tag ⊎ ((s.known tag ≡ true) × StartsSynced s tag × RangesStartAtBase s es tag)
 
@@ -40,6 +43,7 @@ CanRedo s es tag = HasWholePage es tag ⊎ ((s.known tag ≡ true) × StartsSync
 abbrev pub RedoGives : State → (ℕ → Option Page) → List Entry → ℕ → Type 0
 RedoGives s pages es tag = (cell pages es tag ≡ cell s.origin es tag) ⊎ (IsExcepted s es tag × IsUnentered s tag)
 
--- Redo makes each surviving entry's change, in order, on the pages that a crash left, whatever these pages' own positions are. It says nothing of blocks that aren't there
+-- Redo makes each surviving entry's change, in order, on the pages that a crash left,
+-- whatever these pages' own positions are. It says nothing of blocks that aren't there
 abbrev pub CrashesRedo : State → Type 0
 CrashesRedo s = (pages : ℕ → Option Page) (es : List Entry) → Crashed s pages es → (tag : ℕ) → is_block s.pool.core tag ≡ true → CanRedo s es tag → RedoGives s pages es tag
