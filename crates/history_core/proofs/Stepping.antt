@@ -49,7 +49,7 @@ use Rattle.history_core.specs.Log.{is_of_page, record_size, AreOfPages, Entry, I
 use Rattle.history_core.specs.State.{Lane, Device, State, stored, stored_upto, failed}
 use Rattle.history_core.specs.Lanes as lane_kinds
 use Rattle.history_core.specs.Lanes.{swept_by, LaneKind, LaneAllowed, lane_after, lane_hold_after, lane_shape, lane_part}
-use Rattle.history_core.specs.Homes.{Home, home_of, IsClean, HomeLink, home_shape, home_part, IsUnframed, Extends, IsFresh, IsFlushedCell}
+use Rattle.history_core.specs.Homes.{Home, home_of, IsClean, HomeLink, home_shape, home_part, IsUnframed, AddsBlock, IsUnwrittenNew, IsFlushedCell}
 use Rattle.history_core.specs.Invariant.{HistoryLaw, written_of, HistoryInvariant}
 use Rattle.history_core.specs.Steps.{has_seen_size, Event, IsPlain, PoolAllowed, stepped, looked, aside, pool_after, pool_noting, CanNoteLaneRead, paged, laned, LaneAlone, CanWrite, MayWriteLane, Notes, new_entry, CanEnter, CanRead, has_read, logged_as, test_of, MayPass, has_written, Step, pools, lanes, writes, notes, enters, reads, logs, Run, rests, goes, words, after_word, state_after_word, has_raised, MakesPage, reads_size}
 use Rattle.history_core.specs.Words.{WordKind, load_end, begin_checkpoint, load_flushed, raise_flushed, load_redo, raise_redo, WordAllowed}
@@ -205,9 +205,9 @@ no_resize : (g o n : ℕ) → is_of_page (resize g o n) ≡ true → ⊥
 no_resize g o n x = absurd (cc)
 
 -- a block that was fresh stays so, where the log has one entry more, of a page
-fresh_longer : (es : List Entry) (x : Entry) (tag : ℕ) (a b : Home) → is_of_page x.change ≡ true → b.inside ≡ a.inside → b.stored_upto ≡ a.stored_upto → b.stored ≡ a.stored → b.held ≡ a.held → IsFresh es tag a → IsFresh (es ++ x ∷ []) tag b
+fresh_longer : (es : List Entry) (x : Entry) (tag : ℕ) (a b : Home) → is_of_page x.change ≡ true → b.inside ≡ a.inside → b.stored_upto ≡ a.stored_upto → b.stored ≡ a.stored → b.held ≡ a.held → IsUnwrittenNew es tag a → IsUnwrittenNew (es ++ x ∷ []) tag b
 fresh_longer es x tag a b of_page inside upto stored held is = record {
-  fresh = ⊎_elim (λ (y : a.inside ≡ false). inl (inside ∙ y)) (λ (y : Extends es a.stored_upto tag). inr (record {
+  fresh = ⊎_elim (λ (y : a.inside ≡ false). inl (inside ∙ y)) (λ (y : AddsBlock es a.stored_upto tag). inr (record {
     index = y.index;
     entry = y.entry;
     there = at_longer es (x ∷ []) y.index y.entry y.there;
@@ -439,7 +439,7 @@ module _ (s : State) (h : HistoryInvariant s) (i q f : ℕ) (noted : Bool) (k : 
         flushed_cells = λ t. let x = h.flushed_cells t in record {
           based = x.based;
           within = x.within;
-          is_cell = λ known ok. ⊎_elim (λ (is : stored s t ≡ cell s.origin (cut (stored_upto s t) s.log.entries) t). inl is) (λ (is : IsFresh s.log.entries t (home_of s t)). inr (record { fresh = is.fresh; page = is.page })) (x.is_cell known ok);
+          is_cell = λ known ok. ⊎_elim (λ (is : stored s t ≡ cell s.origin (cut (stored_upto s t) s.log.entries) t). inl is) (λ (is : IsUnwrittenNew s.log.entries t (home_of s t)). inr (record { fresh = is.fresh; page = is.page })) (x.is_cell known ok);
         };
       })))
 
@@ -646,9 +646,9 @@ reads_size_step s h i fork v there right = let w : View = looked (seen.LogEnd s.
 
 -- The lane holds the block's page after the entries up to what it is noted to have, since forks don't grow yet
 pub lane_cell : (s : State) → HistoryInvariant s → (tag : ℕ) → is_block s.pool.core tag ≡ true → s.known tag ≡ true → failed s tag ≡ false → stored s tag ≡ cell s.origin (cut (stored_upto s tag) s.log.entries) tag
-lane_cell s h tag block known ok = ⊎_elim (λ (is : stored s tag ≡ cell s.origin (cut (stored_upto s tag) s.log.entries) tag). is) (λ (x : IsFresh s.log.entries tag (home_of s tag)). absurd (⊎_elim
+lane_cell s h tag block known ok = ⊎_elim (λ (is : stored s tag ≡ cell s.origin (cut (stored_upto s tag) s.log.entries) tag). is) (λ (x : IsUnwrittenNew s.log.entries tag (home_of s tag)). absurd (⊎_elim
     (λ (out : is_block s.pool.core tag ≡ false). flags_differ (sym out ∙ block))
-    (λ (y : Extends s.log.entries (stored_upto s tag) tag). no_resize (tag_fork tag) (tag_block tag) (tag_block tag + 1) (subst (λ (c : Change). is_of_page c ≡ true) y.grows (plain s h y.index y.entry y.there))) x.fresh)) ((h.flushed_cells tag).is_cell known ok)
+    (λ (y : AddsBlock s.log.entries (stored_upto s tag) tag). no_resize (tag_fork tag) (tag_block tag) (tag_block tag + 1) (subst (λ (c : Change). is_of_page c ≡ true) y.grows (plain s h y.index y.entry y.there))) x.fresh)) ((h.flushed_cells tag).is_cell known ok)
 
 -- the flushed position rises to the log's end, whose bytes are durable
 raised_state : (t : State) → HistoryInvariant t → length (log_bytes t.names t.log) ≤ t.device.synced → HistoryInvariant (record t { flushed = max t.flushed t.end })
@@ -863,7 +863,7 @@ module _ (s : State) (h : HistoryInvariant s) (i f : ℕ) (p : Page) (ch : Chang
           based = y.based;
           within = y.within;
           is_cell = λ known ok. ⊎_elim (λ (is : stored s t ≡ cell s.origin (cut (stored_upto s t) s.log.entries) t). inl (is ∙ ap (λ (es : List Entry). cell s.origin es t) (sym (cut_longer (stored_upto s t) s.log.entries entry (let a = y.within in let c = h.flushed_to in omega (arith, some_size ch))))))
-              (λ (is : IsFresh s.log.entries t (home_of s t)). inr (fresh_longer s.log.entries entry t (home_of s t) (home_of entered t) of_page refl refl refl refl is)) (y.is_cell known ok);
+              (λ (is : IsUnwrittenNew s.log.entries t (home_of s t)). inr (fresh_longer s.log.entries entry t (home_of s t) (home_of entered t) of_page refl refl refl refl is)) (y.is_cell known ok);
         };
       }
 

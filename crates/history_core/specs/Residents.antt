@@ -1,4 +1,4 @@
--- The blocks that backends have seen in frames: while none has taken a tag from a frame, each is there.
+-- The blocks that backends have seen in frames: while none has erased a tag, each is there.
 use Rattle.std.specs.Prelude.{◌≡◌, ◌≢◌, ◌⊎◌, ℕ, ◌<◌, true, false, List, [], ◌∷◌, ◌++◌, Some}
 use mathlib.Core.Option.{some}
 use lib.ListN.{get_elem?}
@@ -17,7 +17,7 @@ pub record HasBlock (frame : ℕ → Frame) (r : Resident) : Type 0 where
   pub tag : (frame r.frame).tag ≡ r.tag
   pub valid : (frame r.frame).word.valid ≡ true
 
--- So it is with a block that a view has seen there, and no load has shown it otherwise
+-- A listed block is there: the frame has its tag and is valid, and no load has shown otherwise
 pub record IsResident (frames : ℕ) (frame : ℕ → Frame) (r : Resident) : Type 0 where
   pub inside : r.frame < frames
   pub there : r.gone ≡ false
@@ -27,15 +27,15 @@ pub record IsResident (frames : ℕ) (frame : ℕ → Frame) (r : Resident) : Ty
 abbrev pub AreResident : ℕ → (ℕ → Frame) → List View → Type 0
 AreResident frames frame views = (i k : ℕ) (v : View) (r : Resident) → get_elem? views i ≡ some v → get_elem? v.residents k ≡ some r → IsResident frames frame r
 
--- how many tags the backends have taken from frames, those too that were joined into the first
+-- how many tags the backends have erased, those too that were joined into the first
 abbrev pub cleared_by : List View → ℕ
 cleared_by views = total (λ (v : View). v.cleared) views
 
--- while no backend has taken a tag from a frame, each block that a view has seen is there
+-- while no backend has erased a tag, each block that a view lists is there
 abbrev pub ResidentsStay : State → Type 0
 ResidentsStay s = cleared_by s.pool.core.views ≡ 0 → AreResident s.pool.core.frames s.pool.core.frame s.pool.core.views
 
--- so where a load has shown that one is there no more, or where it isn't, some view has taken a tag
+-- if a load has shown that a listed block isn't there, or if it isn't, some view has erased a tag
 abbrev pub LostWereCleared : State → Type 0
 LostWereCleared s = (i k : ℕ) (v : View) (r : Resident) → get_elem? s.pool.core.views i ≡ some v → get_elem? v.residents k ≡ some r → (r.gone ≡ true) ⊎ (¬ HasBlock s.pool.core.frame r)
     → (j : ℕ) × (u : View) × (get_elem? s.pool.core.views j ≡ some u) × (u.cleared ≢ 0)

@@ -99,7 +99,7 @@ pub fn all_histories()
     ensures others { (s : State) → Laws s → OthersHaveNoPage s.pool }
     ensures by_log { (s : State) → Laws s → SizesFollowLog s }
 
-    // and of the frames:
+    // of the frames:
     ensures sound { (s : State) → Laws s → FramesAreSound s }
     ensures shows_sound { (s : State) → Laws s → ShowsSound s }
     ensures unsound { (s : State) → Laws s → UnsoundStay s }
@@ -153,12 +153,14 @@ pub fn ends_in_history()
     ensures { (s : State) → Laws s → EndsInHistory s }
 {}
 
-/// What the views list of the changes of state words, of the stores of hint words and of what they added to the counters, count of the moves of the clock's hand, and keep of where they raised the flushed position fixes each frame's state word, each hint word, each counter, where the hand stands, and the flushed position.
+/// Two states with the same views have the same state words, hint words, counters, flushed position
+/// and place of the clock's hand; and the same redo position, if their logs begin at one place.
 pub fn lists_fix_words()
     ensures { (s : State) (t : State) → Laws s → Laws t → s.pool.core.views ≡ t.pool.core.views → HasSameWords s t }
 {}
 
-/// A change of a state word that a view lists is made, and none that no view lists; and so with the stores of hint words, with what is added to the counters, with the moves of the clock's hand, and with where the flushed position was raised to.
+/// What a view lists of changes, stores, additions, moves and raised positions was made, and
+/// nothing that no view lists.
 pub fn listed_changes_are_made()
     ensures { (s : State) (t : State) → Laws s → Laws t → ListedIsMade s t }
 {}

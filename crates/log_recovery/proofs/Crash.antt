@@ -13,8 +13,8 @@ use Rattle.pin_core.specs.State.{Page}
 use Rattle.history_core.specs.Log.{Change, image, ranges, resize, Entry, Log, IsEntryOf, change_size, record_size, is_image, log_bytes, end_of, tag_in, page_after, changed_page, cell}
 use Rattle.history_core.specs.State.{State, stored, unsynced, last_position}
 use Rattle.history_core.specs.Laws.{Laws}
-use Rattle.history_core.specs.Redo.{CanFollow, HasWhole}
-use Rattle.history_core.specs.Crashes.{Survives, Crashed, RangesAreBased, StartsSynced, CanRedo, RedoGives, IsExcepted}
+use Rattle.history_core.specs.Redo.{CanFollow, HasWholePage}
+use Rattle.history_core.specs.Crashes.{Survives, Crashed, RangesStartAtBase, StartsSynced, CanRedo, RedoGives, IsExcepted}
 use Rattle.history_core.specs.Crashes as crash
 use Rattle.history_core.specs.Unentered.{IsUnentered}
 use Rattle.history_core.proofs.Crashes.{crashes_redo}
@@ -46,10 +46,10 @@ without_at [] k e at = absurd (some-ne-none e (sym at))
 without_at (d ∷ es) zero e at = ap (λ (x : Entry). some (record x { backend = 0 })) (some-injective d e at)
 without_at (d ∷ es) (suc k) e at = without_at es k e at
 
-whole_with : (es : List Entry) (tag : ℕ) → HasWhole (without_backends es) tag → HasWhole es tag
+whole_with : (es : List Entry) (tag : ℕ) → HasWholePage (without_backends es) tag → HasWholePage es tag
 whole_with es tag (k, d, p, at, is) = let x = with_backend_at es k d at in (k, x.0, p, x.1, sym x.2 ∙ is)
 
-ranges_with : (s : State) (es : List Entry) (tag : ℕ) → RangesAreBased s (without_backends es) tag → RangesAreBased s es tag
+ranges_with : (s : State) (es : List Entry) (tag : ℕ) → RangesStartAtBase s (without_backends es) tag → RangesStartAtBase s es tag
 ranges_with s es tag h k e spans at is = h k (record e { backend = 0 }) spans (without_at es k e at) is
 
 none_with : (es : List Entry) (tag : ℕ) → ((k : ℕ) (e : Entry) → IsEntryOf es tag k e → ⊥) → (k : ℕ) (d : Entry) → IsEntryOf (without_backends es) tag k d → ⊥

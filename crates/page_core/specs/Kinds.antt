@@ -46,7 +46,7 @@ pub data Kind : Type 0 where
   page_back : Kind
   -- the lane gave this page of the block (`smgrread`)
   note_read : Page → Kind
-  -- the page of a block by which the fork is to grow is noted as if the lane had given it: it is all zero (`smgrzeroextend`)
+  -- a new block's page is noted as if the lane had given it: it is all zero (`smgrzeroextend`)
   note_zero : Kind
   -- a write of the frame's page to its lane begins: what was noted of an earlier one goes (`smgrwrite`)
   begin_write : Kind
@@ -127,14 +127,15 @@ pub record CanOverwriteRead (p : Page) (fr : Frame) (l : Link) : Type 0 where
 pub record CanReturnPage (fr : Frame) (l : Link) : Type 0 where
   pub out : l.out ≢ None
 
--- the page is the block's page after the log, where that is known, and no earlier read is just being put into the frame; the block isn't one by which the fork is to grow
+-- The block isn't new. The page is its page after the log, if that is known; no earlier read is
+-- just being put into the frame
 pub record CanNoteRead (p : Page) (b : Block) (fr : Frame) (l : Link) : Type 0 where
   pub right : l.io ≡ Input
   pub fresh : l.overwritten ≡ None
   pub given : (q : Page) → b.logged ≡ Some q → q ≡ p
   pub unnoted : l.noted ≡ false
 
--- no page of the block is in the log
+-- the block is new; its page after the log, if there is one, is all zero
 pub record CanNoteZero (b : Block) (fr : Frame) (l : Link) : Type 0 where
   pub right : l.io ≡ Input
   pub fresh : l.overwritten ≡ None
@@ -144,7 +145,8 @@ pub record CanNoteZero (b : Block) (fr : Frame) (l : Link) : Type 0 where
 pub record CanNoteWrite (fr : Frame) (l : Link) : Type 0 where
   pub right : l.io ≡ Output
 
--- the entry's page is sound and not new (`PageIsVerifiedExtended`, `PageIsNew`); the block is there, and no entry of the view is unapplied at another frame (`AllowedAround`)
+-- the entry's page is sound and not new (`PageIsVerifiedExtended`, `PageIsNew`);
+-- the block is there, and no entry of the view is unapplied at another frame (`AllowedAround`)
 pub record CanMakeEntry (p : Page) (fr : Frame) (l : Link) : Type 0 where
   pub right : l.content ≡ Exclusive
   pub dirtied : l.dirtied ≡ true
@@ -152,7 +154,9 @@ pub record CanMakeEntry (p : Page) (fr : Frame) (l : Link) : Type 0 where
   pub sound : is_sound_page p ≡ true
   pub used : is_new_page p ≡ false
 
--- the header; the view has no input or output right, here or elsewhere, and the block is there, unless the view notes it (`AllowedAround`)
+-- the header;
+-- the view has no input or output right, here or elsewhere, and the block is there, unless the view
+-- notes it (`AllowedAround`)
 pub record CanStartInput (fr : Frame) (l : Link) : Type 0 where
   pub held : l.header ≡ Some fr.word
   pub settled : l.pending ≡ false
@@ -341,7 +345,7 @@ abbrev pub ended_after : Kind → Frame → Option StateWord → Option StateWor
 ended_after (end_io end) fr ended = Some (unlocked_fields (io_ended_fields end fr.word))
 ended_after _ fr ended = ended
 
--- the blocks that the view has seen in frames, with the one that the end of a good read shows: it sets BM_VALID
+-- the end of a good read sets BM_VALID, so the block that the pin knows is listed
 abbrev pub sighted_by : IoEnd → Option ℕ → ℕ → List Resident
 sighted_by ReadOk known f = sighted true known f
 sighted_by WriteOk known f = []

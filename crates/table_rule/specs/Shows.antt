@@ -240,7 +240,8 @@ module _ {L G : Type 0} where
     pub base : s.base ≡ o.base
     pub partitions : s.partitions ≡ 128
     pub partition_of : s.partition_of ≡ tag_partition
-    -- the blocks are those of the catalogue, and the log names them by it; forks don't grow or shrink on the table
+    -- the blocks are those of the catalogue, and the log names them by it;
+    -- forks don't grow or shrink on the table
     pub is_fork : s.is_fork ≡ is_fork o.catalog.value
     pub sizes : s.sizes ≡ fork_size o.catalog.value
     pub resizes : s.resizes ≡ false
