@@ -51,7 +51,7 @@ use Rattle.history_core.specs.Lanes as lane_kinds
 use Rattle.history_core.specs.Lanes.{swept_by, LaneKind, LaneAllowed, lane_after, lane_hold_after, lane_shape, lane_part}
 use Rattle.history_core.specs.Homes.{Home, home_of, IsClean, HomeLink, home_shape, home_part, IsUnframed, AddsBlock, IsUnwrittenNew, IsFlushedCell}
 use Rattle.history_core.specs.Invariant.{HistoryLaw, written_of, HistoryInvariant}
-use Rattle.history_core.specs.Steps.{has_seen_size, Event, IsPlain, PoolAllowed, stepped, looked, aside, pool_after, pool_noting, CanNoteLaneRead, paged, laned, LaneAlone, CanWrite, MayWriteLane, Notes, new_entry, CanEnter, CanRead, has_read, logged_as, test_of, MayPass, has_written, Step, pools, lanes, writes, notes, enters, reads, logs, Run, rests, goes, words, after_word, state_after_word, has_raised, MakesPage, reads_size}
+use Rattle.history_core.specs.Steps.{has_seen_size, Event, IsPlain, PoolAllowed, stepped, looked, aside, pool_after, pool_noting, CanNoteLaneRead, paged, laned, LaneAlone, CanWrite, MayWriteLane, Notes, new_entry, CanEnter, CanRead, has_read, logged_as, test_of, MaySkipImage, has_written, Step, pools, lanes, writes, notes, enters, reads, logs, Run, rests, goes, words, after_word, state_after_word, has_raised, MakesPage, reads_size}
 use Rattle.history_core.specs.Words.{WordKind, load_end, begin_checkpoint, load_flushed, raise_flushed, load_redo, raise_redo, WordAllowed}
 use Rattle.history_core.specs.Device.{LogKind, take_log, leave_log, log_out, append, fail_append, sync_log, fail_sync, log_back, see_down, LogAllowed, device_after, view_logged, log_weigh, log_shape, log_part}
 use Rattle.history_core.proofs.Device.{log_keeps, enter_keeps, end_keeps, redo_keeps, synced_all}
@@ -790,7 +790,7 @@ module _ (s : State) (h : HistoryInvariant s) (i f : ℕ) (p : Page) (ch : Chang
       by_test (Some r) (Some q) e is known = (q, copied_cell s h i f v there inside named q e known, ap (λ (x : ImageTest). x.before) (same_Some (record { redo = r; before = lsn_of q }) t is))
 
   -- a record shorter than that of a whole page passed the redo position
-  past_now : (c : Change) → MayPass c v.log (link v f) → change_size c < record_size → (t : ImageTest) × (test_of v.log.redo (link v f).copied ≡ Some t) × (t.redo < t.before)
+  past_now : (c : Change) → MaySkipImage c v.log (link v f) → change_size c < record_size → (t : ImageTest) × (test_of v.log.redo (link v f).copied ≡ Some t) × (t.redo < t.before)
   past_now (image t q) y short = absurd (omega arith)
   past_now (ranges t spans) y short = (record { redo = y.redo; before = lsn_of y.before }, ap (λ (r : Option ℕ). test_of r (link v f).copied) y.loaded ∙ ap (test_of (Some y.redo)) y.copied, y.past)
   past_now (resize fork o n) y short = absurd y

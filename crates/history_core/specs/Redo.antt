@@ -65,7 +65,7 @@ ChosenBy s (Write backend tag page place logged) = (t : ImageTest) → logged.te
 -- of ranges that starts at a redo position or after it follows an entry of its block's whole page
 -- that does too, if the contents of the block's lane are known
 abbrev pub RangesFollowImages : State → Type 0
-RangesFollowImages s = StartsBased s → (tag r k : ℕ) (e : Entry) (spans : List Span) → HasBeenRedo s r → get_elem? s.log.entries k ≡ some e → e.change ≡ ranges tag spans → s.known tag ≡ true → r ≤ e.start → FollowsImage s.log.entries tag r k
+RangesFollowImages s = StartsAtBase s → (tag r k : ℕ) (e : Entry) (spans : List Span) → HasBeenRedo s r → get_elem? s.log.entries k ≡ some e → e.change ≡ ranges tag spans → s.known tag ≡ true → r ≤ e.start → FollowsImage s.log.entries tag r k
 
 -- the redo position by which a write's record was tested had stood before the record was made
 abbrev pub TestsStood : State → Type 0
