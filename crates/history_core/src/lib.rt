@@ -8,6 +8,7 @@
 
 ghost use Rattle.std.specs.Prelude.{◌≡◌, ℕ, ◌<◌, List};
 ghost use Rattle.pin_core.specs.State.{CanOpen, Config, Page};
+ghost use Rattle.pin_core.specs.Sizes.{NotedAreAtSize, PassedAreFree};
 ghost use Rattle.pin_core.specs.Schedules.{TagsAreUnique, TagWordsAreBlocks, PinsRemember, SizeRights, SizesAreLogged, SeenBlocksStay};
 ghost use Rattle.page_core.specs.Histories.{CleanupIsAlone};
 ghost use Rattle.page_core.specs.Invariant.{OthersHaveNoPage};
@@ -96,6 +97,8 @@ pub fn all_histories()
     ensures seen_blocks { (s : State) → Laws s → SeenBlocksStay s.pool.core }
     ensures new_blocks { (s : State) → Laws s → NewBlocksAreZero s.pool }
     ensures tags { (s : State) → Laws s → TagWordsAreBlocks s.pool.core }
+    ensures noted { (s : State) → Laws s → NotedAreAtSize s.pool.core }
+    ensures passed { (s : State) → Laws s → PassedAreFree s.pool.core }
     ensures others { (s : State) → Laws s → OthersHaveNoPage s.pool }
     ensures by_log { (s : State) → Laws s → SizesFollowLog s }
 

@@ -204,3 +204,9 @@ returns-clause-tags c = λ s r. sized.tag_words s.pool.core r.invariant.pool.siz
 
 pub returns-clause-others : goal.returns-clause-others
 returns-clause-others c = λ s r. r.invariant.pool.gone
+
+pub returns-clause-noted : goal.returns-clause-noted
+returns-clause-noted c = λ s r. r.invariant.pool.sizes.noted
+
+pub returns-clause-passed : goal.returns-clause-passed
+returns-clause-passed c = λ s r. r.invariant.pool.sizes.passed
