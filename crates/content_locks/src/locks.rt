@@ -1,4 +1,7 @@
 //! Content locks (`LockBuffer`).
+//!
+//! A try looks once and exchanges once. So it may be refused because the word changed meanwhile,
+//! though no holder is in conflict.
 ghost use Rattle.std.specs.Prelude.{◌≡◌, ℕ, IfErr, IfOk};
 ghost use Rattle.pin_core.specs.State.{link};
 ghost use Rattle.page_core.specs.Kinds as kinds;

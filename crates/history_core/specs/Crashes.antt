@@ -1,4 +1,7 @@
 -- What a crash leaves of the lanes and of the log, and what redo makes of it.
+-- A crash is no step: `Crashed` says what one may leave of a state. Which blocks it may tear
+-- follows from the lanes' own lists of unsynced blocks, which there are whether or not contents are
+-- known.
 use Rattle.std.specs.Prelude.{◌≡◌, ℕ, ◌<◌, ◌⊎◌, true, false, List, [], ◌∷◌, ◌++◌, length, Option}
 use mathlib.Core.Option.{some}
 use lib.ListN.{get_elem?}

@@ -1,4 +1,8 @@
 -- The blocks of the frames: what their lanes hold.
+-- One number says which entries a lane has: each good write raises a block's position to that of
+-- its page. Log before data and checkpoints both use it, and no device has to keep it.
+-- A checkpoint says nothing of a block whose last write failed, until a good one: its frame is
+-- dirty, so the page isn't lost.
 use Rattle.std.specs.Prelude.{◌≡◌, ◌≢◌, ◌⊎◌, ℕ, ◌+◌, ◌<◌, ◌≤◌, Bool, true, false, List, Option, Some}
 use Rattle.pin_core.specs.declared.view.LastWrite.TheVariants.{Done}
 use Rattle.pin_core.specs.declared.view.Link.{Link}

@@ -1,4 +1,6 @@
 -- The write-ahead log, the pages of blocks that follow from it, and what backends read and wrote.
+-- An image is always allowed, ranges only if `ranges` says so; a table's log has images alone.
+-- Ranges are put into the page that was copied under the lock. No step enters a size.
 use Rattle.std.specs.Prelude.{◌≡◌, ◌≢◌, ◌⊎◌, ℕ, ◌+◌, ◌-◌, ◌*◌, ◌/◌, ◌%◌, ◌<◌, ◌≤◌, Bool, true, false, ◌&&◌, List, [], ◌∷◌, ◌++◌, length, take, drop, replicate, nat_eq, nat_le, nat_lt, Option, Some, None, option_map, if◌then◌else◌}
 use mathlib.Core.Option.{some}
 use lib.ListN.{get_elem?}
@@ -206,7 +208,9 @@ unfoldable pub page_after : ℕ → List Entry → Option Page → Option Page
 page_after tag [] p = p
 page_after tag (e ∷ es) p = page_after tag es (changed_page e.change (end_of e) tag p)
 
--- each block's page after these entries, where `origin` is what it was before them
+-- each block's page after these entries, where `origin` is what it was before them.
+-- Redo does the same on what a crash left, so the claim of redo is that two folds agree. A block
+-- past its fork's end has no page, and each block of the relations has one.
 abbrev pub cell : (ℕ → Option Page) → List Entry → ℕ → Option Page
 cell origin es tag = page_after tag es (origin tag)
 

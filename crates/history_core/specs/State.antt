@@ -1,4 +1,7 @@
 -- The buffer pool with the lanes that hold its blocks, and the log.
+-- From outside come the numbers of partitions and lanes, the functions from tags to them, the forks
+-- and their sizes, and how the log names a block. The table has 128 partitions, the hash of
+-- `block_tag`, and the forks and names of its catalogue.
 use Rattle.std.specs.Prelude.{◌≡◌, ℕ, ◌+◌, ◌<◌, ◌≤◌, Bool, true, false, List, [], length, nat_eq, Option, None, if◌then◌else◌}
 use Rattle.std.specs.Option.{is_some}
 use Rattle.pin_core.specs.State.{Page, Config, is_below}
@@ -54,6 +57,7 @@ pub record Device : Type 0 where
   pub down : Option ℕ
 
 -- the greatest position that a log may reach: 2 to the power 62
+-- (so no sum of positions overflows)
 abbrev pub last_position : ℕ
 last_position = 4611686018427387904
 

@@ -1,4 +1,7 @@
 -- The words of the table that no frame and no latch has, and the kinds of step at one.
+-- What the kinds here make of view and state is written once, with the kind as a variable, so a new
+-- word costs no law that doesn't speak of it. A read's place adds to the calls, so it is a step of
+-- its own.
 use Rattle.std.specs.Prelude.{◌≡◌, ℕ, ◌+◌, ◌*◌, ◌<◌, ◌≤◌, Bool, true, false, max, nat_eq, Some, if◌then◌else◌}
 use Rattle.pin_core.specs.declared.view.View.{View}
 use Rattle.history_core.specs.Balances.{added_to}

@@ -63,7 +63,9 @@ pub data Kind : Type 0 where
   end_io : IoEnd → Kind
   -- the backend of this number, which has the exclusive lock, begins to wait until its pin is the only one (`LockBufferForCleanup`)
   set_waiter : ℕ → Kind
-  -- the waiter is woken: the pin that is left is the only one (`UnpinBuffer`)
+  -- the waiter is woken: the pin that is left is the only one (`UnpinBuffer`).
+  -- Only the word changes, so a backend may still wait after its bit was cleared. The backend that
+  -- wakes it has just given its own pin up, and needs none.
   clear_waiter : Kind
   -- the backend's checkpoint passes the frame, which it has still to write (`BufferSync`)
   need_checkpoint : Kind
@@ -106,7 +108,9 @@ pub record CanLeaveCopy (fr : Frame) (l : Link) : Type 0 where
   pub right : l.copying ≡ true
   pub page_home : l.out ≡ None
 
--- the exclusive lock, the copy latch, or the input right
+-- the exclusive lock, the copy latch, or the input right.
+-- While a page is out its holder keeps its shared lock, since another backend may not have finished
+-- its copy. An entry is applied when the page that is out is overwritten, not when it comes back.
 pub record CanTakePage (fr : Frame) (l : Link) : Type 0 where
   pub page_home : l.out ≡ None
   pub shared : l.content ≡ Shared → l.copying ≡ true
@@ -128,7 +132,10 @@ pub record CanReturnPage (fr : Frame) (l : Link) : Type 0 where
   pub out : l.out ≢ None
 
 -- The block isn't new. The page is its page after the log, if that is known; no earlier read is
--- just being put into the frame
+-- just being put into the frame.
+-- A read is noted once under an input right: if contents aren't known a second could give another
+-- page, and the first would come home. From an unknown lane any page may be noted, and what was
+-- known of the block's page is forgotten; its entries are all in the lane.
 pub record CanNoteRead (p : Page) (b : Block) (fr : Frame) (l : Link) : Type 0 where
   pub right : l.io ≡ Input
   pub fresh : l.overwritten ≡ None
@@ -214,7 +221,9 @@ pub record CanClearWaiter (fr : Frame) (l : Link) : Type 0 where
   pub awaited : fr.word.awaited ≡ true
   pub single : fr.word.pins ≡ 1
 
--- a dirty frame, whether the view's checkpoint has visited it or not: a load while the view waited for the header may have
+-- a dirty frame, whether the view's checkpoint has visited it or not: a load while the view waited for the header may have.
+-- A load without a checkpoint may too: the view's position is 0 then, and every entry ends past
+-- that, so its marks say nothing.
 pub record CanNeedCheckpoint (fr : Frame) (l : Link) : Type 0 where
   pub held : l.header ≡ Some fr.word
   pub settled : l.pending ≡ false

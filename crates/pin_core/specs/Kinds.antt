@@ -96,6 +96,7 @@ pub record CanUnlockHeader (fr : Frame) (l : Link) : Type 0 where
   pub settled : l.pending ≡ false
 
 -- The view is alone at the frame with its victim pin, under the header, and does nothing else there
+-- (with a content lock, a page that it had copied would no longer be of the frame's block)
 pub record IsAlone (fr : Frame) (l : Link) : Type 0 where
   pub held : l.header ≡ Some fr.word
   pub settled : l.pending ≡ false

@@ -85,7 +85,8 @@ pub record HoldsNothingAt (l : Link) : Type 0 where
   pub page_home : l.out ≡ None
   pub no_wait : l.waits ≡ None
 
--- The view holds nothing
+-- The view holds nothing.
+-- A backend starts and ends at any time; the first never ends, and one that ends holds nothing.
 pub record HoldsNothing (v : View) : Type 0 where
   pub frames : (f : ℕ) → HoldsNothingAt (link v f)
   pub partitions : (p : ℕ) → (hold v p).held ≡ false
@@ -118,6 +119,8 @@ pub data Step : Event → State → State → Type 0 where
   -- a new backend starts, with the first one's next number
   splits : {s : State} (v : View) → get_elem? s.views 0 ≡ some v → v.next < s.backends → Step split s (split_state s v)
   -- backend j, which holds nothing, is joined into the first
+  -- its front is taken in, and its checkpoint under its number; its loads, device calls, counts of
+  -- latches and steps, and last ended word aren't
   joins : {s : State} (j : ℕ) (v u : View) → get_elem? s.views 0 ≡ some v → j ≢ 0 → get_elem? s.views j ≡ some u → u.emptied ≡ false → HoldsNothing u → Step (join j) s (joined_state s v j u)
 
 -- the events lead from one state to the other

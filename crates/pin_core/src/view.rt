@@ -33,6 +33,8 @@ pub enum LastWrite {
 }
 
 /// What a backend has at one frame.
+/// By its form a view could hold headers, victim pins, I/O rights or unapplied entries at several
+/// frames. The conditions of the kinds allow one of each; no law says so.
 pub struct Link {
     pub role: Role,
     /// The tag that the pin remembers; none where it was not read.
