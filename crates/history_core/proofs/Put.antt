@@ -16,7 +16,7 @@ use Rattle.page_core.proofs.Sample.{at_frame}
 use Rattle.page_core.specs.Kinds.{share, unshare, exclude, unexclude, mark_dirty, page_out, overwrite_logged, page_back, begin_write, start_output, clear_just_dirtied, make_entry, note_write, end_io}
 use Rattle.page_core.specs.Steps as page_steps
 use Rattle.page_core.specs.Steps.{HasNoWriteOut}
-use Rattle.history_core.specs.Log.{record_size, head_bytes, records, log_bytes, image, change_size}
+use Rattle.history_core.specs.Log.{Change, record_size, head_bytes, records, log_bytes, image, change_size}
 use Rattle.history_core.specs.State.{State, last_position}
 use Rattle.history_core.specs.Lanes.{take_lane, leave_lane, lane_out, write_block, CanTakeOut, lane_after}
 use Rattle.history_core.specs.Device.{LogKind, take_log, leave_log, log_out, append, sync_log, log_back, device_after, view_logged}
@@ -39,10 +39,11 @@ is_flushed p is = omega (arith, is.ends)
 abbrev pub at_log : LogKind → State → State
 at_log k s = record s { pool = aside s.pool 0 (view_logged k (view_of s)); device = device_after k s.end s.device }
 
-abbrev entered : Page → State → State
-entered p s = let tag = (s.pool.core.frame 0).tag in let end = s.end + change_size (image 7 p) in record s {
-  pool = pool_after (make_entry p) s.pool 0 0 (has_written (image 7 p) (link (view_of s) 0).copied end tag p (steps.paged (make_entry p) s.pool 0 (view_of s)));
-  log = record s.log { entries = s.log.entries ++ new_entry s (view_of s).number (image 7 p) ∷ [] };
+-- the entry of the page p, which the change c makes
+abbrev pub entered : Change → Page → State → State
+entered c p s = let tag = (s.pool.core.frame 0).tag in let end = s.end + change_size c in record s {
+  pool = pool_after (make_entry p) s.pool 0 0 (has_written c (link (view_of s) 0).copied end tag p (steps.paged (make_entry p) s.pool 0 (view_of s)));
+  log = record s.log { entries = s.log.entries ++ new_entry s (view_of s).number c ∷ [] };
   end = end;
 }
 
@@ -74,7 +75,7 @@ abbrev q6 : Bool → Page → State
 q6 may p = at_log (log_back false) (q5 may p)
 
 abbrev q7 : Bool → Page → State
-q7 may p = entered p (q6 may p)
+q7 may p = entered (image 7 p) p (q6 may p)
 
 abbrev q8 : Bool → Page → State
 q8 may p = at_log leave_log (q7 may p)
@@ -88,7 +89,7 @@ q10 may p = paged overwrite_logged (q9 may p)
 abbrev q11 : Bool → Page → State
 q11 may p = paged page_back (q10 may p)
 
-abbrev q12 : Bool → Page → State
+abbrev pub q12 : Bool → Page → State
 q12 may p = paged unexclude (q11 may p)
 
 abbrev q13 : Page → State
@@ -206,7 +207,7 @@ pub one_record : (p : Page) → head_bytes 0 ++ put_bytes p ≡ log_bytes sample
 unfolding records
 one_record p = ap (λ (l : List ℕ). head_bytes 0 ++ l) (sym (append-nil (put_bytes p)))
 
-may_put : IsPut some_page
+pub may_put : IsPut some_page
 unfolding is_sound_page is_new_page header_of lsn_of
 may_put = record { sound = refl; used = refl; full = omega (arith, length-replicate {A = ℕ} 8168 0); ends = refl }
 

@@ -28,6 +28,7 @@ ghost use Rattle.history_core.specs.Steps.{Event, Run};
 ghost use Rattle.history_core.specs.Sample.{SampleRuns};
 ghost use Rattle.history_core.specs.Miss.{MissRuns};
 ghost use Rattle.history_core.specs.Put.{PutRuns};
+ghost use Rattle.history_core.specs.Ranges.{RangesRuns};
 ghost use Rattle.history_core.specs.Faults.{FaultRuns};
 ghost use Rattle.history_core.specs.Checkpoints.{CheckpointRuns};
 ghost use Rattle.history_core.specs.Evictions.{EvictionRuns, WaitRuns};
@@ -167,6 +168,11 @@ pub fn miss_and_read()
 /// An example: a backend puts any sound page into a frame that it has read a block into, makes the log durable, and writes the page to the block's lane.
 pub fn put_and_flush()
     ensures { PutRuns }
+{}
+
+/// An example: after a put of a whole page a backend logs a change of four bytes of the block as a record of byte ranges, since the page's position is past the redo position; then the redo position is raised to the log's end.
+pub fn put_ranges_and_raise_redo()
+    ensures { RangesRuns }
 {}
 
 /// An example: a backend fails to read a block from its lane into a frame; then it syncs the lane, and fails to sync it again.
