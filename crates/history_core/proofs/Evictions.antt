@@ -67,7 +67,16 @@ e11 = turned leave_turn e10
 abbrev e12 : State
 e12 = pooled pins.unpin e11
 
-evicts : Run evict (m22 false) e12
+abbrev e13 : State
+e13 = pooled pins.lock_header e12
+
+abbrev e14 : State
+e14 = pooled pins.load_tag e13
+
+abbrev e15 : State
+e15 = pooled pins.unlock_header e14
+
+evicts : Run evict (m22 false) e15
 evicts = goes (pools (page_steps.cores (pin_steps.touches 0 0 pins.unpin (view_of (m22 false)) refl refl (lit< tt) (record { unlocked = refl; pinned = λ e. cc; no_content = refl; no_io = refl; no_wait = refl; unnoted = refl }) tt)) tt)
     (goes (pools (page_steps.cores (pin_steps.touches 0 0 pins.lock_header (view_of e1) refl refl (lit< tt) (record { unlocked = refl }) (at_frame (λ (l : Link). l.header ≡ None) (view_of e1) _ refl refl refl))) tt)
     (goes (pools (page_steps.cores (pin_steps.touches 0 0 pins.pin_victim (view_of e2) refl refl (lit< tt) (record { held = refl; absent = refl; room = λ e. refl }) (at_frame (λ (l : Link). l.role ≢ Victim) (view_of e2) _ refl (λ e. cc) (λ e. cc)))) tt)
@@ -80,10 +89,13 @@ evicts = goes (pools (page_steps.cores (pin_steps.touches 0 0 pins.unpin (view_o
     (goes (pools (page_steps.cores (pin_steps.turns 0 0 (map_back []) (view_of e9) refl refl (lit< tt) (record { out = λ e. cc; entries_are = left_out }))) tt)
     (goes (pools (page_steps.cores (pin_steps.turns 0 0 leave_turn (view_of e10) refl refl (lit< tt) (record { held = refl; home = refl; no_change = refl }))) tt)
     (goes (pools (page_steps.cores (pin_steps.touches 0 0 pins.unpin (view_of e11) refl refl (lit< tt) (record { unlocked = refl; pinned = λ e. cc; no_content = refl; no_io = refl; no_wait = refl; unnoted = refl }) tt)) tt)
-    rests)))))))))))
+    (goes (pools (page_steps.cores (pin_steps.touches 0 0 pins.lock_header (view_of e12) refl refl (lit< tt) (record { unlocked = refl }) (at_frame (λ (l : Link). l.header ≡ None) (view_of e12) _ refl refl refl))) tt)
+    (goes (pools (page_steps.cores (pin_steps.touches 0 0 pins.load_tag (view_of e13) refl refl (lit< tt) (λ e. cc) tt)) tt)
+    (goes (pools (page_steps.cores (pin_steps.touches 0 0 pins.unlock_header (view_of e14) refl refl (lit< tt) (record { held = refl; settled = refl }) tt)) tt)
+    rests))))))))))))))
 
 pub evictions : EvictionRuns
-evictions = (e12, run_append (filled false) evicts, record { tag = refl; word = refl; mapped = refl; taken = refl })
+evictions = (e15, run_append (filled false) evicts, record { tag = refl; word = refl; mapped = refl; taken = refl; gone = (view_of e15, refl, refl, refl) })
 
 abbrev w1 : State
 w1 = record (m22 false) { pool = record (m22 false).pool { core = split_state (m22 false).pool.core (view_of (m22 false)) } }

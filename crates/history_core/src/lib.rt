@@ -185,7 +185,7 @@ pub fn checkpoint_and_join()
     ensures { CheckpointRuns }
 {}
 
-/// An example: a backend evicts the block that it has read into a frame.
+/// An example: a backend evicts the block that it has read into a frame; then a load of the tag shows it that the block is gone.
 pub fn read_and_evict()
     ensures { EvictionRuns }
 {}
