@@ -22,6 +22,7 @@ pub mod Rest
 pub mod Sample
 pub mod Miss
 pub mod Put
+pub mod Ranges
 pub mod Faults
 pub mod Checkpoints
 pub mod Evictions

@@ -32,6 +32,7 @@ ghost use Rattle.history_core.specs.Steps.{Event, Run};
 ghost use Rattle.history_core.specs.Sample.{SampleRuns};
 ghost use Rattle.history_core.specs.Miss.{MissRuns};
 ghost use Rattle.history_core.specs.Put.{PutRuns};
+ghost use Rattle.history_core.specs.Ranges.{RangesRuns};
 ghost use Rattle.history_core.specs.Faults.{FaultRuns};
 ghost use Rattle.history_core.specs.Checkpoints.{CheckpointRuns};
 ghost use Rattle.history_core.specs.Evictions.{EvictionRuns, WaitRuns};
@@ -183,6 +184,11 @@ pub fn put_and_flush()
     ensures { PutRuns }
 {}
 
+/// An example: after a put of a whole page a backend logs a change of four bytes of the block as a record of byte ranges, since the page's position is past the redo position; then the redo position is raised to the log's end.
+pub fn put_ranges_and_raise_redo()
+    ensures { RangesRuns }
+{}
+
 /// An example: a backend fails to read a block from its lane into a frame; then it syncs the lane, and fails to sync it again.
 pub fn failed_read_and_syncs()
     ensures { FaultRuns }
@@ -193,7 +199,7 @@ pub fn checkpoint_and_join()
     ensures { CheckpointRuns }
 {}
 
-/// An example: a backend evicts the block that it has read into a frame.
+/// An example: a backend evicts the block that it has read into a frame; then a load of the tag shows it that the block is gone.
 pub fn read_and_evict()
     ensures { EvictionRuns }
 {}
