@@ -1,5 +1,5 @@
 use Rattle.std.specs.Prelude.{Some}
-use Rattle.text_window.proofs.tests.run.Given as goal
+use Rattle.table_tests.proofs.window_tests.run.Given as goal
 
 abbrev pub ghosts-run_over-N-Naming : goal.ghosts-run_over-N-Naming
 ghosts-run_over-N-Naming a = record {

@@ -1,10 +1,10 @@
-//! The claims alone: that each chunk is claimed once, whichever worker claims it.
+//! The claims of a job's chunks: each chunk is claimed once, whichever worker claims it.
 ghost use Rattle.std.specs.Prelude.{◌≡◌, ◌<◌, ◌^◌};
 ghost use Rattle.chunk_claims.specs.Workers.{MayClaim};
 
-use crate::claimant::Claimant;
-use crate::claims::Claims;
+use crate::checks::check_eq;
 use atomic_table::Seat;
+use chunk_claims::{Claimant, Claims};
 use std::test::Fail;
 use std::thread::join;
 
@@ -15,6 +15,13 @@ struct Taken {
     sum: u64,
     squares: u64,
 }
+
+/// Each of 100 chunks once. A chunk that is claimed twice in another's place would change one of the sums.
+const EACH_ONCE: Taken = Taken {
+    count: 100,
+    sum: 4950,
+    squares: 328_350,
+};
 
 impl Taken {
     fn and(self, other: Taken) -> Taken {
@@ -53,24 +60,18 @@ fn claim_often(claims: &Claims, mut seat: Seat<(), Claimant>, tries: u32) -> Tak
 #[test]
 fn one_worker_claims_all_chunks(rt: HostRuntime) -> Result<(), Fail> {
     let (claims, seat) = Claims::build(rt.alloc(), 100, 1)?;
-    let all = Taken {
-        count: 100,
-        sum: 4950,
-        squares: 328_350,
-    };
-    assert_eq!(rt; claim_often(&claims, seat, 200), all);
+    check_eq!(rt; claim_often(&claims, seat, 200), EACH_ONCE);
     Ok(())
 }
 
 #[test]
 fn no_chunk_of_none_is_claimed(rt: HostRuntime) -> Result<(), Fail> {
     let (claims, mut seat) = Claims::build(rt.alloc(), 0, 1)?;
-    assert_eq!(rt; claims.claim(&mut seat), None);
-    assert_eq!(rt; claims.claimed(&mut seat), 1);
+    let found = (claims.claim(&mut seat), claims.claimed(&mut seat));
+    check_eq!(rt; found, (None, 1));
     Ok(())
 }
 
-/// A chunk that is claimed twice in another's place would change one of the sums.
 #[test]
 fn two_threads_claim_each_chunk_once(rt: HostRuntime) -> Result<(), Fail> {
     let (claims, mut mine) = Claims::build(rt.alloc(), 100, 2)?;
@@ -85,11 +86,6 @@ fn two_threads_claim_each_chunk_once(rt: HostRuntime) -> Result<(), Fail> {
             requires { MayClaim chunks.now theirs × (chunks.now.chunks < 2 ^ 32) }
         { claim_often(chunks, theirs, 200) },
     );
-    let each_once = Taken {
-        count: 100,
-        sum: 4950,
-        squares: 328_350,
-    };
-    assert_eq!(rt; first.and(second), each_once);
+    check_eq!(rt; first.and(second), EACH_ONCE);
     Ok(())
 }

@@ -1,24 +1,23 @@
-//! The window alone: in which order texts go out, and what stops a job.
+//! The window of a job's texts: in which order they go out, and what stops the job.
 ghost use Rattle.std.specs.Prelude.{◌≡◌, ◌<◌, ℕ, List, Some};
 ghost use Rattle.text_window.specs.Shares.{KeepsParts};
 
-use crate::naming::Naming;
-use crate::shares::Shares;
-use crate::window::Delivery::{Delivered, Later, Stopped};
-use crate::window::{Delivery, Stop, Window};
+use crate::checks::check_eq;
 use log_device::{FaultPlan, MemSink};
 use std::alloc::{AllocError, Global};
 use std::marker::Brand;
+use std::process::Abort;
 use std::sync::ledger::{Blank, Ledger};
 use std::test::Fail;
+use text_window::Delivery::{Delivered, Later, Stopped};
+use text_window::{Delivery, Naming, Shares, Stop, Window};
 
 /// The text of a chunk: its number, in a line.
 fn line(alloc: Global, chunk: u8) -> Result<Vec<u8>, AllocError>
     requires { chunk < 5 }
 {
     let mut text = Vec::new(alloc);
-    text.push(b'0' + chunk)?;
-    text.push(b'\n')?;
+    text.extend_from_slice(&[b'0' + chunk, b'\n'])?;
     Ok(text)
 }
 
@@ -105,46 +104,82 @@ fn run(alloc: Global, failing: &[u64], stops: &[u32], chunks: &[u8]) -> Result<O
     run_over::<Brand, Brand>(alloc, sink, stops, chunks, Blank::new(2), Blank::new(2))
 }
 
-#[test]
-fn texts_go_out_in_order(rt: HostRuntime) -> Result<(), Fail> {
-    let forward = run(rt.alloc(), &[], &[], &[0, 1, 2, 3, 4])?;
-    assert_eq!(rt; forward.answers.as_slice(), [Delivered; 5].as_slice());
-    assert_eq!(rt; forward.sink.bytes(), b"0\n1\n2\n3\n4\n".as_slice());
-    assert_eq!(rt; forward.stop, None);
-    let backward = run(rt.alloc(), &[], &[], &[4, 3, 2, 1, 0, 4])?;
-    assert_eq!(rt;
-        backward.answers.as_slice(),
-        [Later, Delivered, Delivered, Delivered, Delivered, Delivered].as_slice()
-    );
-    assert_eq!(rt; backward.sink.bytes(), forward.sink.bytes());
+/// Such a job, and what comes of it.
+#[derive(Clone, Copy)]
+struct Case<'a> {
+    failing: &'a [u64],
+    /// The workers that stop the job.
+    stops: &'a [u32],
+    /// The chunks whose texts are delivered after that.
+    chunks: &'a [u8],
+    answers: &'a [Delivery],
+    /// What is put.
+    text: &'a [u8],
+    stopped_by: Option<u32>,
+    stop: Option<Stop>,
+}
+
+/// Fails the test unless this comes of it.
+fn check_case(rt: &impl Abort, alloc: Global, case: &Case<'_>) -> Result<(), Fail> {
+    let outcome = run(alloc, case.failing, case.stops, case.chunks)?;
+    check_eq!(rt; outcome.answers.as_slice(), case.answers);
+    check_eq!(rt; outcome.sink.bytes(), case.text);
+    check_eq!(rt; outcome.stopped_by, case.stopped_by);
+    check_eq!(rt; outcome.stop, case.stop);
     Ok(())
 }
 
 #[test]
+fn texts_go_out_in_order(rt: HostRuntime) -> Result<(), Fail> {
+    let forward = Case {
+        failing: &[],
+        stops: &[],
+        chunks: &[0, 1, 2, 3, 4],
+        answers: &[Delivered; 5],
+        text: b"0\n1\n2\n3\n4\n",
+        stopped_by: None,
+        stop: None,
+    };
+    let backward = Case {
+        chunks: &[4, 3, 2, 1, 0, 4],
+        answers: &[Later, Delivered, Delivered, Delivered, Delivered, Delivered],
+        ..forward
+    };
+    check_case(&rt, rt.alloc(), &forward)?;
+    check_case(&rt, rt.alloc(), &backward)
+}
+
+/// The put that fails may be that of a text that waited.
+#[test]
 fn a_put_that_fails_stops_the_window(rt: HostRuntime) -> Result<(), Fail> {
-    let outcome = run(rt.alloc(), &[2], &[], &[0, 1, 2])?;
-    assert_eq!(rt;
-        outcome.answers.as_slice(),
-        [Delivered, Stopped, Stopped].as_slice()
-    );
-    assert_eq!(rt; outcome.sink.bytes(), b"0\n1".as_slice());
-    assert_eq!(rt; outcome.stop, Some(Stop::Output));
-    // The put that fails may be that of a text that waited.
-    let outcome = run(rt.alloc(), &[2], &[], &[1, 2, 0])?;
-    assert_eq!(rt;
-        outcome.answers.as_slice(),
-        [Delivered, Delivered, Stopped].as_slice()
-    );
-    assert_eq!(rt; outcome.sink.bytes(), b"0\n1".as_slice());
-    Ok(())
+    let at_once = Case {
+        failing: &[2],
+        stops: &[],
+        chunks: &[0, 1, 2],
+        answers: &[Delivered, Stopped, Stopped],
+        text: b"0\n1",
+        stopped_by: None,
+        stop: Some(Stop::Output),
+    };
+    let waiting = Case {
+        chunks: &[1, 2, 0],
+        answers: &[Delivered, Delivered, Stopped],
+        ..at_once
+    };
+    check_case(&rt, rt.alloc(), &at_once)?;
+    check_case(&rt, rt.alloc(), &waiting)
 }
 
 #[test]
 fn the_first_stop_stays(rt: HostRuntime) -> Result<(), Fail> {
-    let outcome = run(rt.alloc(), &[], &[3, 1], &[0])?;
-    assert_eq!(rt; outcome.answers.as_slice(), [Stopped].as_slice());
-    assert_eq!(rt; outcome.stopped_by, Some(3));
-    assert_eq!(rt; outcome.sink.bytes(), [].as_slice());
-    assert_eq!(rt; outcome.stop, Some(Stop::Worker(3)));
-    Ok(())
+    let case = Case {
+        failing: &[],
+        stops: &[3, 1],
+        chunks: &[0],
+        answers: &[Stopped],
+        text: b"",
+        stopped_by: Some(3),
+        stop: Some(Stop::Worker(3)),
+    };
+    check_case(&rt, rt.alloc(), &case)
 }

@@ -1,5 +1,5 @@
 use Rattle.std.proofs.Common.{◌≡◌, arith}
-use Rattle.text_window.proofs.tests.run_over.Goals as goal
+use Rattle.table_tests.proofs.window_tests.run_over.Goals as goal
 
 pub finish-sink-requires : goal.finish-sink-requires
 finish-sink-requires g c =
