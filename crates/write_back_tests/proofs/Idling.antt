@@ -4,7 +4,7 @@ use Rattle.segment_store.specs.Contents.{Pages}
 use Rattle.backend_pass.specs.declared.manager.Manager.{Manager}
 use Rattle.backend_pass.specs.Managers.{AreNewPasses, Belongs}
 use Rattle.backend_pass.specs.Passes.{KeepsCallers, PassOwn, PassState}
-use Rattle.manager_tests.proofs.Freeing.{three_free, three_unlocked}
+use Rattle.manager_bench.proofs.Freeing.{three_free, three_unlocked}
 use Rattle.write_back_tests.specs.Idle.{IsFreeAndUnlocked}
 
 module _ {L G : Type 0} (contents : L → Option Pages) (m : Manager L G) where

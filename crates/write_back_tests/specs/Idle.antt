@@ -4,7 +4,7 @@ use Rattle.segment_store.specs.Contents.{Pages}
 use Rattle.backend_pass.specs.declared.manager.Manager.{Manager}
 use Rattle.backend_pass.specs.Passes.{PassState}
 use Rattle.checkpointer.specs.Stages.{HasNoLock}
-use Rattle.manager_tests.specs.Bench.{IsFree}
+use Rattle.manager_bench.specs.Bench.{IsFree}
 
 module _ {L G : Type 0} (contents : L → Option Pages) where
   -- It is the pass number i of the manager's three, and has neither tokens nor content locks

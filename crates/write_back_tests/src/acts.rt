@@ -1,5 +1,5 @@
 //! What three passes do one after another, and what comes of it.
-ghost use Rattle.manager_tests.specs.Bench.{IsFree};
+ghost use Rattle.manager_bench.specs.Bench.{IsFree};
 ghost use Rattle.write_back_tests.specs.Idle.{IsFreeAndUnlocked};
 
 use crate::bench::start;
@@ -10,9 +10,9 @@ use backend_pass::{FlushError, Manager, Met, Pass, PutError, ReadError};
 use bg_writer::Round;
 use checkpointer::{Checkpoint, CheckpointError};
 use log_device::LogDevice;
-use manager_tests::bench::{Bench, block, close};
-use manager_tests::putting::{flush_once, put_once};
-use manager_tests::reading::{Access, copy_once, pin, read_once, unpin};
+use manager_bench::bench::{Bench, block, close};
+use manager_bench::putting::{flush_once, put_once};
+use manager_bench::reading::{Access, copy_once, pin, read_once, unpin};
 use page_layout::{Lsn, Page};
 use segment_store::BlockLane;
 use std::alloc::{AllocError, Global};

@@ -4,7 +4,7 @@ ghost use Rattle.write_back_tests.specs.Idle.{IsFreeAndUnlockedIn};
 
 use crate::devices::{ByteLog, PageLane};
 use backend_pass::{Config, Manager, StartRefused};
-use manager_tests::bench::{Bench, catalog};
+use manager_bench::bench::{Bench, catalog};
 use std::alloc::{AllocError, Global};
 
 /// How many blocks the relation has.

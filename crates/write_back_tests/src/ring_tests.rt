@@ -5,7 +5,7 @@ use crate::devices::Failing;
 use crate::devices::TestCall::{Append, ReadBlock, SyncLane, SyncLog, WriteBlock};
 use crate::tests::{checkpoint, devices, put};
 use access_rings::{Ring, RingKind};
-use manager_tests::reading::Access;
+use manager_bench::reading::Access;
 use std::alloc::{AllocError, Global};
 use std::sync::Wait;
 use std::test::Fail;

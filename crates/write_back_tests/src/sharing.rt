@@ -1,15 +1,15 @@
 //! Rounds and checkpoints by a pass beside two others, each in a thread of its own.
 ghost use Rattle.std.specs.Thread.{IsSync};
-ghost use Rattle.manager_tests.specs.Bench.{IsFreeIn};
+ghost use Rattle.manager_bench.specs.Bench.{IsFreeIn};
 ghost use Rattle.write_back_tests.specs.Idle.{IsFreeAndUnlockedIn};
 
 use crate::bench::start;
 use crate::devices::{ByteLog, PageLane};
 use crate::syncing::{checkpoint_once, round_once};
 use backend_pass::{Manager, Pass};
-use manager_tests::bench::{Bench, block, close};
-use manager_tests::putting::put_once;
-use manager_tests::reading::copy_once;
+use manager_bench::bench::{Bench, block, close};
+use manager_bench::putting::put_once;
+use manager_bench::reading::copy_once;
 use page_layout::{Lsn, Page};
 use std::alloc::{AllocError, Global};
 use std::sync::Wait;

@@ -8,7 +8,7 @@ use crate::sharing::{TestJob, Use, run_beside};
 use backend_pass::{FlushError, Met};
 use bg_writer::Round;
 use checkpointer::{Checkpoint, CheckpointError};
-use manager_tests::bench::block;
+use manager_bench::bench::block;
 use page_layout::{Lsn, Page};
 use std::alloc::{AllocError, Global};
 use std::test::Fail;

@@ -1,4 +1,4 @@
-use Rattle.manager_tests.specs.Bench.{IsFree}
+use Rattle.manager_bench.specs.Bench.{IsFree}
 use Rattle.write_back_tests.specs.Idle.{IsFreeAndUnlocked}
 use Rattle.write_back_tests.proofs.acts.perform_all.Given as goal
 

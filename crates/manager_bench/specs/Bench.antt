@@ -9,7 +9,7 @@ use Rattle.backend_pass.specs.declared.manager.Manager.{Manager}
 use Rattle.backend_pass.specs.declared.pinned.Pinned.{Pinned}
 use Rattle.backend_pass.specs.Locks.{HasLock}
 use Rattle.backend_pass.specs.Managers.{Belongs}
-use Rattle.backend_pass.specs.Passes.{KeepsLocks, PassState, SamePass}
+use Rattle.backend_pass.specs.Passes.{PassState}
 
 module _ {L G : Type 0} (contents : L → Option Pages) where
   -- It is the pass number i of the manager's three
@@ -22,47 +22,22 @@ module _ {L G : Type 0} (contents : L → Option Pages) where
     pub rest : i ≡ 0 → p.queue.known.parts + 3 ≡ all_parts + 1
     pub part : i ≢ 0 → p.queue.known.parts ≡ 1
 
-  -- and it has no tokens
+  -- and it has neither tokens nor content locks
   pub record IsFree (m : Manager L G) (i : ℕ) (p : PassState) : Type 0 where
     pub is : IsNumber m i p
     pub spent : p.tokens ≡ no_tokens
-
-  -- It may have tokens, and has no content lock
-  pub record IsUnlocked (m : Manager L G) (p : PassState) : Type 0 where
-    pub belongs : Belongs contents m p
     pub unlocked : (f : ℕ) → HasLock Unlocked f p
 
-  -- It has this token alone, and this content lock of its frame
+  -- It has this token alone, this content lock of its frame, and no other one
   pub record HasOnly (lock : Content) (pinned : Pinned) (m : Manager L G) (i : ℕ)
       (p : PassState) : Type 0 where
     pub is : IsNumber m i p
     pub token : IsPinnedFor pinned.tag pinned.frame p.tokens
     pub last : tokens_less pinned.frame p.tokens ≡ no_tokens
     pub locked : HasLock lock pinned.frame p
-
-  -- Calls left it with the tokens and the content locks that it had
-  pub record Returns (m : Manager L G) (p q : PassState) : Type 0 where
-    pub belongs : Belongs contents m q
-    pub same : SamePass p q
-    pub tokens : q.tokens ≡ p.tokens
-    pub locks : KeepsLocks p q
-
-  -- Calls left it without one token of the frame f, and with the others and the content locks that it had
-  pub record ReturnsWithout (m : Manager L G) (f : ℕ) (p q : PassState) : Type 0 where
-    pub belongs : Belongs contents m q
-    pub same : SamePass p q
-    pub tokens : q.tokens ≡ tokens_less f p.tokens
-    pub locks : KeepsLocks p q
-
--- It has this token, and no content lock of its frame
-pub record HasToken (pinned : Pinned) (p : PassState) : Type 0 where
-  pub token : IsPinnedFor pinned.tag pinned.frame p.tokens
-  pub unlocked : HasLock Unlocked pinned.frame p
+    pub others : (f : ℕ) → f ≢ pinned.frame → HasLock Unlocked f p
 
 module _ {L G : Type 0} where
   -- It is so in a manager over lanes that don't tell what they hold
   abbrev pub IsFreeIn : Manager L G → ℕ → PassState → Type 0
   IsFreeIn m i p = IsFree (λ _. None) m i p
-
-  abbrev pub IsUnlockedIn : Manager L G → PassState → Type 0
-  IsUnlockedIn m p = IsUnlocked (λ _. None) m p

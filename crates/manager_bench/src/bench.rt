@@ -1,6 +1,7 @@
 //! A small manager.
 ghost use Rattle.std.specs.Prelude.{◌≡◌, ◌≤◌, ◌%◌, ◌^◌, [], IfOk, vec_capacity};
-ghost use Rattle.manager_tests.specs.Bench.{IsFree, IsFreeIn, IsUnlockedIn};
+ghost use Rattle.table_rule.specs.Shows.{AreLanes, IsNewLog, devices};
+ghost use Rattle.manager_bench.specs.Bench.{IsFree, IsFreeIn};
 
 use backend_pass::{Config, Manager, Pass, StartRefused};
 use block_tag::{Catalog, CatalogError, Fork, RelEntry, RelNo, Tag};
@@ -9,7 +10,7 @@ use segment_store::BlockLane;
 use std::alloc::{AllocError, Global};
 use test_devices::{TestLane, TestLog};
 
-/// A manager of 16 frames over one lane, and its three passes.
+/// A manager and its three passes.
 pub struct Bench<L: BlockLane, G: LogDevice> {
     pub manager: Manager<L, G>,
     pub first: Pass,
@@ -40,32 +41,30 @@ pub fn block(number: u32) -> Tag {
     }
 }
 
-/// Such a manager, of one relation of so many blocks.
-pub fn start(
+/// A manager of so many frames over these devices.
+pub fn start_over<L: BlockLane + Drop, G: LogDevice + Drop>(
     alloc: Global,
-    blocks: u32,
-    lane: TestLane,
-    log: TestLog,
+    frames: u32,
+    catalog: Catalog,
+    lanes: Vec<L>,
+    log: G,
     base: u64,
-) -> Result<Bench<TestLane, TestLog>, AllocError>
+) -> Result<Bench<L, G>, AllocError>
     requires base { (base % 8 ≡ 0) × (base ≤ 2 ^ 62) }
-    ensures first { IfOk result (λ b. IsFreeIn b.manager 0 b.first) }
-    ensures second { IfOk result (λ b. IsFreeIn b.manager 1 b.second) }
-    ensures third { IfOk result (λ b. IsFreeIn b.manager 2 b.third) }
-    ensures first_unlocked { IfOk result (λ b. IsUnlockedIn b.manager b.first) }
-    ensures second_unlocked { IfOk result (λ b. IsUnlockedIn b.manager b.second) }
-    ensures third_unlocked { IfOk result (λ b. IsUnlockedIn b.manager b.third) }
+    requires devices { AreLanes (devices L.BlockLane G.LogDevice) catalog lanes.items }
+    requires log { IsNewLog (devices L.BlockLane G.LogDevice) base log }
+    ensures first { IfOk result (λ b. IsFree L.contents b.manager 0 b.first) }
+    ensures second { IfOk result (λ b. IsFree L.contents b.manager 1 b.second) }
+    ensures third { IfOk result (λ b. IsFree L.contents b.manager 2 b.third) }
 {
-    let Ok(catalog) = catalog(alloc, blocks) else {
+    let Ok(count) = u32::try_from(lanes.len()) else {
         return Err(AllocError);
     };
-    let mut lanes = Vec::new(alloc);
-    lanes.push(lane)?;
     let room = Vec::with_capacity(alloc, 3)?;
     let config = Config {
-        frames: 16,
+        frames,
         passes: 3,
-        lanes: 1,
+        lanes: count,
     };
     match Manager::start(alloc, config, catalog, lanes, log, base) {
         Ok((manager, mut passes)) => {
@@ -90,17 +89,25 @@ pub fn start(
     }
 }
 
-/// One of 64 blocks, whose pages tell their numbers, over a log that begins at 0.
-pub fn start_numbered(alloc: Global) -> Result<Bench<TestLane, TestLog>, AllocError>
+/// A manager of 16 frames over one lane, of one relation of so many blocks.
+pub fn start(
+    alloc: Global,
+    blocks: u32,
+    lane: TestLane,
+    log: TestLog,
+    base: u64,
+) -> Result<Bench<TestLane, TestLog>, AllocError>
+    requires base { (base % 8 ≡ 0) × (base ≤ 2 ^ 62) }
     ensures first { IfOk result (λ b. IsFreeIn b.manager 0 b.first) }
     ensures second { IfOk result (λ b. IsFreeIn b.manager 1 b.second) }
     ensures third { IfOk result (λ b. IsFreeIn b.manager 2 b.third) }
-    ensures first_unlocked { IfOk result (λ b. IsUnlockedIn b.manager b.first) }
-    ensures second_unlocked { IfOk result (λ b. IsUnlockedIn b.manager b.second) }
-    ensures third_unlocked { IfOk result (λ b. IsUnlockedIn b.manager b.third) }
 {
-    let lane = TestLane::numbered(None);
-    start(alloc, 64, lane, TestLog::new(alloc, 0), 0)
+    let Ok(catalog) = catalog(alloc, blocks) else {
+        return Err(AllocError);
+    };
+    let mut lanes = Vec::new(alloc);
+    lanes.push(lane)?;
+    start_over(alloc, 16, catalog, lanes, log, base)
 }
 
 /// The manager is closed. `passes` is empty, with room for its three.

@@ -1,6 +1,6 @@
 use Rattle.pin_core.specs.declared.view.Content.TheVariants.{Unlocked}
-use Rattle.manager_tests.proofs.Freeing.{only_on}
-use Rattle.manager_tests.proofs.putting.copy_around_put.Goals as goal
+use Rattle.manager_bench.proofs.Freeing.{only_on}
+use Rattle.manager_tests.proofs.copying.copy_around_put.Goals as goal
 
 pub unpin-requires : goal.unpin-requires
 unpin-requires g c =

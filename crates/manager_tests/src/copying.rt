@@ -1,58 +1,65 @@
-//! Pages that are put, and flushed.
-ghost use Rattle.manager_tests.specs.Bench.{IsFree};
+//! Pages that are copied.
+ghost use Rattle.manager_bench.specs.Bench.{IsFree};
 
-use crate::bench::block;
-use crate::reading::{pin, unpin};
-use access_rings::Ring;
-use backend_pass::{FlushError, Manager, Pass, PutError, ReadError};
+use backend_pass::{Manager, Pass, PutError, ReadError};
 use block_tag::Tag;
 use log_device::LogDevice;
+use manager_bench::bench::block;
+use manager_bench::putting::read_and_put;
+use manager_bench::reading::{copy_once, pin, unpin};
 use page_layout::{Lsn, Page};
 use segment_store::BlockLane;
+use std::alloc::Global;
 use std::sync::Wait;
+use test_devices::one_item;
 
-/// Reads a block and puts a page to it. Whether the read was a hit, and what came of the put; None where the block isn't read, or the page is new or isn't sound.
-fn read_and_put<L: BlockLane, G: LogDevice, R: Wait>(
+/// Copies the page of a block under a content lock that the pass shares. The place of the read.
+pub fn copy_shared<L: BlockLane, G: LogDevice, R: Wait>(
     manager: &Manager<L, G>,
     rt: &R,
     pass: &mut Pass,
     _number: u32,
     tag: Tag,
-    page: &Page,
-    ring: &mut Option<Ring>,
-) -> Option<(bool, Result<Lsn, PutError>)>
+    page: &mut Page,
+) -> Result<Lsn, ReadError>
     requires { IsFree L.contents manager.now _number pass.old }
     ensures { IsFree L.contents manager.now _number pass.new }
 {
-    if page.is_new() || !page.is_sound() {
-        return None;
-    }
-    let Ok(pinned) = pin(manager, rt, pass, _number, tag, ring) else {
-        return None;
-    };
-    let hit = pinned.hit();
-    let mut token = pass.exclusive(manager, rt, pinned);
-    let end = pass.put(manager, rt, &mut token, page);
-    let pinned = pass.unexclusive(manager, token);
+    let pinned = pin(manager, rt, pass, _number, tag, &mut None)?;
+    let shared = pass.share(manager, rt, pinned);
+    let place = pass.read_shared(manager, rt, &shared, page);
+    let pinned = pass.unshare(manager, shared);
     unpin(manager, rt, pass, _number, pinned);
-    Some((hit, end))
+    Ok(place)
 }
 
-/// The same, but for the hit.
-pub fn put_once<L: BlockLane, G: LogDevice, R: Wait>(
+/// Copies the page of each block up to `blocks`, and counts those that aren't the block's. None where there was no memory, or a read was refused.
+pub fn copy_all<L: BlockLane, G: LogDevice, R: Wait>(
     manager: &Manager<L, G>,
     rt: &R,
     pass: &mut Pass,
     _number: u32,
-    tag: Tag,
-    page: &Page,
-    ring: &mut Option<Ring>,
-) -> Option<Result<Lsn, PutError>>
+    blocks: u32,
+    alloc: Global,
+) -> Option<u32>
     requires { IsFree L.contents manager.now _number pass.old }
     ensures { IsFree L.contents manager.now _number pass.new }
 {
-    let (_hit, end) = read_and_put(manager, rt, pass, _number, tag, page, ring)?;
-    Some(end)
+    let Ok(mut page) = Page::zeroed(alloc) else {
+        return None;
+    };
+    let mut wrong = 0;
+    for number in 0..blocks {
+        match copy_once(manager, rt, pass, _number, block(number), &mut page) {
+            Ok(_place) => {
+                if page.bytes() != one_item((number % 256) as u8).as_slice() {
+                    wrong += 1;
+                }
+            }
+            Err(_why) => return None,
+        }
+    }
+    Some(wrong)
 }
 
 /// What two passes saw of block 0, as the second one put a page to it.
@@ -88,23 +95,4 @@ pub fn copy_around_put<L: BlockLane, G: LogDevice, R: Wait>(
     let places = (earlier, later);
     unpin(manager, rt, first, 0, pinned);
     Ok(SeenPut { hit, places, put })
-}
-
-/// Flushes a block. None where it isn't read.
-pub fn flush_once<L: BlockLane, G: LogDevice, R: Wait>(
-    manager: &Manager<L, G>,
-    rt: &R,
-    pass: &mut Pass,
-    _number: u32,
-    tag: Tag,
-) -> Option<Result<bool, FlushError>>
-    requires { IsFree L.contents manager.now _number pass.old }
-    ensures { IsFree L.contents manager.now _number pass.new }
-{
-    let Ok(pinned) = pin(manager, rt, pass, _number, tag, &mut None) else {
-        return None;
-    };
-    let flushed = pass.flush_frame(manager, rt, &pinned);
-    unpin(manager, rt, pass, _number, pinned);
-    Some(flushed)
 }

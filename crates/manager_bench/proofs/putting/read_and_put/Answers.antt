@@ -1,9 +1,9 @@
 use Rattle.std.proofs.Common.{sym, subst}
 use Rattle.pin_core.specs.declared.view.Content.TheVariants as lock
 use Rattle.backend_pass.specs.declared.tokens.Exclusive.{Exclusive}
-use Rattle.manager_tests.specs.Bench.{HasOnly}
-use Rattle.manager_tests.proofs.Freeing.{only_put, only_relocked}
-use Rattle.manager_tests.proofs.putting.read_and_put.Goals as goal
+use Rattle.manager_bench.specs.Bench.{HasOnly}
+use Rattle.manager_bench.proofs.Freeing.{only_put, only_relocked}
+use Rattle.manager_bench.proofs.putting.read_and_put.Goals as goal
 
 pub unpin-requires : goal.unpin-requires
 unpin-requires g c =

@@ -1,8 +1,8 @@
 use Rattle.std.proofs.Common.{None}
 use Rattle.test_devices.specs.declared.lane.TestLane.{TestLane}
 use Rattle.test_devices.specs.declared.log.TestLog.{TestLog}
-use Rattle.manager_tests.proofs.Freeing.{three_free, three_unlocked}
-use Rattle.manager_tests.proofs.bench.start.Goals as goal
+use Rattle.manager_bench.proofs.Freeing.{three_free, three_unlocked}
+use Rattle.manager_bench.proofs.bench.start.Goals as goal
 
 pub returns-in-Ok-start-clause-first : goal.returns-in-Ok-start-clause-first
 returns-in-Ok-start-clause-first c = (three_free {L = TestLane} {G = TestLog} (λ x. None) c.in-Ok-start.manager _ _ _ _ _ _ _ c.in-Ok-start.ensures.passes c.take_last-third.ensures.items c.take_last-second.ensures.items c.take_last-first.ensures.items).0

@@ -1,6 +1,6 @@
 use Rattle.pin_core.specs.declared.view.Content.TheVariants.{Shared, Unlocked}
-use Rattle.manager_tests.proofs.Freeing.{only_on, only_relocked}
-use Rattle.manager_tests.proofs.reading.copy_shared.Goals as goal
+use Rattle.manager_bench.proofs.Freeing.{only_on, only_relocked}
+use Rattle.manager_tests.proofs.copying.copy_shared.Goals as goal
 
 pub unpin-requires : goal.unpin-requires
 unpin-requires g c =

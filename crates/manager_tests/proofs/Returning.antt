@@ -1,41 +1,25 @@
--- Passes of a small manager.
-use Rattle.std.proofs.Common.{◌≡◌, ◌≢◌, ◌+◌, ◌-◌, ◌∙◌, ℕ, Bool, true, false, cond, eq-eqb, ne_eqb, List, [], ◌∷◌, ◌++◌, length, nat_eq, Option, refl, sym, ap, subst, arith}
+-- Passes that calls leave with the tokens and the content locks that they had.
+use Rattle.std.proofs.Common.{◌≡◌, ◌≢◌, ◌-◌, ◌∙◌, ℕ, Bool, true, false, cond, eq-eqb, ne_eqb, ◌∷◌, [], nat_eq, Option, refl, sym, ap, subst}
 use mathlib.Core.Logic.{dite}
 use native.Mathlib.Decide.{ℕ_discrete}
 use Rattle.segment_store.specs.Contents.{Pages}
 use Rattle.pin_core.specs.declared.view.Content.{Content}
 use Rattle.pin_core.specs.declared.view.Content.TheVariants.{Unlocked}
 use Rattle.pin_core.specs.declared.view.Link.{Link}
-use Rattle.pin_core.specs.declared.view.View.{View}
 use Rattle.pin_core.specs.State.{link}
-use Rattle.pin_core.proofs.Views.{link_new}
-use Rattle.frame_table.specs.Seats.{base_of, frames_of, lanes_in}
 use Rattle.block_tag.specs.declared.tag.Tag.{Tag}
 use Rattle.buffer_frames.specs.Tokens.{HeldFrame, IsPinnedFor, Tokens, held_at, tokens_less, tokens_of}
 use Rattle.buffer_frames.proofs.HeldLists.{less_others}
 use Rattle.backend_pass.specs.declared.manager.Manager.{Manager}
 use Rattle.backend_pass.specs.declared.pinned.Pinned.{Pinned}
 use Rattle.backend_pass.specs.Locks.{ChangesLock, HasLock}
-use Rattle.backend_pass.specs.Managers.{AreAll, AreNewPasses, Belongs, IsNewPass, first_in}
-use Rattle.backend_pass.specs.Passes.{KeepsCallers, KeepsLocks, KeepsPass, PassState, SameButTorn, SamePass, PassOwn}
-use Rattle.grid.specs.Shape.{total}
-use Rattle.backend_pass.proofs.Joining.{first_here, first_past}
+use Rattle.backend_pass.specs.Managers.{Belongs}
+use Rattle.backend_pass.specs.Passes.{KeepsLocks, PassState, SamePass}
 use Rattle.backend_pass.proofs.Keeping.{pass_none}
 use Rattle.backend_pass.proofs.Seated.{same_on}
-use Rattle.manager_tests.specs.Bench.{HasOnly, HasToken, IsFree, IsUnlocked, Returns, ReturnsWithout}
-
--- a list of three, from its end
-length_three : (xs : List PassState) (a b c : PassState) → length (((xs ++ a ∷ []) ++ b ∷ []) ++ c ∷ []) ≡ length xs + 3
-length_three [] a b c = refl
-length_three (x ∷ xs) a b c = let e = length_three xs a b c in omega arith
-
-three : (xs : List PassState) (a b c : PassState) (ps : List PassState) → ps ≡ ((xs ++ a ∷ []) ++ b ∷ []) ++ c ∷ [] → length ps ≡ 3 → ps ≡ a ∷ b ∷ c ∷ []
-three [] a b c ps e n = e
-three (x ∷ xs) a b c ps e n = absurd (let l = ap length e in let more = length_three xs a b c in omega arith)
-
-all_parts_of : (a b c : PassState) → a.queue.known.parts + 3 ≡ 65 → b.queue.known.parts ≡ 1 → c.queue.known.parts ≡ 1 → total (λ (p : PassState). p.queue.known.parts) (c ∷ a ∷ b ∷ []) ≡ 64
-unfolding total
-all_parts_of a b c x y z = omega arith
+use Rattle.manager_bench.specs.Bench.{IsFree}
+use Rattle.manager_bench.proofs.Freeing.{number_kept}
+use Rattle.manager_tests.specs.Tokens.{HasToken, Returns, ReturnsWithout}
 
 -- a token less of each of two frames, in either order
 less_first : (h : HeldFrame) (t : Tokens) (f : ℕ) → f ≡ h.frame → tokens_less f (h ∷ t) ≡ cond (nat_eq h.tokens 1) t (record h { tokens = h.tokens - 1 } ∷ t)
@@ -76,69 +60,6 @@ pub token_kept : (held : Pinned) (p u : PassState) → u.tokens ≡ p.tokens →
 token_kept held p u tokens locks h = record { token = subst (IsPinnedFor held.tag held.frame) (sym tokens) h.token; unlocked = locks held.frame ∙ h.unlocked }
 
 module _ {L G : Type 0} (contents : L → Option Pages) (m : Manager L G) where
-  new_free : (i : ℕ) (p : PassState) → IsNewPass contents m 3 i p → IsFree contents m i p
-  new_free i p n = record { is = record { belongs = n.belongs; number = ap (λ (v : View). v.number) n.view; joined = ap (λ (v : View). v.joined) n.view; next = n.next; rest = n.rest; part = n.part }; spent = n.tokens }
-
-  new_unlocked : (i : ℕ) (p : PassState) → IsNewPass contents m 3 i p → IsUnlocked contents m p
-  new_unlocked i p n = record {
-    belongs = n.belongs;
-    unlocked = λ f. ap (λ (v : View). (link v f).content) n.view ∙ ap (λ (l : Link). l.content) (link_new (frames_of m.table) 128 (lanes_in m.table) i (base_of m.table) f);
-  }
-
-  three_new : (ps qs rs ss : List PassState) (a b c : PassState) → AreNewPasses contents m 3 ps → ps ≡ qs ++ c ∷ [] → qs ≡ rs ++ b ∷ [] → rs ≡ ss ++ a ∷ []
-      → IsNewPass contents m 3 0 a × IsNewPass contents m 3 1 b × IsNewPass contents m 3 2 c
-  three_new ps qs rs ss a b c new last middle front =
-      let all = three ss a b c ps (last ∙ ap (λ (l : List PassState). l ++ c ∷ []) (middle ∙ ap (λ (l : List PassState). l ++ b ∷ []) front)) new.counted in
-      let each = subst (AreNewPasses contents m 3) all new in
-      (each.each 0 a refl, each.each 1 b refl, each.each 2 c refl)
-
-  pub three_free : (ps qs rs ss : List PassState) (a b c : PassState) → AreNewPasses contents m 3 ps → ps ≡ qs ++ c ∷ [] → qs ≡ rs ++ b ∷ [] → rs ≡ ss ++ a ∷ []
-      → IsFree contents m 0 a × IsFree contents m 1 b × IsFree contents m 2 c
-  three_free ps qs rs ss a b c new last middle front = let t = three_new ps qs rs ss a b c new last middle front in (new_free 0 a t.0, new_free 1 b t.1, new_free 2 c t.2)
-
-  pub three_unlocked : (ps qs rs ss : List PassState) (a b c : PassState) → AreNewPasses contents m 3 ps → ps ≡ qs ++ c ∷ [] → qs ≡ rs ++ b ∷ [] → rs ≡ ss ++ a ∷ []
-      → IsUnlocked contents m a × IsUnlocked contents m b × IsUnlocked contents m c
-  three_unlocked ps qs rs ss a b c new last middle front = let t = three_new ps qs rs ss a b c new last middle front in (new_unlocked 0 a t.0, new_unlocked 1 b t.1, new_unlocked 2 c t.2)
-
-  -- the three, in the order in which a bench closes them
-  pub all_three : (ps : List PassState) (a b c : PassState) → ps ≡ c ∷ a ∷ b ∷ [] → IsFree contents m 0 a → IsFree contents m 1 b → IsFree contents m 2 c → AreAll m ps
-  all_three ps a b c is x y z =
-      let first : first_in (c ∷ a ∷ b ∷ []) ≡ a.view = first_past c (a ∷ b ∷ []) (ap (λ (n : ℕ). nat_eq n 0) z.is.number) ∙ first_here a (b ∷ []) (ap (λ (n : ℕ). nat_eq n 0) x.is.number) in
-      subst (AreAll m) (sym is) record {
-        nonempty = omega arith;
-        counted = sym (ap (λ (v : View). v.next) first ∙ x.is.next refl);
-        joined = ap (λ (v : View). v.joined) first ∙ x.is.joined;
-        spent = ((z.is.belongs.table, z.spent, ((x.is.belongs.table, x.spent, ((y.is.belongs.table, y.spent, tt))))));
-        fronts = (z.is.belongs.front, (x.is.belongs.front, (y.is.belongs.front, tt)));
-        queues = (z.is.belongs.queue, (x.is.belongs.queue, (y.is.belongs.queue, tt)));
-        parts = all_parts_of a b c (x.is.rest refl) (y.is.part (λ none. absurd (omega arith))) (z.is.part (λ none. absurd (omega arith)));
-      }
-
-  -- a call that keeps tokens and locks
-  only_kept : (lock : Content) (pinned : Pinned) (i : ℕ) (p q : PassState) → HasOnly contents lock pinned m i p → Belongs contents m q → KeepsPass p q → q.tokens ≡ p.tokens → KeepsLocks p q → HasOnly contents lock pinned m i q
-  only_kept lock pinned i p q o b k tokens locks = record {
-    is = record { belongs = b; number = k.number ∙ o.is.number; joined = k.joined ∙ o.is.joined; next = λ first. k.next ∙ o.is.next first; rest = λ first. ap (λ (x : PassOwn). x.queue.known.parts + 3) k.own ∙ o.is.rest first; part = λ other. ap (λ (x : PassOwn). x.queue.known.parts) k.own ∙ o.is.part other };
-    token = subst (IsPinnedFor pinned.tag pinned.frame) (sym tokens) o.token;
-    last = ap (tokens_less pinned.frame) tokens ∙ o.last;
-    locked = locks pinned.frame ∙ o.locked;
-  }
-
-  pub only_on : (lock : Content) (pinned : Pinned) (i : ℕ) (p q : PassState) → HasOnly contents lock pinned m i p → Belongs contents m q → SamePass p q → q.tokens ≡ p.tokens → KeepsLocks p q → HasOnly contents lock pinned m i q
-  only_on lock pinned i p q o b s tokens locks = only_kept lock pinned i p q o b s.keeps tokens locks
-
-  -- a put
-  pub only_put : (lock : Content) (pinned : Pinned) (i : ℕ) (p q : PassState) → HasOnly contents lock pinned m i p → Belongs contents m q → SameButTorn p q → q.tokens ≡ p.tokens → KeepsLocks p q → HasOnly contents lock pinned m i q
-  only_put lock pinned i p q o b s tokens locks = only_kept lock pinned i p q o b s.keeps tokens locks
-
-  -- a call that changes the lock of the frame alone
-  pub only_relocked : (lock : Content) (pinned given : Pinned) (i : ℕ) (p q : PassState) {before : Content} → HasOnly contents before pinned m i p → given ≡ pinned → Belongs contents m q → SamePass p q → q.tokens ≡ p.tokens → ChangesLock lock pinned.frame p q → HasOnly contents lock given m i q
-  only_relocked lock pinned given i p q o e b s tokens changes = subst (λ (x : Pinned). HasOnly contents lock x m i q) (sym e) record {
-    is = record { belongs = b; number = s.keeps.number ∙ o.is.number; joined = s.keeps.joined ∙ o.is.joined; next = λ first. s.keeps.next ∙ o.is.next first; rest = λ first. ap (λ (x : PassOwn). x.queue.known.parts + 3) s.keeps.own ∙ o.is.rest first; part = λ other. ap (λ (x : PassOwn). x.queue.known.parts) s.keeps.own ∙ o.is.part other };
-    token = subst (IsPinnedFor pinned.tag pinned.frame) (sym tokens) o.token;
-    last = ap (tokens_less pinned.frame) tokens ∙ o.last;
-    locked = changes.here;
-  }
-
   -- a content lock that is taken and given up again
   pub relocked_returns : (lock : Content) (pinned given : Pinned) (p u q : PassState) → given ≡ pinned → HasLock Unlocked pinned.frame p → Belongs contents m q → SamePass p u → SamePass u q → u.tokens ≡ p.tokens → q.tokens ≡ u.tokens
       → ChangesLock lock pinned.frame p u → ChangesLock Unlocked given.frame u q → Returns contents m p q
@@ -171,12 +92,9 @@ module _ {L G : Type 0} (contents : L → Option Pages) (m : Manager L G) where
   pub released_returns : (pinned : Pinned) (p u q : PassState) → SamePass p u → KeepsLocks p u → tokens_less pinned.frame u.tokens ≡ p.tokens → Belongs contents m q → SamePass u q → q.tokens ≡ tokens_less pinned.frame u.tokens → KeepsLocks u q → Returns contents m p q
   released_returns pinned p u q same locks back b last spent kept = record { belongs = b; same = same_on p u q same last; tokens = spent ∙ back; locks = λ f. kept f ∙ locks f }
 
-  -- a call that keeps what callers have of the pass
-  pub free_on : (i : ℕ) (p q : PassState) → IsFree contents m i p → Belongs contents m q → KeepsCallers p q → IsFree contents m i q
-  free_on i p q free b k = record {
-    is = record { belongs = b; number = k.keeps.number ∙ free.is.number; joined = k.keeps.joined ∙ free.is.joined; next = λ first. k.keeps.next ∙ free.is.next first; rest = λ first. ap (λ (x : PassOwn). x.queue.known.parts + 3) k.keeps.own ∙ free.is.rest first; part = λ other. ap (λ (x : PassOwn). x.queue.known.parts) k.keeps.own ∙ free.is.part other };
-    spent = k.tokens ∙ free.spent;
-  }
+  -- calls that give back what they took
+  pub free_returned : (i : ℕ) (p q : PassState) → IsFree contents m i p → Returns contents m p q → IsFree contents m i q
+  free_returned i p q free r = record { is = number_kept contents m i p q free.is r.belongs r.same.keeps; spent = r.tokens ∙ free.spent; unlocked = λ f. r.locks f ∙ free.unlocked f }
 
   -- a token that is given back
   pub without_one : (f : ℕ) (p u q : PassState) → Returns contents m p u → Belongs contents m q → SamePass u q → q.tokens ≡ tokens_less f u.tokens → KeepsLocks u q → ReturnsWithout contents m f p q

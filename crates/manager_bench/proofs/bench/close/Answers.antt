@@ -1,7 +1,7 @@
 use Rattle.std.proofs.Common.{◌∙◌, ◌++◌, ◌∷◌, [], List, ap}
 use Rattle.backend_pass.specs.Passes.{PassState}
-use Rattle.manager_tests.proofs.Freeing.{all_three}
-use Rattle.manager_tests.proofs.bench.close.Goals as goal
+use Rattle.manager_bench.proofs.Freeing.{all_three}
+use Rattle.manager_bench.proofs.bench.close.Goals as goal
 
 pub close-requires : goal.close-requires
 close-requires g c =

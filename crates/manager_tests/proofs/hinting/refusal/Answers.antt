@@ -1,5 +1,5 @@
-use Rattle.manager_tests.proofs.Freeing.{released_returns}
-use Rattle.manager_tests.proofs.reading.refusal.Goals as goal
+use Rattle.manager_tests.proofs.Returning.{released_returns}
+use Rattle.manager_tests.proofs.hinting.refusal.Goals as goal
 
 pub returns-in-Ok : goal.returns-in-Ok
 returns-in-Ok g c =
