@@ -1,4 +1,4 @@
-//! The commands of `page_tool`, of whose errors its statuses are made.
+//! Commands of `page_tool`, whose errors are its statuses.
 ghost use Rattle.std.specs.Prelude.{◌≡◌};
 ghost use Rattle.block_tag.specs.declared.tag.Fork.TheVariants.{Main};
 ghost use Rattle.command_line.specs.Numbers.{HasOptionsInRange};
@@ -15,7 +15,7 @@ use std::alloc::Global;
 use std::sync::Wait;
 use std::thread::Threads;
 
-/// A scan or a dump is refused only for a reason, such as a read fault that the host has counted.
+/// A scan or a dump is refused only for a reason, as a read fault that the host counted.
 pub fn list_file<'a, H: Host, R: Threads + Wait + Sync, O: Sink + Send, G: Gate + Sync>(
     rt: &R,
     alloc: Global,
@@ -32,7 +32,7 @@ pub fn list_file<'a, H: Host, R: Threads + Wait + Sync, O: Sink + Send, G: Gate 
     list_relation(rt, alloc, request, host, out, gate)
 }
 
-/// A rewrite, too.
+/// So is a rewrite.
 pub fn rewrite_file<'a, H: Host, R: Threads + Wait + Sync, O: Sink, G: Gate + Sync>(
     rt: &R,
     alloc: Global,

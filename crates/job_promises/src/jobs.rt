@@ -17,7 +17,8 @@ use std::alloc::Global;
 use std::sync::Wait;
 use std::thread::Threads;
 
-/// A scan prints each block once, in the order of the blocks, whichever worker reads it and whenever (`heap_parallelscan_nextpage` hands out the blocks, and what comes of them is in any order).
+/// A scan prints each block once, in the order of the blocks, whichever worker reads it and whenever.
+/// (PostgreSQL's parallel scans, by `table_block_parallelscan_nextpage`, keep no order.)
 pub fn scan_blocks<
     L: BlockLane + Send,
     G: LogDevice + Send,
@@ -46,7 +47,8 @@ pub fn scan_blocks<
     scan(manager, rt, alloc, passes, rel, fork, out, gate, beside)
 }
 
-/// A job ends early only for its reason: a fault that one of its passes met, an output that failed, or memory that ran out.
+/// A job ends early only for a reason: one of its passes met a fault, the output failed, or it was
+/// out of memory.
 pub fn dump_blocks<
     L: BlockLane + Send,
     G: LogDevice + Send,
@@ -74,7 +76,8 @@ pub fn dump_blocks<
     dump(manager, rt, alloc, passes, rel, fork, out, gate, beside)
 }
 
-/// A rewrite that ends well has put the page of each block that the rule changes, once, and no other (`lazy_scan_heap`).
+/// A rewrite that ends well has put the page of each block that the rule changes, once, and no other
+/// (`lazy_vacuum_heap_rel`).
 pub fn rewrite_blocks<
     L: BlockLane + Send,
     G: LogDevice + Send,

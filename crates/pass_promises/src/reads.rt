@@ -16,7 +16,8 @@ use page_layout::{Lsn, Page};
 use segment_store::BlockLane;
 use std::sync::Wait;
 
-/// Any other block is found in a frame or read into one, unless a device fails, its page isn't sound, or each frame was seen pinned in this call (`StrategyGetBuffer`'s "no unpinned buffers available").
+/// Any other block is pinned, unless a device failed, its page isn't sound, or each frame was seen
+/// pinned in this call (`StrategyGetBuffer`: "no unpinned buffers available").
 pub fn read_new<L: BlockLane, G: LogDevice, R: Wait>(
     manager: &Manager<L, G>,
     rt: &R,
@@ -27,12 +28,13 @@ pub fn read_new<L: BlockLane, G: LogDevice, R: Wait>(
     requires belongs { Belongs L.contents manager.now pass.old }
     requires inside { refused_at_once (relations_of manager.now.table) pass.old.tokens tag ≡ None }
     requires new { IsNew tag pass.old.tokens }
-    ensures { ReadsBlock L.contents manager.now.table tag ring.old ring.new pass.old pass.new result }
+    ensures { ReadsBlock L.contents manager.now.table tag ring.old ring.new
+        pass.old pass.new result }
 {
     pass.read_buffer(manager, rt, tag, ring)
 }
 
-/// The page that is read is that of the block at the read's place in the log, which is not before what the backend read earlier.
+/// The page is read in the call, at a place in the log that is not before those of earlier reads.
 pub fn read_page<L: BlockLane, G: LogDevice, R: Wait>(
     manager: &Manager<L, G>,
     rt: &R,
@@ -43,7 +45,8 @@ pub fn read_page<L: BlockLane, G: LogDevice, R: Wait>(
     requires belongs { Belongs L.contents manager.now pass.old }
     requires pinned { IsPinnedFor pinned.now.tag pinned.now.frame pass.old.tokens }
     requires unlocked { HasLock lock.Unlocked pinned.now.frame pass.old }
-    ensures { ReadsPage L.contents manager.now.table pinned.now.tag page.new result pass.old.view pass.new.view }
+    ensures { ReadsPage L.contents manager.now.table pinned.now.tag page.new result
+        pass.old.view pass.new.view }
 {
     pass.read_page(manager, rt, pinned, page)
 }

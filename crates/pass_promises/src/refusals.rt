@@ -1,4 +1,4 @@
-//! Refusals.
+//! What is granted, and what is refused.
 ghost use Rattle.std.specs.Prelude.{◌≡◌, IfOk};
 ghost use Rattle.pin_core.specs.declared.view.Content.TheVariants as lock;
 ghost use Rattle.frame_table.specs.Seats.{relations_of};
@@ -15,7 +15,8 @@ use log_device::LogDevice;
 use segment_store::BlockLane;
 use std::sync::Wait;
 
-/// A block past the end, and one token too many, are refused before anything else, and nothing else is refused so.
+/// A block past the end, and a token too many, are refused at once, in this order, and nothing else
+/// is refused so.
 pub fn read_inside<L: BlockLane, G: LogDevice, R: Wait>(
     manager: &Manager<L, G>,
     rt: &R,
@@ -24,12 +25,14 @@ pub fn read_inside<L: BlockLane, G: LogDevice, R: Wait>(
     ring: &mut Option<Ring>,
 ) -> Result<Pinned, ReadError>
     requires { Belongs L.contents manager.now pass.old }
-    ensures { at_once_of result ≡ refused_at_once (relations_of manager.now.table) pass.old.tokens tag }
+    ensures { at_once_of result
+        ≡ refused_at_once (relations_of manager.now.table) pass.old.tokens tag }
 {
     pass.read_buffer(manager, rt, tag, ring)
 }
 
-/// A cleanup lock is granted on a count of one pin that was seen under the exclusive lock (`LockBufferForCleanup`).
+/// A cleanup lock is granted for a count of one pin that was seen under the exclusive lock
+/// (`LockBufferForCleanup`).
 pub fn lock_cleanup<L: BlockLane, G: LogDevice, R: Wait>(
     manager: &Manager<L, G>,
     rt: &R,
@@ -39,7 +42,8 @@ pub fn lock_cleanup<L: BlockLane, G: LogDevice, R: Wait>(
     requires belongs { Belongs L.contents manager.now pass.old }
     requires pinned { IsPinnedFor pinned.tag pinned.frame pass.old.tokens }
     requires unlocked { HasLock lock.Unlocked pinned.frame pass.old }
-    ensures { IfOk result (λ _. GrantsCleanup pass.old.view.number pinned.frame pass.old.view pass.new.view) }
+    ensures { IfOk result (λ _. GrantsCleanup pass.old.view.number pinned.frame
+        pass.old.view pass.new.view) }
 {
     pass.lock_cleanup(manager, rt, pinned)
 }

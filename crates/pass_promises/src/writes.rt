@@ -17,7 +17,8 @@ use page_layout::{Lsn, Page};
 use segment_store::BlockLane;
 use std::sync::Wait;
 
-/// A put that is Ok has inserted the page into the log, once, and the page is the frame's then (`XLogInsert`).
+/// A put that is Ok has inserted the page into the log, once, and it is the frame's page then
+/// (`XLogInsert`).
 pub fn put<L: BlockLane, G: LogDevice, R: Wait>(
     manager: &Manager<L, G>,
     rt: &R,
@@ -26,11 +27,13 @@ pub fn put<L: BlockLane, G: LogDevice, R: Wait>(
     page: &Page,
 ) -> Result<Lsn, PutError>
     requires belongs { Belongs L.contents manager.now pass.old }
-    requires pinned { IsPinnedFor exclusive.old.pinned.tag exclusive.old.pinned.frame pass.old.tokens }
+    requires pinned { IsPinnedFor exclusive.old.pinned.tag exclusive.old.pinned.frame
+        pass.old.tokens }
     requires locked { HasLock lock.Exclusive exclusive.old.pinned.frame pass.old }
     requires sound { is_sound_page page.now ≡ true }
     requires used { is_new_page page.now ≡ false }
-    ensures { PutAnswer (relations_of manager.now.table) exclusive.old.pinned.frame exclusive.old.pinned.tag page.now pass.old.view pass.new.view result }
+    ensures { PutAnswer (relations_of manager.now.table) exclusive.old.pinned.frame
+        exclusive.old.pinned.tag page.now pass.old.view pass.new.view result }
 {
     pass.put(manager, rt, exclusive, page)
 }
@@ -45,7 +48,9 @@ pub fn flush<L: BlockLane, G: LogDevice, R: Wait>(
     requires belongs { Belongs L.contents manager.now pass.old }
     requires pinned { IsPinnedFor pinned.now.tag pinned.now.frame pass.old.tokens }
     requires unlocked { HasLock lock.Unlocked pinned.now.frame pass.old }
-    ensures { FlushAnswer L.contents manager.now.table (lane_number pinned.now.tag (lanes_in manager.now.table)) pinned.now.tag pinned.now.frame pass.old.view pass.new.view (page_answer result) }
+    ensures { FlushAnswer L.contents manager.now.table
+        (lane_number pinned.now.tag (lanes_in manager.now.table)) pinned.now.tag pinned.now.frame
+        pass.old.view pass.new.view (page_answer result) }
 {
     pass.flush_frame(manager, rt, pinned)
 }

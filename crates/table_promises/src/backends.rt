@@ -15,7 +15,8 @@ use log_device::LogDevice;
 use pin_core::View;
 use segment_store::BlockLane;
 
-/// A token that is given back counts no more, and with the last one its pin goes out (`UnpinBuffer`, by `PrivateRefCount`).
+/// A token that comes back counts no more, and with the last one its pin goes out, to be given up
+/// (`UnpinBuffer`, by `PrivateRefCount`).
 pub fn give_token_back(held: &mut HeldPins, frame: u32) -> Option<Pin>
     requires pinned { held_at held.old frame ≢ None }
     ensures tokens { held.new ≡ tokens_less frame held.old }
@@ -23,7 +24,8 @@ pub fn give_token_back(held: &mut HeldPins, frame: u32) -> Option<Pin>
     held.take_token(frame)
 }
 
-/// The first backend, by which a table is closed, has in its history what another one read and put before it went.
+/// What a backend read and put stays in the history that the table is closed with: the first backend
+/// takes it over.
 pub fn join_seats<L: BlockLane, G: LogDevice>(
     table: &FrameTable<L, G>,
     seat: &mut Seat<Value<L, G>, View>,
@@ -37,11 +39,12 @@ pub fn join_seats<L: BlockLane, G: LogDevice>(
     table.join(seat, other);
 }
 
-/// And it knows which frames the other took from the free list and pushed there.
+/// So does what it took from the free list and pushed there.
 pub fn join_queues(sweep: &Sweep, queue: &mut QueuePass, other: QueuePass)
     requires queue { IsOfSweep sweep.now queue.old }
     requires other { IsOfSweep sweep.now other }
-    ensures known { queue.new ≡ record queue.old { known = joined_parts queue.old.known other.known } }
+    ensures known { queue.new
+        ≡ record queue.old { known = joined_parts queue.old.known other.known } }
 {
     sweep.join(queue, other);
 }

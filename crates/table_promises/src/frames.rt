@@ -25,7 +25,9 @@ use segment_store::BlockLane;
 use state_word::{Flag, has, pins, usage};
 use std::sync::Wait;
 
-/// The frame that the map gives is pinned under the latch of its partition. Once that is left another backend may give the frame to another block (`BufferAlloc` pins before it releases the partition lock).
+/// The frame that the map gives is pinned under its partition's latch. Once that is left another
+/// backend may give the frame to another block (`BufferAlloc` pins, and then releases the partition
+/// lock).
 pub fn pin_found<L: BlockLane, G: LogDevice, R: Wait>(
     table: &FrameTable<L, G>,
     rt: &R,
@@ -44,7 +46,8 @@ pub fn pin_found<L: BlockLane, G: LogDevice, R: Wait>(
     table.pin(rt, seat, tag, frame, ring)
 }
 
-/// A frame that a hint names has the block only if its tag, loaded under the pin, says so (`ReadRecentBuffer`).
+/// The frame that a hint names has the block only if its tag, loaded under the pin, says so
+/// (`ReadRecentBuffer` compares the tags, too).
 pub fn is_of_block<L: BlockLane, G: LogDevice>(
     table: &FrameTable<L, G>,
     seat: &mut Seat<Value<L, G>, View>,
@@ -61,7 +64,8 @@ pub fn is_of_block<L: BlockLane, G: LogDevice>(
     }
 }
 
-/// A frame loses its block only if its state word, under the header, shows one pin, which is the backend's own, and a clean page (`InvalidateVictimBuffer`).
+/// A victim loses its block only if its state word, under the header, shows one pin, the backend's
+/// own, and a clean page (`InvalidateVictimBuffer`).
 pub fn reassign<L: BlockLane, G: LogDevice>(
     table: &FrameTable<L, G>,
     seat: &mut Seat<Value<L, G>, View>,
@@ -85,7 +89,8 @@ pub fn reassign<L: BlockLane, G: LogDevice>(
     true
 }
 
-/// A frame gets a block only if a second look at the map of its partition, under the latch, finds none that has it (`BufTableInsert` in `BufferAlloc`).
+/// A victim gets a block only if a second look at the map, under the partition's latch, found no
+/// frame that has it (`BufferAlloc` looks at what `BufTableInsert` answers).
 pub fn insert_new<L: BlockLane, G: LogDevice>(
     table: &FrameTable<L, G>,
     seat: &mut Seat<Value<L, G>, View>,
@@ -108,7 +113,8 @@ pub fn insert_new<L: BlockLane, G: LogDevice>(
     true
 }
 
-/// A state word is stored only under its header, at the word that was found there (`LockBufHdr`): any other may have been changed by another backend.
+/// A state word is stored only under its header, and made of the word that was found there
+/// (`LockBufHdr`, `UnlockBufHdr`). A word that was only loaded may have changed since.
 pub fn lower_usage<L: BlockLane, G: LogDevice, R: Wait>(
     table: &FrameTable<L, G>,
     rt: &R,
@@ -124,7 +130,7 @@ pub fn lower_usage<L: BlockLane, G: LogDevice, R: Wait>(
     }
 }
 
-/// A content lock is taken exclusively only where no backend has it (`LWLockAttemptLock`).
+/// A content lock is taken exclusively only if no backend has it (`LWLockAttemptLock`).
 pub fn lock_exclusively<L: BlockLane, G: LogDevice, R: Wait>(
     table: &FrameTable<L, G>,
     rt: &R,

@@ -38,7 +38,8 @@ use state_word::IoEnd;
 use std::sync::Wait;
 use wal_flush::InsertError;
 
-/// A cleanup lock is granted on a count of one pin that was seen under the exclusive lock (`LockBufferForCleanup`).
+/// A cleanup lock is granted for a count of one pin that was seen under the exclusive lock
+/// (`LockBufferForCleanup`).
 pub fn lock_for_cleanup<L: BlockLane, G: LogDevice, R: Wait>(
     table: &FrameTable<L, G>,
     rt: &R,
@@ -56,7 +57,8 @@ pub fn lock_for_cleanup<L: BlockLane, G: LogDevice, R: Wait>(
     lock(table, rt, seat, frame, tokens, number)
 }
 
-/// A put that is Ok marks the frame dirty, has its page in the log, and then in the frame (`MarkBufferDirty`, `XLogInsert`; `access/transam/README`, "Write-Ahead Log Coding").
+/// A put that is Ok has marked the frame dirty, then inserted the page into the log, and then changed
+/// the frame's page ("Write-Ahead Log Coding" in `access/transam/README`).
 pub fn put<L: BlockLane, G: LogDevice, R: Wait>(
     table: &FrameTable<L, G>,
     rt: &R,
@@ -75,12 +77,14 @@ pub fn put<L: BlockLane, G: LogDevice, R: Wait>(
     requires block { has_block (relations_of table.now) tag ≡ true }
     requires sound { is_sound_page page.old ≡ true }
     requires used { is_new_page page.old ≡ false }
-    ensures { PutAnswer (relations_of table.now) frame tag page.old seat.old.me.0 seat.new.me.0 result }
+    ensures { PutAnswer (relations_of table.now) frame tag page.old
+        seat.old.me.0 seat.new.me.0 result }
 {
     put_locked(table, rt, seat, held, frame, tag, page)
 }
 
-/// A page goes to its lane only after the log was flushed up to it (`FlushBuffer` calls `XLogFlush` first).
+/// A page goes to its lane only once the log is flushed up to it (`FlushBuffer` calls `XLogFlush`
+/// first).
 pub fn flush<L: BlockLane, G: LogDevice, R: Wait>(
     table: &FrameTable<L, G>,
     rt: &R,
@@ -98,7 +102,8 @@ pub fn flush<L: BlockLane, G: LogDevice, R: Wait>(
     requires inside { frame < frames_of table.now }
     requires tag { names_block tag ≡ true }
     requires block { has_block (relations_of table.now) tag ≡ true }
-    ensures { FlushAnswer L.contents table.now (lane_number tag (lanes_in table.now)) tag frame seat.old.me.0 seat.new.me.0 result }
+    ensures { FlushAnswer L.contents table.now (lane_number tag (lanes_in table.now)) tag frame
+        seat.old.me.0 seat.new.me.0 result }
 {
     flush_frame(table, rt, seat, held, frame, tag, page)
 }
@@ -124,7 +129,7 @@ pub fn end_write<L: BlockLane, G: LogDevice, R: Wait>(
     end_io(table, rt, seat, right, IoEnd::Bad);
 }
 
-/// A fault is answered only if one was met (`mdread`'s `ereport`).
+/// A fault is answered only if one was met (`mdread` reports it).
 pub fn read<L: BlockLane, G: LogDevice, R: Wait>(
     table: &FrameTable<L, G>,
     rt: &R,

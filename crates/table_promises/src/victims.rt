@@ -16,7 +16,8 @@ use pin_core::View;
 use segment_store::BlockLane;
 use std::sync::Wait;
 
-/// No frame is said to be unpinned only after each was seen pinned, one after the other (`StrategyGetBuffer` counts ticks of the hand, which other backends move too).
+/// A victim is refused only if each frame was seen pinned, one after the other. (`StrategyGetBuffer`
+/// gives up after as many ticks as there are buffers, though other backends move the hand, too.)
 pub fn choose_victim<L: BlockLane, G: LogDevice, R: Wait>(
     table: &FrameTable<L, G>,
     rt: &R,
@@ -30,12 +31,14 @@ pub fn choose_victim<L: BlockLane, G: LogDevice, R: Wait>(
     requires headless { HoldsNoHeader seat.old.me.0 }
     requires queue { IsOfSweep sweep.now queue.old }
     requires census { census.old.frames ≡ frames_of table.now }
-    ensures { IfErr result (λ _. FindsNone (frames_of table.now) (frame_at_place (ring_gone_on ring.old)) seat.old.me.0 queue.old seat.new.me.0 queue.new census.new.words) }
+    ensures { IfErr result (λ _. FindsNone (frames_of table.now)
+        (frame_at_place (ring_gone_on ring.old))
+        seat.old.me.0 queue.old seat.new.me.0 queue.new census.new.words) }
 {
     victim(table, rt, seat, sweep, queue, census, ring)
 }
 
-/// A frame that is freed is on the free list (`StrategyFreeBuffer`).
+/// A frame that was freed is on the free list (`StrategyFreeBuffer`).
 pub fn free_frame<R: Wait>(rt: &R, sweep: &Sweep, queue: &mut QueuePass, frame: u32) -> bool
     requires queue { IsOfSweep sweep.now queue.old }
     requires inside { frame < queue.old.known.frames }

@@ -13,7 +13,8 @@ use pin_core::View;
 use segment_store::BlockLane;
 use std::sync::Wait;
 
-/// The redo position is raised under the log's latch, to the log's end (`CreateCheckPoint` stores `RedoRecPtr` while it holds all insertion locks): otherwise a record that another backend is inserting might lack its page's image.
+/// The redo position is raised under the log's latch, and to the log's end (`CreateCheckPoint` stores
+/// `RedoRecPtr` while it holds all insertion locks).
 pub fn raise_redo<L: BlockLane, G: LogDevice, R: Wait>(
     table: &FrameTable<L, G>,
     rt: &R,
@@ -27,7 +28,7 @@ pub fn raise_redo<L: BlockLane, G: LogDevice, R: Wait>(
     table.raise_redo(seat, end);
 }
 
-/// What a backend adds to a counter is added once (`pgstat_count_io_op`).
+/// What a backend adds to a counter is added once (`pgstat_count_io_op_n`).
 pub fn add_counter<L: BlockLane, G: LogDevice>(
     table: &FrameTable<L, G>,
     seat: &mut Seat<Value<L, G>, View>,
