@@ -17,8 +17,8 @@ use std::alloc::Global;
 use std::sync::Wait;
 use std::thread::Threads;
 
-/// A scan prints each block once, in the order of the blocks, whichever worker reads it and whenever.
-/// (PostgreSQL's parallel scans, by `table_block_parallelscan_nextpage`, keep no order.)
+/// A scan prints each block once, in the order of the blocks, whichever worker reads it and
+/// whenever. (PostgreSQL's parallel scans, by `table_block_parallelscan_nextpage`, keep no order.)
 pub fn scan_blocks<
     L: BlockLane + Send,
     G: LogDevice + Send,
@@ -76,8 +76,8 @@ pub fn dump_blocks<
     dump(manager, rt, alloc, passes, rel, fork, out, gate, beside)
 }
 
-/// A rewrite that ends well has put the page of each block that the rule changes, once, and no other
-/// (`lazy_vacuum_heap_rel`).
+/// A rewrite that ends well has put the page of each block that the rule changes, once, and no
+/// other (`lazy_vacuum_heap_rel`).
 pub fn rewrite_blocks<
     L: BlockLane + Send,
     G: LogDevice + Send,

@@ -24,8 +24,8 @@ pub fn give_token_back(held: &mut HeldPins, frame: u32) -> Option<Pin>
     held.take_token(frame)
 }
 
-/// What a backend read and put stays in the history that the table is closed with: the first backend
-/// takes it over.
+/// What a backend read and put stays in the history that the table is closed with: the first
+/// backend takes it over.
 pub fn join_seats<L: BlockLane, G: LogDevice>(
     table: &FrameTable<L, G>,
     seat: &mut Seat<Value<L, G>, View>,

@@ -1,6 +1,6 @@
-//! What the calls on a table promise, for the must-fail edits: each function makes a call and states
-//! one promise of it, and the edits put wrong bodies in the call's place. If a call promised less,
-//! its function wouldn't prove here. There is nothing in it to call.
+//! What the calls on a table promise, for the must-fail edits: each function makes a call and
+//! states one promise of it, and the edits put wrong bodies in the call's place. If a call promised
+//! less, its function wouldn't prove here. There is nothing in it to call.
 #![tactic(auto)]
 
 mod backends;

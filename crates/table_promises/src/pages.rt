@@ -57,8 +57,8 @@ pub fn lock_for_cleanup<L: BlockLane, G: LogDevice, R: Wait>(
     lock(table, rt, seat, frame, tokens, number)
 }
 
-/// A put that is Ok has marked the frame dirty, then inserted the page into the log, and then changed
-/// the frame's page ("Write-Ahead Log Coding" in `access/transam/README`).
+/// A put that is Ok has marked the frame dirty, then inserted the page into the log, and then
+/// changed the frame's page ("Write-Ahead Log Coding" in `access/transam/README`).
 pub fn put<L: BlockLane, G: LogDevice, R: Wait>(
     table: &FrameTable<L, G>,
     rt: &R,
@@ -108,7 +108,8 @@ pub fn flush<L: BlockLane, G: LogDevice, R: Wait>(
     flush_frame(table, rt, seat, held, frame, tag, page)
 }
 
-/// A write that failed leaves the frame dirty (`AbortBufferIO`): it doesn't end as one that was made.
+/// A write that failed leaves the frame dirty (`AbortBufferIO`): it doesn't end as one that was
+/// made.
 pub fn end_write<L: BlockLane, G: LogDevice, R: Wait>(
     table: &FrameTable<L, G>,
     rt: &R,

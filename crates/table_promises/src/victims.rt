@@ -16,8 +16,9 @@ use pin_core::View;
 use segment_store::BlockLane;
 use std::sync::Wait;
 
-/// A victim is refused only if each frame was seen pinned, one after the other. (`StrategyGetBuffer`
-/// gives up after as many ticks as there are buffers, though other backends move the hand, too.)
+/// A victim is refused only if each frame was seen pinned, one after the other.
+/// (`StrategyGetBuffer` gives up after as many ticks as there are buffers, though other backends
+/// move the hand, too.)
 pub fn choose_victim<L: BlockLane, G: LogDevice, R: Wait>(
     table: &FrameTable<L, G>,
     rt: &R,

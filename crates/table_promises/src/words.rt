@@ -13,8 +13,8 @@ use pin_core::View;
 use segment_store::BlockLane;
 use std::sync::Wait;
 
-/// The redo position is raised under the log's latch, and to the log's end (`CreateCheckPoint` stores
-/// `RedoRecPtr` while it holds all insertion locks).
+/// The redo position is raised under the log's latch, and to the log's end (`CreateCheckPoint`
+/// stores `RedoRecPtr` while it holds all insertion locks).
 pub fn raise_redo<L: BlockLane, G: LogDevice, R: Wait>(
     table: &FrameTable<L, G>,
     rt: &R,
