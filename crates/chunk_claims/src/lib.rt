@@ -11,6 +11,3 @@ mod plays;
 
 pub use claimant::Claimant;
 pub use claims::{Claims, Work};
-
-#[cfg(test)]
-mod tests;

@@ -2,7 +2,6 @@
 use mathlib.Core.List.{[], ◌∷◌}
 use mir.Syntax.{Sym}
 use denote.RattleType.{RattleType}
-use denote.Struct.Field.{u32-field}
 use denote.Struct.Tuple.{TupleAt}
 use denote.Param.Send.{IsSend, IsSync, sendable}
 use Rattle.std.proofs.Crossing.{crosses}
@@ -13,9 +12,6 @@ use Rattle.backend_pass.proofs.Crossing as passes
 use Rattle.test_devices.specs.contracts.lane.TestLane as lane
 use Rattle.test_devices.specs.contracts.lane.TestLaneBlockLane.TheImpl as test_lane
 use Rattle.test_devices.specs.contracts.log.TestLog as log
-
-pub numbers_shared : IsSync (u32-field).row
-numbers_shared = search sendable
 
 lanes_cross : IsSend lane.the_row
 lanes_cross = search (sendable, crosses, over.crosses) depth 30

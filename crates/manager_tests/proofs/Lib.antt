@@ -1,3 +1,3 @@
-pub mod Freeing
+pub mod Returning
 pub mod Crossing
 pub mod Fresh

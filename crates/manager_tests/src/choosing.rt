@@ -1,10 +1,10 @@
 //! Victims, by the frames that blocks are read into.
-ghost use Rattle.manager_tests.specs.Bench.{IsFree};
+ghost use Rattle.manager_bench.specs.Bench.{IsFree};
 
-use crate::bench::block;
-use crate::reading::read_once;
 use backend_pass::{Manager, Pass, ReadError};
 use log_device::LogDevice;
+use manager_bench::bench::block;
+use manager_bench::reading::read_once;
 use segment_store::BlockLane;
 use std::sync::Wait;
 

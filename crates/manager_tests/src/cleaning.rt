@@ -5,13 +5,15 @@ ghost use Rattle.pin_core.specs.declared.view.Content.TheVariants.{Unlocked};
 ghost use Rattle.buffer_frames.specs.Tokens.{IsPinnedFor};
 ghost use Rattle.backend_pass.specs.Locks.{HasLock};
 ghost use Rattle.backend_pass.specs.Managers.{Belongs};
-ghost use Rattle.manager_tests.specs.Bench.{IsFree, IsFreeIn, IsUnlocked, Returns};
+ghost use Rattle.manager_bench.specs.Bench.{IsFree, IsFreeIn};
+ghost use Rattle.manager_tests.specs.Tokens.{IsUnlocked, Returns};
 
-use crate::bench::block;
-use crate::reading::{copy_all, pin, unpin};
+use crate::copying::copy_all;
 use backend_pass::{CleanupError, Manager, Pass, Pinned, Refused, TryCleanup};
 use block_tag::Tag;
 use log_device::LogDevice;
+use manager_bench::bench::block;
+use manager_bench::reading::{pin, unpin};
 use segment_store::BlockLane;
 use state_word::{Flag, has};
 use std::alloc::Global;

@@ -1,11 +1,13 @@
 //! Blocks that are pinned until no frame is left.
 ghost use Rattle.backend_pass.specs.Managers.{Belongs};
-ghost use Rattle.manager_tests.specs.Bench.{ReturnsWithout, HasToken, IsFree, IsUnlocked, Returns};
+ghost use Rattle.manager_bench.specs.Bench.{IsFree};
+ghost use Rattle.manager_tests.specs.Tokens.{HasToken, IsUnlocked, Returns, ReturnsWithout};
 
-use crate::bench::block;
-use crate::reading::{Access, read_once, refusal};
+use crate::hinting::refusal;
 use backend_pass::{HintSeen, Manager, Pass, Pinned, ReadError};
 use log_device::LogDevice;
+use manager_bench::bench::block;
+use manager_bench::reading::{Access, read_once};
 use segment_store::BlockLane;
 use std::sync::Wait;
 

@@ -1,12 +1,13 @@
 //! What reads see of the hints of their blocks.
 ghost use Rattle.backend_pass.specs.Managers.{Belongs};
-ghost use Rattle.manager_tests.specs.Bench.{IsFree, Returns};
+ghost use Rattle.manager_bench.specs.Bench.{IsFree};
+ghost use Rattle.manager_tests.specs.Tokens.{Returns};
 
-use crate::bench::block;
-use crate::reading::{Access, read_once, refusal};
 use backend_pass::{HintSeen, Manager, Pass, ReadError};
 use block_tag::Tag;
 use log_device::LogDevice;
+use manager_bench::bench::block;
+use manager_bench::reading::{Access, read_once};
 use segment_store::BlockLane;
 use std::sync::Wait;
 
@@ -35,6 +36,25 @@ pub fn sight_once<L: BlockLane, G: LogDevice, R: Wait>(
         hint: pass.hint_seen(),
         turns: pass.turns(),
     })
+}
+
+/// What a read is refused for, by a pass that may have tokens.
+pub fn refusal<L: BlockLane, G: LogDevice, R: Wait>(
+    manager: &Manager<L, G>,
+    rt: &R,
+    pass: &mut Pass,
+    tag: Tag,
+) -> Option<ReadError>
+    requires { Belongs L.contents manager.now pass.old }
+    ensures { Returns L.contents manager.now pass.old pass.new }
+{
+    match pass.read_buffer(manager, rt, tag, &mut None) {
+        Ok(pinned) => {
+            pass.release(manager, rt, pinned);
+            None
+        }
+        Err(why) => Some(why),
+    }
 }
 
 /// What a read saw of the block's hint, by a pass that may have tokens.

@@ -1,10 +1,9 @@
-//! Tests of passes over a small manager: pins, reads, puts, content and cleanup locks, hints, crowded pools.
-//!
-//! `bench` starts a manager of 16 frames with three passes and closes it, `reading` and `putting` use its pages. The
-//! tests of other crates begin with these, too.
+//! Tests of passes over a small manager: pins, reads, puts, content and cleanup locks, hints, crowded pools. `acts` plays a
+//! list of acts by three passes and says what came of each; the other modules have the acts that take several calls.
 #![tactic(auto)]
 
-pub mod bench;
+#[cfg(test)]
+mod acts;
 #[cfg(test)]
 mod checks;
 #[cfg(test)]
@@ -12,13 +11,13 @@ mod choosing;
 #[cfg(test)]
 mod cleaning;
 #[cfg(test)]
+mod copying;
+#[cfg(test)]
 mod crowding;
 #[cfg(test)]
 mod hinting;
 #[cfg(test)]
 mod locking;
-pub mod putting;
-pub mod reading;
 #[cfg(test)]
 mod sharing;
 #[cfg(test)]

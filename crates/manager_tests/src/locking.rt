@@ -1,11 +1,11 @@
 //! Content locks that are refused.
 ghost use Rattle.pin_core.specs.declared.view.Content.TheVariants.{Unlocked};
-ghost use Rattle.manager_tests.specs.Bench.{HasOnly, IsFree};
+ghost use Rattle.manager_bench.specs.Bench.{HasOnly, IsFree};
 
-use crate::reading::{pin, unpin};
 use backend_pass::{Manager, Pass, Pinned, Refused, TryLock};
 use block_tag::Tag;
 use log_device::LogDevice;
+use manager_bench::reading::{pin, unpin};
 use segment_store::BlockLane;
 use std::sync::Wait;
 

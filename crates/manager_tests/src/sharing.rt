@@ -1,11 +1,12 @@
 //! Passes that work in threads of their own.
 ghost use Rattle.std.specs.Thread.{IsSync};
-ghost use Rattle.manager_tests.specs.Bench.{IsFreeIn};
+ghost use Rattle.manager_bench.specs.Bench.{IsFreeIn};
 
-use crate::bench::block;
-use crate::putting::put_once;
-use crate::reading::{copy_all, copy_once};
+use crate::copying::copy_all;
 use backend_pass::{Manager, Pass};
+use manager_bench::bench::block;
+use manager_bench::putting::put_once;
+use manager_bench::reading::copy_once;
 use page_layout::Page;
 use std::alloc::Global;
 use std::sync::Wait;
@@ -52,9 +53,7 @@ fn numbered(number: u8) -> [u8; 8192] {
 /// Whether a page is the one of the entry that ends at its position, or of none at 0.
 fn is_whole(page: &Page) -> bool {
     let number = (page.lsn() / RECORD_SIZE % 256) as u8;
-    page.lsn() % RECORD_SIZE == 0
-        && page.bytes()[8..28] == FRONT[8..]
-        && page.bytes()[28..].iter().all(|byte| *byte == number)
+    page.lsn() % RECORD_SIZE == 0 && page.bytes()[8..] == numbered(number)[8..]
 }
 
 /// Puts pages to block 0, one after the other, and counts those that became entries.

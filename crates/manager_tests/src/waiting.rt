@@ -1,12 +1,13 @@
 //! Two passes that wait for cleanup locks at a time, each on a block of its own.
 ghost use Rattle.std.specs.Thread.{IsSync};
-ghost use Rattle.manager_tests.specs.Bench.{IsFree, IsFreeIn, IsUnlocked, IsUnlockedIn, Returns};
+ghost use Rattle.manager_bench.specs.Bench.{IsFree, IsFreeIn};
+ghost use Rattle.manager_tests.specs.Tokens.{IsUnlocked, Returns};
 
-use crate::bench::block;
 use crate::cleaning::{clean, look_for, wait_beside};
 use backend_pass::{CleanupError, Manager, Pass};
 use block_tag::Tag;
 use log_device::LogDevice;
+use manager_bench::bench::block;
 use segment_store::BlockLane;
 use std::sync::Wait;
 use std::thread::{Threads, join_mut};
@@ -15,7 +16,7 @@ use test_devices::{TestLane, TestLog};
 type TestManager = Manager<TestLane, TestLog>;
 
 /// Why the cleanup locks of the blocks 0 and 1 are not taken; None for a block that isn't read.
-type Answers = (Option<Option<CleanupError>>, Option<Option<CleanupError>>);
+pub type Waited = (Option<Option<CleanupError>>, Option<Option<CleanupError>>);
 
 /// Pins a block until another pass waits for it, asks for the cleanup lock too, and releases the block.
 fn ask_once<L: BlockLane, G: LogDevice, R: Wait>(
@@ -41,7 +42,7 @@ fn ask_twice<L: BlockLane, G: LogDevice, R: Wait>(
     manager: &Manager<L, G>,
     rt: &R,
     pass: &mut Pass,
-) -> Answers
+) -> Waited
     requires { IsUnlocked L.contents manager.now pass.old }
     ensures { Returns L.contents manager.now pass.old pass.new }
 {
@@ -60,9 +61,8 @@ fn ask_by_third<L: BlockLane, G: LogDevice, R: Wait>(
     manager: &Manager<L, G>,
     rt: &R,
     third: &mut Pass,
-) -> Answers
-    requires free { IsFree L.contents manager.now 2 third.old }
-    requires unlocked { IsUnlocked L.contents manager.now third.old }
+) -> Waited
+    requires { IsFree L.contents manager.now 2 third.old }
     ensures { IsFree L.contents manager.now 2 third.new }
 {
     ask_twice(manager, rt, third)
@@ -74,7 +74,7 @@ fn wait_twice<R: Threads + Wait + Sync>(
     rt: &R,
     first: &mut Pass,
     second: &mut Pass,
-) -> Answers
+) -> Waited
     requires first { IsFreeIn manager.now 0 first.old }
     requires second { IsFreeIn manager.now 1 second.old }
     ensures first { IsFreeIn manager.now 0 first.new }
@@ -100,23 +100,21 @@ pub fn wait_at_both<R: Threads + Wait + Sync>(
     first: &mut Pass,
     second: &mut Pass,
     third: &mut Pass,
-) -> (Answers, Answers)
+) -> (Waited, Waited)
     requires first { IsFreeIn manager.now 0 first.old }
     requires second { IsFreeIn manager.now 1 second.old }
     requires third { IsFreeIn manager.now 2 third.old }
-    requires unlocked { IsUnlockedIn manager.now third.old }
     ensures first { IsFreeIn manager.now 0 first.new }
     ensures second { IsFreeIn manager.now 1 second.new }
     ensures third { IsFreeIn manager.now 2 third.new }
 {
     join_mut(
         rt,
-        &mut || -> Answers
-            requires { IsSync R.row × IsFreeIn manager.now 2 third.now
-                × IsUnlockedIn manager.now third.now }
+        &mut || -> Waited
+            requires { IsSync R.row × IsFreeIn manager.now 2 third.now }
             ensures { IsFreeIn manager.entry.now 2 third.exit.now }
         { ask_by_third(manager, rt, third) },
-        &mut || -> Answers
+        &mut || -> Waited
             requires { IsSync R.row × IsFreeIn manager.now 0 first.now
                 × IsFreeIn manager.now 1 second.now }
             ensures { IsFreeIn manager.entry.now 0 first.exit.now

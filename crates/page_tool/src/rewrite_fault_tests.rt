@@ -2,7 +2,7 @@
 use crate::checks::check_eq;
 use crate::recover_fault_tests::check_recovery;
 use crate::test_hosts::{Answer, Call, Failing, answer_of, error_line, failing_of, stored};
-use crate::test_pages::{dead_items_page, rewrite_log};
+use crate::test_pages::{dead_items_page, repeated, rewrite_log};
 use std::alloc::Global;
 use std::process::Abort;
 use std::sync::Wait;
@@ -68,15 +68,6 @@ fn text_put(status: u8) -> &'static str {
     }
 }
 
-/// A relation of four pages that a rewrite changes.
-fn four_pages(alloc: Global) -> Result<Vec<u8>, Fail> {
-    let mut bytes = Vec::new(alloc);
-    for _number in 0..4 {
-        bytes.extend_from_slice(&dead_items_page())?;
-    }
-    Ok(bytes)
-}
-
 /// Rewrites these pages where these calls fail, with a log, if there is one.
 fn rewrite_over<R: Threads + Wait + Sync>(
     rt: &R,
@@ -98,7 +89,7 @@ fn check_fault<R: Abort + Threads + Wait + Sync>(
     let (call, number, status, rewritten, torn, length) = *row;
     let numbers = [number];
     let failing = failing_of(call, &numbers);
-    let pages = four_pages(alloc)?;
+    let pages = repeated(alloc, &dead_items_page(), 4)?;
     let answer = rewrite_over(rt, alloc, &pages, Some(OLD_LOG), failing)?;
     answer.check(rt, status, text_put(status), error_line(status));
     let whole = rewrite_log(alloc)?;

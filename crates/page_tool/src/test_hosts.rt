@@ -88,6 +88,16 @@ fn plan(alloc: Global, failing: &[u64]) -> Result<FaultPlan, Fail> {
     Ok(FaultPlan::new(failing.to_vec(alloc)?))
 }
 
+/// Three of them.
+fn plans(alloc: Global, failing: [&[u64]; 3]) -> Result<[FaultPlan; 3], Fail> {
+    let [first, second, third] = failing;
+    Ok([
+        plan(alloc, first)?,
+        plan(alloc, second)?,
+        plan(alloc, third)?,
+    ])
+}
+
 /// What a host has before a run.
 #[derive(Clone, Copy)]
 pub(crate) struct Before<'a> {
@@ -150,22 +160,27 @@ fn files_of(alloc: Global, before: Before) -> Result<Vec<MemFile>, Fail> {
 }
 
 fn lane_plan(alloc: Global, failing: Failing) -> Result<LanePlan, Fail> {
+    let calls = [failing.reads, failing.writes, failing.syncs];
+    let [reads, writes, syncs] = plans(alloc, calls)?;
     Ok(LanePlan {
-        reads: plan(alloc, failing.reads)?,
-        writes: plan(alloc, failing.writes)?,
-        syncs: plan(alloc, failing.syncs)?,
+        reads,
+        writes,
+        syncs,
     })
 }
 
+/// A call gives a page at most.
+fn source_plan(alloc: Global, failing: Failing) -> Result<SourcePlan, Fail> {
+    let openings = plan(alloc, failing.source_openings)?;
+    let calls = plan(alloc, failing.source_calls)?;
+    Ok(SourcePlan::new(openings, calls, 8192))
+}
+
 fn empty_logs(alloc: Global, failing: Failing) -> Result<MemLogs, Fail> {
-    let calls = LogPlan {
-        appends: plan(alloc, failing.appends)?,
-        syncs: plan(alloc, failing.log_syncs)?,
-    };
-    let openings = plan(alloc, failing.log_openings)?;
-    let source_openings = plan(alloc, failing.source_openings)?;
-    let source_calls = plan(alloc, failing.source_calls)?;
-    let sources = SourcePlan::new(source_openings, source_calls, 8192);
+    let calls = [failing.log_openings, failing.appends, failing.log_syncs];
+    let [openings, appends, syncs] = plans(alloc, calls)?;
+    let sources = source_plan(alloc, failing)?;
+    let calls = LogPlan { appends, syncs };
     Ok(MemLogs::new(alloc, LOG_ROOM, openings, calls, sources))
 }
 
@@ -178,11 +193,7 @@ fn logs_of(alloc: Global, before: Before, failing: Failing) -> Result<MemLogs, F
 }
 
 /// A host that has this. It is boxed: to drop a box takes the prover a twentieth of the time.
-pub(crate) fn host_of(
-    alloc: Global,
-    before: Before,
-    failing: Failing,
-) -> Result<Box<MemHost>, Fail> {
+fn host_of(alloc: Global, before: Before, failing: Failing) -> Result<Box<MemHost>, Fail> {
     let openings = plan(alloc, failing.openings)?;
     let lanes = lane_plan(alloc, failing)?;
     let logs = logs_of(alloc, before, failing)?;
@@ -252,9 +263,11 @@ impl Answer {
 
     /// Whether the relation has these segments.
     pub(crate) fn has_segments(&self, wanted: &[&[u8]]) -> bool {
-        let mut pairs = self.relation.iter().zip(wanted);
-        self.relation.len() == wanted.len()
-            && pairs.all(|(segment, bytes)| segment.as_slice() == *bytes)
+        let mut same = self.relation.len() == wanted.len();
+        for (segment, bytes) in self.relation.iter().zip(wanted) {
+            same = same && segment.as_slice() == *bytes;
+        }
+        same
     }
 
     /// The bytes of the relation, where it has one segment.
@@ -269,10 +282,11 @@ impl Answer {
     /// are rewritten. Of the torn block any page will do.
     pub(crate) fn has_pages(&self, count: usize, rewritten: usize, torn: Option<usize>) -> bool {
         let bytes = self.relation_bytes();
-        let mut pages = bytes.chunks(8192).enumerate();
-        let is_whole = bytes.len() % 8192 == 0 && bytes.len() / 8192 == count;
-        is_whole
-            && pages.all(|(block, page)| torn == Some(block) || is_left(block, page, rewritten))
+        let mut same = bytes.len() % 8192 == 0 && bytes.len() / 8192 == count;
+        for (block, page) in bytes.chunks(8192).enumerate() {
+            same = same && (torn == Some(block) || is_left(block, page, rewritten));
+        }
+        same
     }
 
     /// Whether the log has these bytes; for `None`, whether there is none.
@@ -296,7 +310,7 @@ pub(crate) fn error_line(status: u8) -> &'static str {
     }
 }
 
-pub(crate) fn words_of(alloc: Global, line: &str) -> Result<Vec<String>, Fail> {
+fn words_of(alloc: Global, line: &str) -> Result<Vec<String>, Fail> {
     let mut words = Vec::new(alloc);
     for word in line.split_whitespace() {
         words.push(String::from_str(alloc, word)?)?;
@@ -322,13 +336,12 @@ fn relation_left(alloc: Global, host: &MemHost) -> Result<Vec<Vec<u8>>, Fail> {
 fn answer_by(
     alloc: Global,
     status: u8,
-    out: &MemSink,
     err: &MemSink,
     host: &MemHost,
 ) -> Result<Box<Answer>, Fail> {
     let answer = Answer {
         status,
-        out: out.bytes().to_vec(alloc)?,
+        out: Vec::new(alloc),
         err: err.bytes().to_vec(alloc)?,
         relation: relation_left(alloc, host)?,
         log: log_left(alloc, host)?,
@@ -337,8 +350,30 @@ fn answer_by(
     Ok(Box::new(alloc, answer)?)
 }
 
+/// A sink in memory with so much room, of which these puts fail.
+fn sink(alloc: Global, room: usize, failing: &[u64]) -> Result<MemSink, Fail> {
+    Ok(MemSink::new(alloc, room, plan(alloc, failing)?)?)
+}
+
 /// Runs a command line, whose words stand apart by blanks, on a host that has this and where these calls
-/// fail.
+/// fail. Its output goes to a sink, and isn't in the answer.
+pub(crate) fn answer_to<R: Threads + Wait + Sync, G: Gate + Sync, O: Sink + Send>(
+    rt: &R,
+    alloc: Global,
+    line: &str,
+    before: Before,
+    failing: Failing,
+    gate: &G,
+    out: &mut O,
+) -> Result<Box<Answer>, Fail> {
+    let words = words_of(alloc, line)?;
+    let mut err = sink(alloc, 1 << 16, &[])?;
+    let mut host = host_of(alloc, before, failing)?;
+    let status = run(rt, alloc, &words, &mut *host, out, &mut err, gate);
+    answer_by(alloc, status, &err, &host)
+}
+
+/// The same with the output in the answer.
 pub(crate) fn answer_at<R: Threads + Wait + Sync, G: Gate + Sync>(
     rt: &R,
     alloc: Global,
@@ -347,12 +382,10 @@ pub(crate) fn answer_at<R: Threads + Wait + Sync, G: Gate + Sync>(
     failing: Failing,
     gate: &G,
 ) -> Result<Box<Answer>, Fail> {
-    let words = words_of(alloc, line)?;
-    let mut out = MemSink::new(alloc, 1 << 20, plan(alloc, failing.puts)?)?;
-    let mut err = MemSink::new(alloc, 1 << 16, plan(alloc, &[])?)?;
-    let mut host = host_of(alloc, before, failing)?;
-    let status = run(rt, alloc, &words, &mut *host, &mut out, &mut err, gate);
-    answer_by(alloc, status, &out, &err, &host)
+    let mut out = sink(alloc, 1 << 20, failing.puts)?;
+    let mut answer = answer_to(rt, alloc, line, before, failing, gate, &mut out)?;
+    answer.out = out.bytes().to_vec(alloc)?;
+    Ok(answer)
 }
 
 /// The same with a gate that lets every block through.

@@ -55,24 +55,44 @@ static RECORDS: [(u8, u32, u32); 4] = [
 
 /// A page that begins and ends with these bytes, with zeros between.
 fn page_of(front: &[u8; 36], back: &[u8; 16]) -> [u8; 8192] {
-    with_bytes(with_bytes([0; 8192], 0, front), 8176, back)
+    let mut page = [0; 8192];
+    page[..36].copy_from_slice(front);
+    page[8176..].copy_from_slice(back);
+    page
 }
 
 pub(crate) fn one_item_page() -> [u8; 8192] {
     page_of(&ONE_ITEM_FRONT, &ONE_ITEM_BACK)
 }
 
+/// The page with one item at the log position 0/0, whose item has this number.
+pub(crate) fn numbered_page(number: u8) -> [u8; 8192] {
+    let mut page = one_item_page();
+    page[..8].copy_from_slice(&[0; 8]);
+    page[8184..8188].copy_from_slice(&[number, 0, 0, 0]);
+    page
+}
+
 pub(crate) fn dead_items_page() -> [u8; 8192] {
     page_of(&DEAD_ITEMS_FRONT, &DEAD_ITEMS_BACK)
 }
 
+/// A page so many times.
+pub(crate) fn repeated(alloc: Global, page: &[u8; 8192], count: u32) -> Result<Vec<u8>, Fail> {
+    let mut bytes = Vec::new(alloc);
+    for _ in 0..count {
+        bytes.extend_from_slice(page)?;
+    }
+    Ok(bytes)
+}
+
 /// The page with dead line pointers after its rewrite, where it is this block of the relation.
 pub(crate) fn rewritten_page(block: usize) -> [u8; 8192] {
-    let page = page_of(&REWRITTEN_FRONT, &REWRITTEN_BACK);
-    match RECORDS.get(block) {
-        Some((_, _, end)) => with_bytes(page, 4, &end.to_le_bytes()),
-        None => page,
+    let mut page = page_of(&REWRITTEN_FRONT, &REWRITTEN_BACK);
+    if let Some((_, _, end)) = RECORDS.get(block) {
+        page[4..8].copy_from_slice(&end.to_le_bytes());
     }
+    page
 }
 
 /// Appends the record of a block, of 8224 bytes, to a log: the page is what a rewrite makes of it there.
@@ -100,13 +120,4 @@ pub(crate) fn rewrite_log(alloc: Global) -> Result<Vec<u8>, Fail> {
         append_record(&mut log, *block, *start)?;
     }
     Ok(log)
-}
-
-/// The page with other bytes from a place on.
-pub(crate) fn with_bytes(page: [u8; 8192], place: usize, bytes: &[u8]) -> [u8; 8192] {
-    let mut edited = page;
-    for (old, new) in edited.iter_mut().skip(place).zip(bytes) {
-        *old = *new;
-    }
-    edited
 }

@@ -1,13 +1,11 @@
 //! Commands by several workers, and scans in which a call of a device fails.
 use crate::checks::check_eq;
-use crate::run::run;
 use crate::test_hosts::{
-    Answer, Call, CountingSink, Failing, NONE_FAIL, answer_at, answer_of, error_line, failing_of,
-    host_of, pages, words_of,
+    Answer, Call, CountingSink, Failing, NONE_FAIL, answer_at, answer_of, answer_to, error_line,
+    failing_of, pages,
 };
-use crate::test_pages::{dead_items_page, one_item_page, with_bytes};
+use crate::test_pages::{dead_items_page, numbered_page, one_item_page, repeated};
 use backend_pass::Pinned;
-use log_device::{FaultPlan, MemSink};
 use page_jobs::Gate;
 use std::alloc::Global;
 use std::process::Abort;
@@ -119,15 +117,6 @@ impl Gate for HoldingGate {
     }
 }
 
-/// A page with a number in its item, and the log position 0/0.
-fn numbered_page(number: u8) -> [u8; 8192] {
-    with_bytes(
-        with_bytes(one_item_page(), 0, &[0; 8]),
-        8184,
-        &[number, 0, 0, 0],
-    )
-}
-
 /// 65 pages, each with its number in its item and the log position 0/0, and the text of their scan.
 fn numbered_pages(alloc: Global) -> Result<(Vec<u8>, String), Fail> {
     let mut bytes = Vec::new(alloc);
@@ -140,15 +129,6 @@ fn numbered_pages(alloc: Global) -> Result<(Vec<u8>, String), Fail> {
     }
     text.push_str("blocks 65 used 65 new 0 invalid 0 normal 65 redirect 0 dead 0 unused 0\n")?;
     Ok((bytes, text))
-}
-
-/// 65 pages that a rewrite changes.
-fn changed_pages(alloc: Global) -> Result<Vec<u8>, Fail> {
-    let mut bytes = Vec::new(alloc);
-    for _number in 0..65 {
-        bytes.extend_from_slice(&dead_items_page())?;
-    }
-    Ok(bytes)
 }
 
 /// Runs a command over a relation of these pages, with this gate.
@@ -197,7 +177,7 @@ static HELD: [(u32, Holds); 4] = [
 fn workers_work_side_by_side(rt: HostRuntime) -> Result<(), Fail> {
     let alloc = rt.alloc();
     let (bytes, _text) = numbered_pages(alloc)?;
-    let changed = changed_pages(alloc)?;
+    let changed = repeated(alloc, &dead_items_page(), 65)?;
     for (backends, holds) in &HELD {
         let (backends, holds) = (*backends, *holds);
         check_held(&rt, alloc, "scan base/5/16384", &bytes, backends, holds)?;
@@ -252,7 +232,7 @@ impl Gate for SecondWorkerGate {
 #[test]
 fn the_log_is_down_for_the_others(rt: HostRuntime) -> Result<(), Fail> {
     let alloc = rt.alloc();
-    let bytes = changed_pages(alloc)?;
+    let bytes = repeated(alloc, &dead_items_page(), 65)?;
     let failing = failing_of(Call::Append, &[2]);
     let gate = SecondWorkerGate {
         other_read: AtomicBool::new(false),
@@ -328,19 +308,25 @@ fn output_begins_at_once(rt: HostRuntime) -> Result<(), Fail> {
     let (bytes, _text) = numbered_pages(alloc)?;
     let puts = AtomicU64::new(0);
     let mut out = CountingSink::new(&puts);
-    let mut err = MemSink::new(alloc, 0, FaultPlan::new(Vec::new(alloc)))?;
     let gate = OutputGate {
         puts: &puts,
         before_8: AtomicU64::new(0),
         before_16: AtomicU64::new(0),
     };
-    let words = words_of(alloc, "scan base/5/16384 --backends 1")?;
-    let mut host = host_of(alloc, pages(&[&bytes]), NONE_FAIL)?;
-    let status = run(&rt, alloc, &words, &mut *host, &mut out, &mut err, &gate);
+    let line = "scan base/5/16384 --backends 1";
+    let answer = answer_to(
+        &rt,
+        alloc,
+        line,
+        pages(&[&bytes]),
+        NONE_FAIL,
+        &gate,
+        &mut out,
+    )?;
     let before_8 = gate.before_8.load(Ordering::SeqCst);
     let before_16 = gate.before_16.load(Ordering::SeqCst);
     let all = puts.load(Ordering::SeqCst);
-    check_eq!(rt; (status, before_8, before_16, all), (0, 1, 2, 10));
+    check_eq!(rt; (answer.status, before_8, before_16, all), (0, 1, 2, 10));
     Ok(())
 }
 
@@ -391,24 +377,15 @@ fn a_full_window_holds_workers_up(rt: HostRuntime) -> Result<(), Fail> {
     Ok(())
 }
 
-/// 800 pages, whose text takes more than one piece.
-fn many_pages(alloc: Global) -> Result<Vec<u8>, Fail> {
-    let mut bytes = Vec::new(alloc);
-    for _number in 0..800 {
-        bytes.extend_from_slice(&one_item_page())?;
-    }
-    Ok(bytes)
-}
-
 /// How many backends scan, and which put fails: that of a chunk's text, or that of the totals.
 static FAILING_PUTS: [(u32, u64); 4] = [(1, 51), (1, 101), (7, 51), (7, 101)];
 
-/// The text of each chunk goes out in one piece, and the totals in another: what was put before a piece
-/// that fails stays.
+/// The text of each chunk of 800 pages goes out in one piece, and the totals in another: what was put before
+/// a piece that fails stays.
 #[test]
 fn later_pieces_may_fail(rt: HostRuntime) -> Result<(), Fail> {
     let alloc = rt.alloc();
-    let bytes = many_pages(alloc)?;
+    let bytes = repeated(alloc, &one_item_page(), 800)?;
     let line = "scan base/5/16384";
     let whole = answer_of(&rt, alloc, line, pages(&[&bytes]), NONE_FAIL)?;
     for (backends, put) in &FAILING_PUTS {

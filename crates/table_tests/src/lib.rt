@@ -1,9 +1,12 @@
-//! Tests of a small table without a manager: pins, the free list, hints, the values in its slots and the positions of
-//! its log. There is nothing in it to call.
+//! Tests of what backends share without a manager: a small table, with its pins, the free list, hints, the values in its
+//! slots and the positions of its log; the claims of a job's chunks; and the window of a job's texts. There is nothing in
+//! it to call.
 #![tactic(auto)]
 
 #[cfg(test)]
 mod checks;
+#[cfg(test)]
+mod claim_tests;
 #[cfg(test)]
 mod fixture;
 #[cfg(test)]
@@ -18,3 +21,5 @@ mod positions;
 mod tests;
 #[cfg(test)]
 mod values;
+#[cfg(test)]
+mod window_tests;

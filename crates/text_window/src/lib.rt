@@ -15,6 +15,3 @@ pub use naming::Naming;
 pub use shares::Shares;
 pub use waiting::Waiting;
 pub use window::{Delivery, Stop, Window};
-
-#[cfg(test)]
-mod tests;

@@ -1,2 +1,1 @@
-pub mod Idling
 pub mod Returning

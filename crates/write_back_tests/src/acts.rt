@@ -1,6 +1,5 @@
 //! What three passes do one after another, and what comes of it.
-ghost use Rattle.manager_tests.specs.Bench.{IsFree};
-ghost use Rattle.write_back_tests.specs.Idle.{IsFreeAndUnlocked};
+ghost use Rattle.manager_bench.specs.Bench.{IsFree};
 
 use crate::bench::start;
 use crate::devices::{ByteLog, PageLane, TestCall, calls_of};
@@ -10,9 +9,9 @@ use backend_pass::{FlushError, Manager, Met, Pass, PutError, ReadError};
 use bg_writer::Round;
 use checkpointer::{Checkpoint, CheckpointError};
 use log_device::LogDevice;
-use manager_tests::bench::{Bench, block, close};
-use manager_tests::putting::{flush_once, put_once};
-use manager_tests::reading::{Access, copy_once, pin, read_once, unpin};
+use manager_bench::bench::{Bench, block, close};
+use manager_bench::putting::{flush_once, put_once};
+use manager_bench::reading::{Access, copy_once, pin, read_once, unpin};
 use page_layout::{Lsn, Page};
 use segment_store::BlockLane;
 use std::alloc::{AllocError, Global};
@@ -71,6 +70,16 @@ struct Tools {
     ring: Option<Ring>,
 }
 
+impl Tools {
+    /// A page with one item to put, whose first byte is 200.
+    fn new(alloc: Global, ring: Option<Ring>) -> Result<Tools, AllocError> {
+        let mut page = Page::zeroed(alloc)?;
+        page.fill(&one_item(200));
+        let copied = Page::zeroed(alloc)?;
+        Ok(Tools { page, copied, ring })
+    }
+}
+
 /// Makes a round while another pass pins a block. None where that isn't read.
 fn round_beside<L: BlockLane, G: LogDevice, R: Wait>(
     manager: &Manager<L, G>,
@@ -79,9 +88,9 @@ fn round_beside<L: BlockLane, G: LogDevice, R: Wait>(
     third: &mut Pass,
     number: u32,
 ) -> Option<Result<Round, FlushError>>
-    requires second { IsFreeAndUnlocked L.contents manager.now 1 second.old }
+    requires second { IsFree L.contents manager.now 1 second.old }
     requires third { IsFree L.contents manager.now 2 third.old }
-    ensures second { IsFreeAndUnlocked L.contents manager.now 1 second.new }
+    ensures second { IsFree L.contents manager.now 1 second.new }
     ensures third { IsFree L.contents manager.now 2 third.new }
 {
     let Ok(pinned) = pin(manager, rt, third, 2, block(number), &mut None) else {
@@ -121,10 +130,10 @@ fn perform<L: BlockLane, G: LogDevice, R: Wait>(
     tools: &mut Tools,
 ) -> Answer
     requires first { IsFree L.contents manager.now 0 first.old }
-    requires second { IsFreeAndUnlocked L.contents manager.now 1 second.old }
+    requires second { IsFree L.contents manager.now 1 second.old }
     requires third { IsFree L.contents manager.now 2 third.old }
     ensures first { IsFree L.contents manager.now 0 first.new }
-    ensures second { IsFreeAndUnlocked L.contents manager.now 1 second.new }
+    ensures second { IsFree L.contents manager.now 1 second.new }
     ensures third { IsFree L.contents manager.now 2 third.new }
 {
     let Tools { page, copied, ring } = tools;
@@ -156,10 +165,10 @@ fn perform_all<L: BlockLane, G: LogDevice, R: Wait>(
     alloc: Global,
 ) -> Result<Vec<Answer>, AllocError>
     requires first { IsFree L.contents manager.now 0 first.old }
-    requires second { IsFreeAndUnlocked L.contents manager.now 1 second.old }
+    requires second { IsFree L.contents manager.now 1 second.old }
     requires third { IsFree L.contents manager.now 2 third.old }
     ensures first { IsFree L.contents manager.now 0 first.new }
-    ensures second { IsFreeAndUnlocked L.contents manager.now 1 second.new }
+    ensures second { IsFree L.contents manager.now 1 second.new }
     ensures third { IsFree L.contents manager.now 2 third.new }
 {
     let mut answers = Vec::new(alloc);
@@ -182,20 +191,17 @@ pub struct Played {
     pub log: ByteLog,
 }
 
-/// The passes of a manager of so many frames over these devices do acts in order, and the manager is closed.
-pub fn play<R: Wait>(
-    rt: &R,
-    alloc: Global,
-    frames: u32,
-    lanes: Vec<PageLane>,
-    log: ByteLog,
-    acts: &[Act],
-) -> Result<Box<Played>, AllocError> {
-    play_by_ring(rt, alloc, frames, lanes, log, None, acts)
+impl Played {
+    /// The position of a block's page in the first lane.
+    pub fn page_lsn(&self, block: usize) -> Option<Lsn> {
+        let page = self.lanes.first()?.pages.get(block)?;
+        Some(page.lsn())
+    }
 }
 
-/// The same, where the first pass puts and reads by a ring.
-pub fn play_by_ring<R: Wait>(
+/// The passes of a manager of so many frames over these devices do acts in order, the first one by a ring, if any, and the
+/// manager is closed.
+pub fn play<R: Wait>(
     rt: &R,
     alloc: Global,
     frames: u32,
@@ -204,10 +210,7 @@ pub fn play_by_ring<R: Wait>(
     ring: Option<Ring>,
     acts: &[Act],
 ) -> Result<Box<Played>, AllocError> {
-    let mut page = Page::zeroed(alloc)?;
-    page.fill(&one_item(200));
-    let copied = Page::zeroed(alloc)?;
-    let mut tools = Tools { page, copied, ring };
+    let mut tools = Tools::new(alloc, ring)?;
     let Bench {
         manager,
         mut first,

@@ -1,8 +1,9 @@
 //! A rewrite, and a checkpoint after it.
 use crate::devices::{ByteLog, PageLane, TestCall, calls_of};
 use backend_pass::{Config, Manager, StartRefused};
-use block_tag::{Catalog, CatalogError, Fork, RelEntry, RelNo};
+use block_tag::{Fork, RelNo};
 use checkpointer::{Checkpoint, CheckpointError, checkpoint};
+use manager_bench::bench::catalog;
 use page_jobs::{Beside, Gate, JobEnd, JobError, Totals, rewrite};
 use page_layout::Lsn;
 use std::alloc::{AllocError, Global};
@@ -20,18 +21,7 @@ pub struct Rewritten {
     pub calls: Vec<TestCall>,
 }
 
-/// A relation of four blocks.
-fn catalog(alloc: Global) -> Result<Catalog, CatalogError> {
-    let entry = RelEntry {
-        tablespace: 0,
-        database: 0,
-        relation: 16384,
-        blocks: [4, 0, 0, 0],
-    };
-    Catalog::build(alloc, &[entry])
-}
-
-/// One pass of a manager of 16 frames rewrites the relation, with this work beside it by the other one,
+/// One pass of a manager of 16 frames rewrites a relation of four blocks, with this work beside it by the other one,
 /// which makes a checkpoint after that.
 pub fn rewrite_then_checkpoint<R, T, B>(
     rt: &R,
@@ -46,7 +36,7 @@ where
     T: Gate + Sync,
     B: Beside<PageLane, ByteLog>,
 {
-    let Ok(catalog) = catalog(alloc) else {
+    let Ok(catalog) = catalog(alloc, 4) else {
         return Err(AllocError);
     };
     let mut lanes = Vec::new(alloc);

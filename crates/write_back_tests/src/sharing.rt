@@ -1,15 +1,14 @@
 //! Rounds and checkpoints by a pass beside two others, each in a thread of its own.
 ghost use Rattle.std.specs.Thread.{IsSync};
-ghost use Rattle.manager_tests.specs.Bench.{IsFreeIn};
-ghost use Rattle.write_back_tests.specs.Idle.{IsFreeAndUnlockedIn};
+ghost use Rattle.manager_bench.specs.Bench.{IsFreeIn};
 
 use crate::bench::start;
 use crate::devices::{ByteLog, PageLane};
 use crate::syncing::{checkpoint_once, round_once};
 use backend_pass::{Manager, Pass};
-use manager_tests::bench::{Bench, block, close};
-use manager_tests::putting::put_once;
-use manager_tests::reading::copy_once;
+use manager_bench::bench::{Bench, block, close};
+use manager_bench::putting::put_once;
+use manager_bench::reading::copy_once;
 use page_layout::{Lsn, Page};
 use std::alloc::{AllocError, Global};
 use std::sync::Wait;
@@ -128,8 +127,8 @@ fn sync_once<R: Wait>(
     _number: u32,
     job: TestJob,
 ) -> Option<Lsn>
-    requires { IsFreeAndUnlockedIn manager.now _number pass.old }
-    ensures { IsFreeAndUnlockedIn manager.now _number pass.new }
+    requires { IsFreeIn manager.now _number pass.old }
+    ensures { IsFreeIn manager.now _number pass.new }
 {
     match job {
         TestJob::Rounds => match round_once(manager, rt, pass, _number) {
@@ -152,8 +151,8 @@ fn sync_often<R: Wait>(
     job: TestJob,
     times: u32,
 ) -> Option<Lsn>
-    requires { IsFreeAndUnlockedIn manager.now _number pass.old }
-    ensures { IsFreeAndUnlockedIn manager.now _number pass.new }
+    requires { IsFreeIn manager.now _number pass.old }
+    ensures { IsFreeIn manager.now _number pass.new }
 {
     let mut upto = 0;
     for _ in 0..times {
@@ -183,16 +182,16 @@ fn sync_beside<R: Threads + Wait + Sync>(
 ) -> Beside
     requires first { IsFreeIn manager.now 0 first.old }
     requires second { IsFreeIn manager.now 1 second.old }
-    requires third { IsFreeAndUnlockedIn manager.now 2 third.old }
+    requires third { IsFreeIn manager.now 2 third.old }
     ensures first { IsFreeIn manager.now 0 first.new }
     ensures second { IsFreeIn manager.now 1 second.new }
-    ensures third { IsFreeAndUnlockedIn manager.now 2 third.new }
+    ensures third { IsFreeIn manager.now 2 third.new }
 {
     let (upto, used) = join_mut(
         rt,
         &mut || -> Option<Lsn>
-            requires { IsSync R.row × IsFreeAndUnlockedIn manager.now 2 third.now }
-            ensures { IsFreeAndUnlockedIn manager.entry.now 2 third.exit.now }
+            requires { IsSync R.row × IsFreeIn manager.now 2 third.now }
+            ensures { IsFreeIn manager.entry.now 2 third.exit.now }
         { sync_often(manager, rt, third, 2, job, 40) },
         &mut || -> (Option<u32>, Option<u32>)
             requires { IsSync R.row × IsFreeIn manager.now 0 first.now

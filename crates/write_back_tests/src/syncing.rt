@@ -1,5 +1,5 @@
 //! Rounds and checkpoints by a pass that has no token.
-ghost use Rattle.write_back_tests.specs.Idle.{IsFreeAndUnlocked};
+ghost use Rattle.manager_bench.specs.Bench.{IsFree};
 
 use backend_pass::{FlushError, Manager, Pass};
 use bg_writer::{Round, round};
@@ -15,8 +15,8 @@ pub fn round_once<L: BlockLane, G: LogDevice, R: Wait>(
     pass: &mut Pass,
     _number: u32,
 ) -> Result<Round, FlushError>
-    requires { IsFreeAndUnlocked L.contents manager.now _number pass.old }
-    ensures { IsFreeAndUnlocked L.contents manager.now _number pass.new }
+    requires { IsFree L.contents manager.now _number pass.old }
+    ensures { IsFree L.contents manager.now _number pass.new }
 {
     round(manager, rt, pass)
 }
@@ -28,8 +28,8 @@ pub fn checkpoint_once<L: BlockLane, G: LogDevice, R: Wait>(
     pass: &mut Pass,
     _number: u32,
 ) -> Result<Checkpoint, CheckpointError>
-    requires { IsFreeAndUnlocked L.contents manager.now _number pass.old }
-    ensures { IsFreeAndUnlocked L.contents manager.now _number pass.new }
+    requires { IsFree L.contents manager.now _number pass.old }
+    ensures { IsFree L.contents manager.now _number pass.new }
 {
     checkpoint(manager, rt, pass)
 }

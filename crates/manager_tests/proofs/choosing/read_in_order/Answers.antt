@@ -1,4 +1,4 @@
-use Rattle.manager_tests.proofs.Freeing.{free_on}
+use Rattle.manager_bench.proofs.Freeing.{free_on}
 use Rattle.manager_tests.proofs.choosing.read_in_order.Goals as goal
 
 pub returns : goal.returns

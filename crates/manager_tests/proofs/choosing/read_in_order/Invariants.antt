@@ -1,5 +1,5 @@
 use Rattle.std.proofs.Common.{◌≤◌}
-use Rattle.manager_tests.specs.Bench.{IsFree}
+use Rattle.manager_bench.specs.Bench.{IsFree}
 use Rattle.manager_tests.proofs.choosing.read_in_order.Given as goal
 
 abbrev pub invariant-loop-number : goal.invariant-loop-number

@@ -1,5 +1,5 @@
 use Rattle.std.proofs.Common.{◌≡◌}
-use Rattle.manager_tests.specs.Bench.{Returns}
+use Rattle.manager_tests.specs.Tokens.{Returns}
 use Rattle.manager_tests.proofs.cleaning.look_for.Given as goal
 
 abbrev pub invariant-loop : goal.invariant-loop

@@ -1,5 +1,5 @@
 use Rattle.pin_core.specs.declared.view.Content.TheVariants.{Exclusive}
-use Rattle.manager_tests.proofs.Freeing.{relocked_returns}
+use Rattle.manager_tests.proofs.Returning.{relocked_returns}
 use Rattle.manager_tests.proofs.cleaning.try_clean.Goals as goal
 
 pub returns-in-Ok-clause-pass : goal.returns-in-Ok-clause-pass

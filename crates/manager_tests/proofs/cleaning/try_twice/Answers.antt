@@ -1,4 +1,4 @@
-use Rattle.manager_tests.proofs.Freeing.{pinned_returns, returns_on}
+use Rattle.manager_tests.proofs.Returning.{pinned_returns, returns_on}
 use Rattle.manager_tests.proofs.cleaning.try_twice.Goals as goal
 
 pub returns : goal.returns

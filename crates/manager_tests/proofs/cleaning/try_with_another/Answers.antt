@@ -1,4 +1,4 @@
-use Rattle.manager_tests.proofs.Freeing.{pinned_returns}
+use Rattle.manager_tests.proofs.Returning.{pinned_returns}
 use Rattle.manager_tests.proofs.cleaning.try_with_another.Goals as goal
 
 pub returns : goal.returns

@@ -1,7 +1,7 @@
 use Rattle.std.proofs.Common.{◌≢◌, sym, subst, arith}
 use Rattle.block_tag.specs.declared.tag.Tag.{Tag}
 use Rattle.buffer_frames.specs.Tokens.{IsPinnedFor}
-use Rattle.manager_tests.proofs.Freeing.{kept_returns, pinned_still_without, released_returns, token_beside, unlocked_without, without_beside, without_one}
+use Rattle.manager_tests.proofs.Returning.{kept_returns, pinned_still_without, released_returns, token_beside, unlocked_without, without_beside, without_one}
 use Rattle.manager_tests.proofs.crowding.+hold_first.Goals as goal
 
 pub returns-in_default-clause-first : goal.returns-in_default-clause-first

@@ -1,5 +1,5 @@
 use Rattle.std.proofs.Common.{refl}
-use Rattle.manager_tests.proofs.Freeing.{kept_returns, pinned_returns, without_one}
+use Rattle.manager_tests.proofs.Returning.{kept_returns, pinned_returns, without_one}
 use Rattle.manager_tests.proofs.crowding.+hold_second.Goals as goal
 
 pub returns-then-number-gt15-clause-second : goal.returns-then-number-gt15-clause-second

@@ -1,4 +1,4 @@
-use Rattle.manager_tests.proofs.Freeing.{token_kept, without_one}
+use Rattle.manager_tests.proofs.Returning.{token_kept, without_one}
 use Rattle.manager_tests.proofs.crowding.crowd.Goals as goal
 
 pub release-requires-clause-pinned : goal.release-requires-clause-pinned

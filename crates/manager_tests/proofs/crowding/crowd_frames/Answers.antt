@@ -1,4 +1,4 @@
-use Rattle.manager_tests.proofs.Freeing.{kept_returns, released_returns}
+use Rattle.manager_tests.proofs.Returning.{kept_returns, released_returns}
 use Rattle.manager_tests.proofs.crowding.crowd_frames.Goals as goal
 
 pub returns-in_default-clause-second : goal.returns-in_default-clause-second

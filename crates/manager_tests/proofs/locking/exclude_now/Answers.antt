@@ -1,5 +1,5 @@
 use Rattle.pin_core.specs.declared.view.Content.TheVariants.{Exclusive, Unlocked}
-use Rattle.manager_tests.proofs.Freeing.{only_relocked}
+use Rattle.manager_bench.proofs.Freeing.{only_relocked}
 use Rattle.manager_tests.proofs.locking.exclude_now.Goals as goal
 
 pub returns-in-Ok : goal.returns-in-Ok

@@ -1,5 +1,5 @@
 use Rattle.std.proofs.Common.{◌≤◌}
-use Rattle.manager_tests.specs.Bench.{IsFreeIn}
+use Rattle.manager_bench.specs.Bench.{IsFreeIn}
 use Rattle.manager_tests.proofs.sharing.copy_often.Given as goal
 
 abbrev pub invariant-loop : goal.invariant-loop

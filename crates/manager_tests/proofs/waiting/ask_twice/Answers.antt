@@ -1,5 +1,5 @@
 use Rattle.std.proofs.Common.{◌∙◌}
-use Rattle.manager_tests.proofs.Freeing.{pinned_returns, returns_on}
+use Rattle.manager_tests.proofs.Returning.{pinned_returns, returns_on}
 use Rattle.manager_tests.proofs.waiting.ask_twice.Goals as goal
 
 pub returns : goal.returns

@@ -1,4 +1,4 @@
-use Rattle.manager_tests.specs.Bench.{IsFreeIn}
+use Rattle.manager_bench.specs.Bench.{IsFreeIn}
 use Rattle.write_back_tests.proofs.sharing.use_often.Given as goal
 
 abbrev pub invariant-loop-time : goal.invariant-loop-time

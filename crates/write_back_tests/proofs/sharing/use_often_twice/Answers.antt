@@ -1,6 +1,6 @@
 use denote.Exit.{no}
 use denote.Param.Send.{IsSend, param_send, arg_send, mut_send, shr_send}
-use Rattle.manager_tests.proofs.Crossing.{numbers_shared}
+use Rattle.manager_bench.proofs.Crossing.{numbers_shared}
 use Rattle.backend_pass.proofs.Crossing.{globals_shared, passes_sent, six_sent}
 use Rattle.write_back_tests.proofs.sharing.Crossing.{managers_shared, uses_shared}
 use Rattle.write_back_tests.proofs.sharing.use_often_twice.Lts.{arg-0-1}

@@ -1,5 +1,0 @@
-use Rattle.chunk_claims.specs.Workers.{MayClaim}
-use Rattle.chunk_claims.proofs.tests.claim_often.Given as goal
-
-abbrev pub invariant-loop-turn : goal.invariant-loop-turn
-invariant-loop-turn l = record { seat : MayClaim l.claims l.seat }

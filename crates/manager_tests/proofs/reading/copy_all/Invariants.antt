@@ -1,6 +1,0 @@
-use Rattle.std.proofs.Common.{◌≤◌}
-use Rattle.manager_tests.specs.Bench.{IsFree}
-use Rattle.manager_tests.proofs.reading.copy_all.Given as goal
-
-abbrev pub invariant-loop-number : goal.invariant-loop-number
-invariant-loop-number g l = record { free : IsFree {L = g.row.L.Denot} {G = g.row.G.Denot} g.L.BlockLane.contents l.fn.manager l.fn._number l.pass; few : l.wrong ≤ l.number }
