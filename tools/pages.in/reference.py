@@ -27,6 +27,9 @@ PROTOCOL = "history_core"
 # A line with more links than this has none: what they lead to is what follows.
 MOST_LINKS = 6
 
+# Words in backquotes in comments, in no code, and not PostgreSQL's.
+NOT_POSTGRESQL = ["help"]
+
 NOTATION = [
     ("`self.old`, `self.new`", "`self` before the call and after it; so with each `&mut` parameter"),
     ("`x.now`", "the value behind a `&`"),
@@ -341,7 +344,7 @@ def c_names_page(crates):
         "# PostgreSQL's names", "",
         "For readers who know `bufmgr.c`: the names of PostgreSQL in our comments, and what of ours they "
         "stand at. Functions come first, from the top of the library down, then files, then kinds of "
-        "step, types and definitions.", "",
+        "step, types and definitions; of each the programs' and the tests' last.", "",
     ]
     places = places_of_c_names(crates)
     kinds = {"Functions, types and fields": False, "Flags, constants and macros": True}
@@ -358,10 +361,10 @@ def c_names_page(crates):
 def places_of_c_names(crates):
     """What each name of PostgreSQL stands at, functions first: our name with its crate, and the
     file. A name is PostgreSQL's if it stands in backquotes in a comment, and in no code."""
-    ours = words_of_code(crates)
-    order = {"fn": 0, "file": 1}
-    places = {}
-    for crate in reversed(list(crates.values())):
+    ours, places, order = words_of_code(crates), {}, {"fn": 0, "file": 1}
+    used = {name for crate in crates.values() for name in crate.uses}
+    from_the_top = reversed(list(crates.values()))
+    for crate in sorted(from_the_top, key=lambda x: x.name not in used):
         for item in crate.items + crate.specs:
             for title, comment in comments_of(item):
                 for name in re.findall(r"`(\w{4,})(?:\(\))?`", comment):
@@ -372,8 +375,8 @@ def places_of_c_names(crates):
 
 
 def words_of_code(crates):
-    """The words of our code, which aren't PostgreSQL's if they stand in a comment."""
-    words = {*crates}
+    """The words of our code, which aren't PostgreSQL's if they stand in a comment, and a few others."""
+    words = {*crates, *NOT_POSTGRESQL}
     for crate in crates.values():
         specs = files_in(f"crates/{crate.name}/specs", ".antt")
         for path in crate.files + crate.test_files + specs:
