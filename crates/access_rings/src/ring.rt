@@ -37,6 +37,7 @@ impl RingKind {
 
 /// Places in a circle, each with a frame or empty, and a current place (`BufferAccessStrategyData`).
 /// Contracts see its kind, the list of its places, and the current place.
+/// Frames are numbered from 0, so an empty place has none; PostgreSQL's has `InvalidBuffer`, 0.
 #[derive(Debug, Drop)]
 pub struct Ring {
     kind: RingKind,

@@ -92,10 +92,11 @@ pub record ClosesPass (s : State) (p : PassState) : Type 0 where
 abbrev pub EachPass : (PassState → Type 0) → List PassState → Type 0
 EachPass P ps = (i : ℕ) (p : PassState) → get_elem? ps i ≡ some p → P p
 
--- it never marked a frame dirty or synced a lane; it put no page
+-- it never marked a frame dirty or synced a lane
 abbrev pub HasNoMark : PassState → Type 0
 HasNoMark p = p.view.dirtied_or_synced ≡ false
 
+-- it put no page and changed no fork's size
 abbrev pub PutNothing : PassState → Type 0
 PutNothing p = writes_in p.view.calls ≡ 0
 

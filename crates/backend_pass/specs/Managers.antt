@@ -33,7 +33,9 @@ module _ {L G : Type 0} where
     pub log_is : m.table.table.shared.key.log.value ≡ log
     pub base_is : m.table.table.shared.key.base ≡ base
 
-  -- The pass is one of the manager's
+  -- The pass is one of the manager's.
+  -- A pass has no type parameter for its devices. So what depends on them, as that its blocks were
+  -- sound at the opening, is said here.
   pub record Belongs (contents : L → Option Pages) (m : Manager L G) (p : PassState) : Type 0 where
     pub table : p.table ≡ m.table.table.shared.table_id
     pub frames : p.census.frames ≡ frames_of m.table

@@ -92,7 +92,9 @@ pub record KeepsCalls (p q : PassState) : Type 0 where
   pub front : q.view.front ≡ p.view.front
   pub place_loads : q.view.place_loads ≡ p.view.place_loads
 
--- It looked up no block: what was seen of a hint, how many latches of partitions it took, the hints that it stored, what it took from the free list and pushed there, and how often it moved the hand of the clock are as they were
+-- It looked up no block: what was seen of a hint, how many latches of partitions it took, the hints that it stored, what it took from the free list and pushed there, and how often it moved the hand of the clock are as they were.
+-- Only reads take latches of partitions and store hints; so a pass's other calls need this one
+-- short clause. Calls below a pass need none, since the equations of their views say it.
 pub record KeepsSought (p q : PassState) : Type 0 where
   pub hint : q.hint ≡ p.hint
   pub turns : q.view.turns ≡ p.view.turns

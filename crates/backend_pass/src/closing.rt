@@ -1,4 +1,7 @@
 //! Passes give their seats back.
+//!
+//! The contracts say what a pass has swept, not which frames its checkpoint visited: no call of a
+//! pass keeps those notes.
 ghost use Rattle.std.specs.Prelude.{◌≡◌, ◌<◌, []};
 ghost use Rattle.clock_sweep.specs.FreeLists.{IsOfSweep};
 ghost use Rattle.frame_table.specs.Seats.{Fits, SameSeat};

@@ -1,4 +1,8 @@
 //! Content locks that a pass takes and gives up (`LockBuffer`).
+//!
+//! The content lock is the pass's, so of a frame's tokens at most one is `Shared` or `Exclusive`. A
+//! pass that asked for the lock again with another token would wait for itself; the contracts don't
+//! allow that.
 
 use crate::errors::Refused;
 use crate::manager::Manager;

@@ -1,4 +1,7 @@
 //! The frames that a pass's checkpoint has marked.
+//!
+//! The list has room for all frames from the start, as `CkptBufferIds` has. PostgreSQL sorts by
+//! tablespace first, to balance the writes over tablespaces.
 ghost use Rattle.std.specs.Prelude.{◌≡◌, ◌<◌, ◌++◌, ◌∷◌, [], length};
 ghost use Rattle.std.specs.List.Sorted.{IsNonDecreasingBy, IsPermutation};
 

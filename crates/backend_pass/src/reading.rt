@@ -1,4 +1,7 @@
 //! A pass reads a block.
+//!
+//! Rings are passed as `&mut Option<Ring>`: if a reference stood inside the `Option`, no clause
+//! could tell the caller what it refers to after a call.
 ghost use Rattle.std.specs.Prelude.{◌≡◌, true, is_some};
 ghost use Rattle.block_tag.specs.Names.{lane_number, names_block};
 ghost use Rattle.table_rule.specs.Blocks.{has_block};

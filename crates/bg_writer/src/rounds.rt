@@ -1,4 +1,6 @@
 //! A round of the background writer.
+//!
+//! A round loads the clock's hand once and never moves it; the clock may move on meanwhile.
 ghost use Rattle.std.specs.Prelude.{◌≡◌, ◌+◌, ◌<◌, ◌%◌, ℕ, IfErr, IfOk, IsOk};
 ghost use Rattle.pin_core.specs.State.{link};
 ghost use Rattle.clock_sweep.specs.Keeping.{SamePins};

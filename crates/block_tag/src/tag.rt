@@ -51,6 +51,8 @@ impl Fork {
 }
 
 /// The name of a block: a relation of the catalogue, one of its forks, and the block's number there.
+/// A tag can be made that names no block, so `names_block` tells, and `pack` takes any tag. A type
+/// without such tags would need a proof wherever a definition makes one.
 #[derive(Clone, Copy, PartialEq, Eq, PartialOrd, Ord, Hash, Debug)]
 pub struct Tag {
     pub rel: RelNo,

@@ -350,6 +350,8 @@ fn is_rejected<L: BlockLane, G: LogDevice, R: Wait>(
 }
 
 /// Writes a dirty victim, unless its content lock is refused or the ring gives it up. `from_ring` says that it stands at the ring's current place.
+/// Its page is copied before the ring is asked, since the ring decides by the page's log position,
+/// and copied again when it is flushed.
 pub fn flush_victim<L: BlockLane, G: LogDevice, R: Wait>(
     table: &FrameTable<L, G>,
     rt: &R,

@@ -1,4 +1,8 @@
 //! The hint of a block is tried.
+//!
+//! A frame that the backend pins isn't tried: a backend counts once in the reference count, so it
+//! can't pin the frame again. Such a frame has another block, since the backend's pins were
+//! searched for this one before.
 ghost use Rattle.std.specs.Prelude.{◌≡◌, ◌<◌, None, IfErr, IfOk, MatchResult};
 ghost use Rattle.block_tag.specs.Names.{packed_tag};
 ghost use Rattle.frame_table.specs.Seats.{Touches, frames_of};

@@ -1,4 +1,7 @@
 //! A block's page comes into its frame.
+//!
+//! The state word is loaded before the header is locked: a block that is in the pool costs no
+//! header lock, and after a good read nothing is looked at twice.
 ghost use Rattle.std.specs.Prelude.{[], ◌≡◌, ◌∷◌, ◌<◌, Some, true, IfErr, IfOk};
 ghost use Rattle.std.specs.Bool.{OnTrue};
 ghost use Rattle.block_tag.specs.Names.{lane_number, names_block, packed_tag};
@@ -75,6 +78,7 @@ fn read_lane<L: BlockLane, G: LogDevice, R: Wait>(
 }
 
 /// The page that the lane gave becomes the frame's, whose old page comes out in its place.
+/// So no page is copied on a miss.
 fn put_page<L: BlockLane, G: LogDevice>(
     table: &FrameTable<L, G>,
     seat: &mut Seat<Value<L, G>, View>,

@@ -1,4 +1,7 @@
 //! The list of a backend's pins.
+//!
+//! Between two calls a backend's view has the pins that its tokens say and nothing else, content
+//! locks aside (`OnlyTokens`).
 
 use block_tag::Tag;
 use frame_table::Pin;

@@ -71,6 +71,8 @@ fn at_once(word: u64, only: SyncOnly) -> Option<Synced>
 }
 
 /// Locks the header of a frame, and looks at its state word under it.
+/// The first look is under the header, as in `SyncOneBuffer`: a load while another backend has the
+/// header shows a locked word, and decides nothing.
 fn look_under<L: BlockLane, G: LogDevice, R: Wait>(
     table: &FrameTable<L, G>,
     rt: &R,

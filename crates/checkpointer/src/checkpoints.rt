@@ -1,4 +1,8 @@
 //! A checkpoint.
+//!
+//! A checkpoint calls `begin_checkpoint`, `need_checkpoint`, `sync_one`, `flush_log` and
+//! `sync_lane` of a pass, in this order. In another order less can be said at the end. Beginning a
+//! checkpoint forgets what the last one marked; `sync_lane` sets the pass's mark.
 ghost use Rattle.std.specs.Prelude.{◌≡◌, ℕ, IfErr, IfOk, IsOk};
 ghost use Rattle.backend_pass.specs.Managers.{Belongs};
 ghost use Rattle.backend_pass.specs.Passes.{KeepsCallers, NoDeviceFails};

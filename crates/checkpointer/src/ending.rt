@@ -17,6 +17,8 @@ pub struct Checkpoint {
 }
 
 /// Why a checkpoint stopped before its end.
+/// No further lane is synced then. What was marked stays marked; the next checkpoint begins anew,
+/// and syncs every lane.
 #[derive(Clone, Copy, PartialEq, Eq, Debug, Error)]
 pub enum CheckpointError {
     /// The lane failed to write the page of this block.

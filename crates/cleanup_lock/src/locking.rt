@@ -1,4 +1,12 @@
 //! The cleanup lock, and the wait for it (`LockBufferForCleanup`).
+//!
+//! `lock` locks the header too, since it sets the waiter by the same word; `try_lock` loads the
+//! word once without it. The wait is a loop of loads, which ends when the bit is clear or another
+//! backend's.
+//!
+//! PostgreSQL's waiter sleeps, and clears a bit that is still its own. Here the backend that wakes
+//! it clears the bit, at a count of 1. So a backend that was refused because another one waits may
+//! find the lock free at once.
 ghost use Rattle.std.specs.Prelude.{◌≡◌, ◌<◌, IfErr, IfOk, None, Some};
 ghost use Rattle.state_word.specs.Fields.{fields};
 ghost use Rattle.pin_core.specs.State.{link};

@@ -1,4 +1,9 @@
 //! Pins are given up, and waiters woken (`UnpinBuffer`).
+//!
+//! Pins of victims and of wrong hints are given up so, too: another backend may pin such a frame
+//! and wait for it. The header is locked only if the word that the unpin left has
+//! `BM_PIN_COUNT_WAITER` and a count of 1. PostgreSQL locks it for the bit alone, and looks at the
+//! count then.
 ghost use Rattle.std.specs.Prelude.{◌≡◌, false};
 ghost use Rattle.state_word.specs.Fields.{fields};
 ghost use Rattle.pin_core.specs.State.{link};

@@ -1,4 +1,12 @@
 //! The rule of the free list, and what a backend has of it.
+//!
+//! A frame may be listed twice: a push searches nothing, unlike PostgreSQL's with `freeNext`. A
+//! frame from the list is only tried, under its header. If the list is full, `free` is false, and
+//! the clock finds the frame.
+//!
+//! The right to know the whole list is cut into 64 parts, as many as there may be passes. Only the
+//! pass with all parts, as a manager is closed, knows the rule as an equation: each frame was taken
+//! once, and once more for each time that it was pushed, unless it is still in the list.
 
 use crossbeam_queue::Pass;
 use crossbeam_queue::protocol::{Join, Lesson, Outcome, Protocol, Split};

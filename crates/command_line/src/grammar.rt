@@ -1,4 +1,8 @@
 //! The command line as clap reads it.
+//!
+//! Options come before or after PATH, as `--lanes 2` or `--lanes=2`. Refused are an option before
+//! the subcommand, one given twice, an unknown one, `--help`, `help`, `--version`, and words that
+//! aren't UTF-8.
 ghost use Rattle.std.specs.Prelude.{◌≡◌, IfOk, false, map, string_bytes};
 ghost use Rattle.clap.specs.Words.{FailsBy, app_of, fault_of, rule_of, subcommand_of};
 ghost use Rattle.clap.specs.declared.builder.command.Command.TheViews.{out-Command as fields_of};

@@ -105,6 +105,8 @@ fn is_file_end(end: &[u8]) -> bool
 }
 
 /// Whether a file is one of the relation at this path.
+/// They are compared as text. A dot needs at least one digit after it: `16384.` and `16384.x` may
+/// be logs.
 #[tactic(auto, unfolding(crate::specs::RelationPath::is_file_of))]
 pub(crate) fn is_file_of(path: &str, file: &str) -> bool
     ensures { result ≡ is_file_of path.now file.now }

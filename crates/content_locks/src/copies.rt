@@ -15,8 +15,9 @@ ghost use Rattle.frame_table.specs.Seats.{CanStep, SameMarks, SameSeat, Touches,
 ghost use Rattle.frame_table.specs.FrameSteps.{Did};
 ghost use Rattle.content_locks.specs.Locks.{CanCopy, Copies, CopiesPage, LocksContent, MayCopy, TriedCopy, copied_link, copying_link_if};
 
+use crate::content_word::{is_copying, is_exclusive};
 use atomic_table::Seat;
-use frame_table::{FrameTable, Value, is_copying, is_exclusive};
+use frame_table::{FrameTable, Value};
 use log_device::LogDevice;
 use page_layout::Page;
 use pin_core::View;

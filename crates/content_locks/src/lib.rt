@@ -5,6 +5,7 @@
 //! page. [`start_io`] takes the right to read a page in or write it out, and [`end_io`] gives it back.
 #![tactic(auto)]
 
+mod content_word;
 mod copies;
 mod io;
 mod locks;

@@ -1,4 +1,7 @@
 //! Content locks (`LockBuffer`).
+//!
+//! A try looks once and exchanges once. So it may be refused because the word changed meanwhile,
+//! though no holder is in conflict.
 ghost use Rattle.std.specs.Prelude.{◌≡◌, ℕ, IfErr, IfOk};
 ghost use Rattle.pin_core.specs.State.{link};
 ghost use Rattle.page_core.specs.Kinds as kinds;
@@ -8,8 +11,9 @@ ghost use Rattle.frame_table.specs.FrameSteps.{Did};
 ghost use Rattle.frame_table.specs.Content.{CanDropExclusive, CanDropShare, CanLock, exclusive_link, shared_link, unexclusive_link, unshared_link};
 ghost use Rattle.content_locks.specs.Locks.{ShowsLock, ShowsExclusive, LocksAtOnce, LocksContent, RefusesLock};
 
+use crate::content_word::is_exclusive;
 use atomic_table::Seat;
-use frame_table::{FrameTable, Value, is_exclusive};
+use frame_table::{FrameTable, Value};
 use log_device::LogDevice;
 use pin_core::View;
 use segment_store::BlockLane;

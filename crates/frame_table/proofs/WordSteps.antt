@@ -34,7 +34,7 @@ use Rattle.frame_table.specs.declared.log_words.EndLoad.{EndLoad}
 use Rattle.frame_table.specs.declared.log_words.EndLoad.TheVariants.{Plain, Read, Checkpoint}
 use Rattle.frame_table.specs.EndLoads.{IsEndAllowed, end_kind}
 use Rattle.table_rule.specs.Layout.{latch_place, word_place, word_count, HasWord, end_place, flushed_place, redo_place, hand_place, counter_place, hint_place}
-use Rattle.history_core.specs.Words.{counter_count, last_published, hint_count}
+use Rattle.history_core.specs.Words.{counter_count, most_published, hint_count}
 use Rattle.history_core.specs.Balances.{added_to}
 use Rattle.history_core.proofs.Counters.{counters_fit, counters_sums}
 use Rattle.grid.proofs.Sums.{term_le}
@@ -168,13 +168,13 @@ module _ {L G : Type 0} (d : Devices L G) (o : Opening L G) (slots id : ℕ) (me
 
   -- a counter is loaded: it is no more than all backends may add
   pub loads_counter_there : (number : ℕ) → number < counter_count → Allows (RuleHolds d o) slots id me (counter_place o.config.frames number) (λ n. n) (tells_counter number (step slots (counter_place o.config.frames number) 0 0 none) me)
-  loads_counter_there number below = let at : ℕ = counter_place o.config.frames number in allows_with (RuleHolds d o) slots id me at (λ n. n) (tells_word (load_counter number) (step slots at 0 0 none) me) (λ found. found ≤ 64 * last_published)
+  loads_counter_there number below = let at : ℕ = counter_place o.config.frames number in allows_with (RuleHolds d o) slots id me at (λ n. n) (tells_word (load_counter number) (step slots at 0 0 none) me) (λ found. found ≤ 64 * most_published)
       (acts_behind d o (load_counter number) below slots id 0 0 (λ n. n) me live (λ s l f there small. (below, refl)))
       (λ t h there. let says : get_or t.words at 0 ≡ h.state.counter number = h.shows.latches.word (kind_word (load_counter number)) below in
       let fits = counters_fit h.state h.laws (few_backends d o h.state h.shows.fixed) number in omega arith)
 
   -- and it rises: the sum doesn't wrap
-  pub adds_counter_there : (number more : ℕ) → number < counter_count → added_to number me.0 + more ≤ last_published → Allows (RuleHolds d o) slots id me (counter_place o.config.frames number) (λ n. (n + more) % 2 ^ 64) (tells_word (add_counter number more) (step slots (counter_place o.config.frames number) more 0 none) me)
+  pub adds_counter_there : (number more : ℕ) → number < counter_count → added_to number me.0 + more ≤ most_published → Allows (RuleHolds d o) slots id me (counter_place o.config.frames number) (λ n. (n + more) % 2 ^ 64) (tells_word (add_counter number more) (step slots (counter_place o.config.frames number) more 0 none) me)
   adds_counter_there number more below room = acts_behind d o (add_counter number more) below slots id more 0 (λ n. (n + more) % 2 ^ 64) me live (λ s l f there small. ((below, room), mod-eq_of_lt (let fits = counters_fit s l (few_backends d o s f) number in omega arith)))
 
   -- a hint word is loaded: it names no frame, or one that is there

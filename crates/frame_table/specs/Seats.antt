@@ -320,7 +320,7 @@ NamesStored (Some tag) f v w = NamesIn (partition_number tag) (Entering (packed_
 abbrev pub read_link : Option Tag → Link → Link
 read_link tag l = record l { tag = tag_after l.pending l.role (tag_word tag) l.tag }
 
--- how many tags the view took from frames, after it stored a tag, or took one away
+-- how many tags the view has erased, after it stored a tag or erased one
 abbrev pub cleared_stored : Option Tag → ℕ → ℕ
 cleared_stored None n = n + 1
 cleared_stored (Some tag) n = n

@@ -1,4 +1,7 @@
--- What the table's rule makes a step store: at a state word what the kind of step that it tells of makes of the word found, at the clock's hand the number of the next frame, at the flushed position and the redo position the larger of it and the log's end, at a counter the sum of it and of what was added, and at a hint word the value that it tells.
+-- What the table's rule makes a step store: at a state word what the kind of step that it tells of
+-- makes of the word found; at the clock's hand the number of the next frame; at the flushed and the
+-- redo position the larger of it and the log's end; at a counter the sum of it and of what was
+-- added; and at a hint word the value that it tells.
 use Rattle.std.specs.Prelude.{◌≡◌, ℕ, ◌+◌, ◌<◌, max, length, slice_index}
 use mathlib.Core.Option.{none, some}
 use lib.ListN.{get_elem?}
@@ -37,31 +40,36 @@ module _ {L G : Type 0} (d : Devices L G) (o : Opening L G) where
       → Allows (RuleHolds d o) slots id me (state_place f) g (tells choice (step slots (state_place f) a b none) me) → chosen choice a (slice_index t.words (state_place f)) ≡ k
       → stores f (fields (slice_index t.words (state_place f))) (fields (g (slice_index t.words (state_place f))))
 
-  -- And whatever operation g on the clock's hand keeps the rule and tells of a move of the hand: it stores the number of the next frame
+  -- Whatever operation g on the clock's hand keeps the rule and tells of a move of the hand: it
+  -- stores the number of the next frame
   abbrev pub HandMustMove : Type 0
   HandMustMove = (slots id a b : ℕ) (g : ℕ → ℕ) (me : Me (Value L G) View) (t : table.State (Value L G) View) → IsSeated slots id (hand_place o.config.frames) me t
       → Allows (RuleHolds d o) slots id me (hand_place o.config.frames) g (tells_word add_hand (step slots (hand_place o.config.frames) a b none) me)
       → g (slice_index t.words (hand_place o.config.frames)) ≡ next_hand (slice_index t.words (hand_place o.config.frames))
 
-  -- And whatever operation g on the word of the flushed position keeps the rule and tells that the position was raised: it stores the larger of that word and of the log's end
+  -- Whatever operation g on the word of the flushed position keeps the rule and tells that the
+  -- position was raised: it stores the larger of that word and of the log's end
   abbrev pub FlushedMustRise : Type 0
   FlushedMustRise = (slots id a b : ℕ) (g : ℕ → ℕ) (me : Me (Value L G) View) (t : table.State (Value L G) View) → IsSeated slots id (flushed_place o.config.frames) me t
       → Allows (RuleHolds d o) slots id me (flushed_place o.config.frames) g (tells_word raise_flushed (step slots (flushed_place o.config.frames) a b none) me)
       → g (slice_index t.words (flushed_place o.config.frames)) ≡ max (slice_index t.words (flushed_place o.config.frames)) (slice_index t.words (end_place o.config.frames))
 
-  -- And whatever operation g on the word of the redo position keeps the rule and tells that the position was raised: it stores the larger of that word and of the log's end
+  -- Whatever operation g on the word of the redo position keeps the rule and tells that the
+  -- position was raised: it stores the larger of that word and of the log's end
   abbrev pub RedoMustRise : Type 0
   RedoMustRise = (slots id a b : ℕ) (g : ℕ → ℕ) (me : Me (Value L G) View) (t : table.State (Value L G) View) → IsSeated slots id (redo_place o.config.frames) me t
       → Allows (RuleHolds d o) slots id me (redo_place o.config.frames) g (tells_word raise_redo (step slots (redo_place o.config.frames) a b none) me)
       → g (slice_index t.words (redo_place o.config.frames)) ≡ max (slice_index t.words (redo_place o.config.frames)) (slice_index t.words (end_place o.config.frames))
 
-  -- And whatever operation g on a counter keeps the rule and tells that so much was added stores the sum of the counter and of that
+  -- Whatever operation g on a counter keeps the rule and tells that so much was added: it stores
+  -- the sum of the counter and of that
   abbrev pub CounterMustRise : Type 0
   CounterMustRise = (number more slots id a b : ℕ) (g : ℕ → ℕ) (me : Me (Value L G) View) (t : table.State (Value L G) View) → number < counter_count → IsSeated slots id (counter_place o.config.frames number) me t
       → Allows (RuleHolds d o) slots id me (counter_place o.config.frames number) g (tells_word (add_counter number more) (step slots (counter_place o.config.frames number) a b none) me)
       → g (slice_index t.words (counter_place o.config.frames number)) ≡ slice_index t.words (counter_place o.config.frames number) + more
 
-  -- And whatever operation g on a hint word keeps the rule and tells that the word got a value stores that value
+  -- Whatever operation g on a hint word keeps the rule and tells that the word got a value: it
+  -- stores that value
   abbrev pub HintMustBeStored : Type 0
   HintMustBeStored = (number value slots id a b : ℕ) (g : ℕ → ℕ) (me : Me (Value L G) View) (t : table.State (Value L G) View) → number < hint_count o.config.frames → IsSeated slots id (hint_place o.config.frames number) me t
       → Allows (RuleHolds d o) slots id me (hint_place o.config.frames number) g (tells_word (store_hint number value) (step slots (hint_place o.config.frames number) a b none) me)

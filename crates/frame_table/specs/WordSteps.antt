@@ -1,4 +1,5 @@
--- Steps at the words after those of the frames: the log's end, the flushed position, the clock's hand, the counters, and the hint words.
+-- Steps at the words after those of the frames: the log's end, the flushed and the redo position,
+-- the clock's hand, the counters, and the hint words.
 use Rattle.std.specs.Prelude.{◌≡◌, ◌≢◌, ℕ, ◌+◌, ◌*◌, ◌<◌, ◌≤◌, false, true, [], ◌∷◌, ◌++◌, Option, Some, None, unwrap_or}
 use mathlib.Core.Option.{some}
 use lib.ListN.{get_elem?}
@@ -10,7 +11,7 @@ use Rattle.pin_core.specs.declared.view.LoadedWord.TheVariants as seen
 use Rattle.pin_core.specs.State.{Page, link}
 use Rattle.history_core.specs.State.{State}
 use Rattle.history_core.specs.Words as core
-use Rattle.history_core.specs.Words.{Word, end_word, last_published, word_of, word_at, WordAllowed, number_after}
+use Rattle.history_core.specs.Words.{Word, end_word, most_published, word_of, word_at, WordAllowed, number_after}
 use Rattle.history_core.specs.Laws.{Laws}
 use Rattle.history_core.specs.Steps.{Event, word, read, looked, has_read, view_after_word, state_set}
 use Rattle.table_rule.specs.declared.value.Value.{Value}
@@ -135,6 +136,6 @@ module _ {L G : Type 0} where
   abbrev pub tells_hint : ℕ → ℕ → Step (Value L G) → Me (Value L G) View → ℕ → Me (Value L G) View → Type 0
   tells_hint n number st m found m' = tells_word (load_hint number) st m found m' × (found ≤ n)
 
-  -- a load of a counter: it is no more than 64 backends may add
+  -- a load of a counter: it is at most what 64 backends may add
   abbrev pub tells_counter : ℕ → Step (Value L G) → Me (Value L G) View → ℕ → Me (Value L G) View → Type 0
-  tells_counter number st m found m' = tells_word (load_counter number) st m found m' × (found ≤ 64 * last_published)
+  tells_counter number st m found m' = tells_word (load_counter number) st m found m' × (found ≤ 64 * most_published)

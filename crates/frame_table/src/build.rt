@@ -19,6 +19,8 @@ use table_rule::{
 impl<L: BlockLane, G: LogDevice> FrameTable<L, G> {
     /// The table of these relations and devices, over a log that begins at `base`, with a seat for the first backend.
     /// Fails only when it is out of memory, and gives the devices back then.
+    /// A known lane holds its blocks and no last write of these has failed: by the law such a block
+    /// would have a dirty frame. A known log has just its head.
     pub fn build(
         alloc: Global,
         config: Config,

@@ -138,22 +138,15 @@ impl<L: BlockLane, G: LogDevice> FrameTable<L, G> {
         if has(was, Flag::Locked) {
             return None;
         }
-        if self.swap_unpin(seat, frame, was) != was {
+        let left = unpinned(was);
+        let now = self
+            .table
+            .shared
+            .compare_exchange::<Step<Unpin>>(seat, state_place(frame), was, left);
+        if now != was {
             return None;
         }
-        Some(unpinned(was))
-    }
-
-    fn swap_unpin(&self, seat: &mut Seat<Value<L, G>, View>, frame: u32, was: u64) -> u64
-        requires seat { CanStep self.now seat.old frame }
-        requires pinned { MayUnpin (link seat.old.me.0 frame) }
-        requires was { (has_locked was ≡ false) × (0 < (fields was).pins) }
-        ensures seat { SameSeat seat.old seat.new }
-        ensures did { Did (chosen (if_found (pins kinds.unpin)) was result) frame seat.old.me.0 seat.new.me.0 result }
-    {
-        self.table
-            .shared
-            .compare_exchange::<Step<Unpin>>(seat, state_place(frame), was, unpinned(was))
+        Some(left)
     }
 
     /// Waits until the header is not locked, and locks it (`LockBufHdr`). The word that is held.

@@ -1,7 +1,7 @@
 //! The counters of reads, writes and evictions (`pg_stat_io`).
 ghost use Rattle.std.specs.Prelude.{◌≡◌, ℕ, ◌+◌, ◌*◌, ◌<◌, ◌≤◌};
 ghost use Rattle.history_core.specs.Balances.{added_to};
-ghost use Rattle.history_core.specs.Words.{counter_count, last_published};
+ghost use Rattle.history_core.specs.Words.{counter_count, most_published};
 ghost use Rattle.frame_table.specs.WordSteps.{DidWord, add_counter, load_counter, view_of, view_published};
 ghost use Rattle.frame_table.specs.Seats.{IsSeat, SameSeat};
 
@@ -20,7 +20,7 @@ impl<L: BlockLane, G: LogDevice> FrameTable<L, G> {
         requires seat { IsSeat self.now seat.old }
         requires below { number < counter_count }
         ensures seat { SameSeat seat.old seat.new }
-        ensures most { result ≤ 64 * last_published }
+        ensures most { result ≤ 64 * most_published }
         ensures did { DidWord (load_counter number) seat.old.me.0 seat.new.me.0 result }
     {
         let at = counter_place(self.frames(), number);
@@ -34,7 +34,7 @@ impl<L: BlockLane, G: LogDevice> FrameTable<L, G> {
         ensures seat { SameSeat seat.old seat.new }
         ensures view { seat.new.me.0 ≡ view_of (load_counter number) result seat.old.me.0 }
         ensures least { added_to number seat.old.me.0 ≤ result }
-        ensures most { result ≤ 64 * last_published }
+        ensures most { result ≤ 64 * most_published }
         ensures did { DidWord (load_counter number) seat.old.me.0 seat.new.me.0 result }
     {
         self.counter_at::<Brand>(seat, number)
@@ -44,7 +44,7 @@ impl<L: BlockLane, G: LogDevice> FrameTable<L, G> {
         requires kind { D.kind ≡ add_counter number more }
         requires seat { IsSeat self.now seat.old }
         requires below { number < counter_count }
-        requires room { added_to number seat.old.me.0 + more ≤ last_published }
+        requires room { added_to number seat.old.me.0 + more ≤ most_published }
         ensures seat { SameSeat seat.old seat.new }
         ensures did { (found : ℕ) × DidWord (add_counter number more) seat.old.me.0 seat.new.me.0 found }
     {
@@ -52,11 +52,11 @@ impl<L: BlockLane, G: LogDevice> FrameTable<L, G> {
         self.table.shared.fetch_add::<StepAt<D>>(seat, at, more);
     }
 
-    /// Adds to a counter. A backend adds no more to one than its 48 bits hold.
+    /// Adds to a counter. All that one backend adds to it is less than 2^48.
     pub fn add_counter(&self, seat: &mut Seat<Value<L, G>, View>, number: u32, more: u64)
         requires seat { IsSeat self.now seat.old }
         requires below { number < counter_count }
-        requires room { added_to number seat.old.me.0 + more ≤ last_published }
+        requires room { added_to number seat.old.me.0 + more ≤ most_published }
         ensures seat { SameSeat seat.old seat.new }
         ensures view { seat.new.me.0 ≡ view_published number more seat.old.me.0 }
         ensures did { (found : ℕ) × DidWord (add_counter number more) seat.old.me.0 seat.new.me.0 found }

@@ -1,4 +1,6 @@
 //! Calls at tag words, and calls under a buffer header.
+//!
+//! A call under a header swaps the word that the call that locked the header answered.
 ghost use Rattle.std.specs.Prelude.{◌≡◌, ◌≢◌, ◌+◌, ◌<◌, ◌≤◌, ◌^◌, ℕ, true, false, Some, None, IfSome, is_some};
 ghost use Rattle.state_word.specs.Fields.{fields, unlocked_fields};
 ghost use Rattle.block_tag.specs.Names.{names_block, packed_tag, partition_number, unpacked_tag};

@@ -56,6 +56,8 @@ impl<L: BlockLane, G: LogDevice> FrameTable<L, G> {
     {
         let at = hint_place(self.frames(), number);
         // A swap: the view lists what was found there too, which nobody needs at run time.
+        // So the lists fix each hint word (`lists_fix_words`), and a store of another value isn't
+        // proved. On x86-64 a sequentially consistent store is an exchange, too.
         self.table.shared.swap::<StepAt<D>>(seat, at, value);
     }
 

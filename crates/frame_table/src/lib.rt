@@ -34,7 +34,7 @@ mod turns;
 mod values;
 mod word_plays;
 
-pub use content_word::{is_copying, is_exclusive};
+pub use content_word::{COPYING, EXCLUSIVE};
 pub use io_right::IoRight;
 pub use log_words::EndLoad;
 pub use pin::{Pin, TryPin};

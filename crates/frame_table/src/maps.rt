@@ -1,4 +1,7 @@
 //! The maps of the partitions.
+//!
+//! What was seen of a map stays in the view: the store of a tag, and the pin of a frame that was
+//! found, rely on it.
 ghost use Rattle.std.specs.Prelude.{◌≡◌, ◌≤◌, ◌∷◌, List, map, false, true, vec_capacity, None};
 ghost use Rattle.atomic_table.specs.Table.{rest};
 ghost use Rattle.pin_core.specs.declared.view.MapEntry.{MapEntry};

@@ -14,7 +14,8 @@ use segment_store::BlockLane;
 use table_rule::{Value, redo_place};
 
 impl<L: BlockLane, G: LogDevice> FrameTable<L, G> {
-    /// The position up to which a change of a page is logged with the whole page (`RedoRecPtr`), as the holder of the log's latch loads it.
+    /// Loads the redo position (`RedoRecPtr`), for which the backend holds the log's latch. A page
+    /// whose position is at most this is logged whole.
     pub fn load_redo(&self, seat: &mut Seat<Value<L, G>, View>) -> u64
         requires seat { IsSeat self.now seat.old }
         requires held { seat.old.me.0.log.held ≡ true }

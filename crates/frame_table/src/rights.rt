@@ -57,19 +57,10 @@ impl<L: BlockLane, G: LogDevice> FrameTable<L, G> {
         if has(was, Flag::Locked) {
             return false;
         }
-        self.swap_dirtied(seat, frame, was) == was
-    }
-
-    fn swap_dirtied(&self, seat: &mut Seat<Value<L, G>, View>, frame: u32, was: u64) -> u64
-        requires seat { CanStep self.now seat.old frame }
-        requires right { (link seat.old.me.0 frame).content ≡ Exclusive }
-        requires was { has_locked was ≡ false }
-        ensures seat { SameSeat seat.old seat.new }
-        ensures did { Did (chosen (if_found (pages kinds.mark_dirty)) was result) frame seat.old.me.0 seat.new.me.0 result }
-    {
         self.table
             .shared
             .compare_exchange::<Step<MarkDirty>>(seat, state_place(frame), was, dirtied(was))
+            == was
     }
 
     fn swap_begun<D: Does>(

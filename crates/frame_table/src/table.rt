@@ -47,7 +47,10 @@ impl<L: BlockLane, G: LogDevice> FrameTable<L, G> {
         &self.catalog
     }
 
-    /// What each call at a state word has to store, whatever the table is at that moment: whoever keeps the table's rule and tells of a step stores the word that the step makes of the word found. So with the clock's hand, with the flushed position, with the counters, and with the hint words.
+    /// What each call at a state word has to store, whatever the table is at that moment: whoever
+    /// keeps the table's rule and tells of a step stores the word that the step makes of the word
+    /// found. The same holds of the clock's hand, the flushed and the redo position, the counters
+    /// and the hint words.
     pub fn words_must_be_stored(&self)
         ensures each { (k : FrameKind) → part_of k ≡ kinds.state_word → k ≢ pins pin_kinds.load_state → MustStore (devices L.BlockLane G.LogDevice) self.now.table.shared.key k (Makes k) }
         ensures pin { (ring : Bool) → MustStore (devices L.BlockLane G.LogDevice) self.now.table.shared.key (pins (pin_kinds.pin ring)) (λ f found left. left ≡ pinned_fields ring found) }

@@ -78,21 +78,14 @@ impl<L: BlockLane, G: LogDevice> FrameTable<L, G> {
             if self.try_take::<Brand>(seat, turn, place) {
                 return;
             }
-            self.pause(rt, turn, place, tries);
+            // The log's holder may be in a sync: after some tries this backend sleeps until it leaves.
+            match turn {
+                Turn::Log if tries >= YIELDS => self.table.shared.park(rt, place, 1),
+                _ => thread::yield_now(),
+            }
             tries = tries.saturating_add(1);
         }
         unreachable!()
-    }
-
-    /// Lets another backend run before the next try. The log's holder may be in a sync: after some tries this backend
-    /// sleeps until the latch is left.
-    fn pause<R: Wait>(&self, rt: &R, turn: Turn, place: usize, tries: u32)
-        requires { place < word_count (frames_of self.now) }
-    {
-        match turn {
-            Turn::Log if tries >= YIELDS => self.table.shared.park(rt, place, 1),
-            _ => thread::yield_now(),
-        }
     }
 
     fn leave_at<D: AtTurn>(&self, seat: &mut Seat<Value<L, G>, View>, _turn: Turn, place: usize)
@@ -117,13 +110,6 @@ impl<L: BlockLane, G: LogDevice> FrameTable<L, G> {
     {
         let place = self.latch(turn);
         self.leave_at::<Brand>(seat, turn, place);
-        self.wake(turn, place);
-    }
-
-    /// Wakes a backend that sleeps until the log's latch is left, if there is one.
-    fn wake(&self, turn: Turn, place: usize)
-        requires { place < word_count (frames_of self.now) }
-    {
         if let Turn::Log = turn {
             self.table.shared.wake_one(place);
         }

@@ -14,7 +14,7 @@ use Rattle.pin_core.specs.declared.view.JoinedCheckpoint.{JoinedCheckpoint}
 use Rattle.pin_core.specs.declared.view.WriteRecord.{WriteRecord}
 use Rattle.pin_core.specs.declared.view.View.{View}
 use Rattle.pin_core.specs.State.{Page, emptied_view, joined_view, kept_checkpoint}
-use Rattle.history_core.specs.Log.{sizes_after, Entry, Log, LogLaw, image, tag_in, end_of, log_end, cell, cut, change_size, IsLegal, IsLegalRead, place_of, backend_of, write_weight, weight_at, writes_in, writes_at, HasPlace, AreInOrder}
+use Rattle.history_core.specs.Log.{sizes_after, Entry, Log, LogLaw, image, tag_in, end_of, log_end, cell, cut, change_size, record_size, IsLegal, IsLegalRead, place_of, backend_of, write_weight, weight_at, writes_in, writes_at, HasPlace, AreInOrder}
 use Rattle.history_core.specs.Invariant.{HasNumber, CallsLaw, KeptLaw, HistoryLaw}
 use Rattle.grid.specs.Shape.{total}
 use Rattle.grid.proofs.Lists.{at_set, at_end, at_longer, set_else, set_here}
@@ -71,6 +71,7 @@ legal_longer known origin sizes log e starts h (Write backend tag page place log
   image_is = l.image_is;
   sized = l.sized;
   tested = λ t test is. let x = l.tested t test is in (x.0, ap (λ (es : List Entry). cell origin es tag) (cut_longer l.entry.start log.entries e (omega (arith, some_size e.change))) ∙ x.1, x.2);
+  past = l.past;
   writes = λ is. ap (λ (es : List Entry). cell origin es tag) (cut_longer place log.entries e (omega (arith, some_size e.change))) ∙ l.writes is;
 }
 legal_longer known origin sizes log e starts h (Size backend fork blocks place) l = record {
@@ -420,13 +421,13 @@ module _ (known : ℕ → Bool) (origin : ℕ → Option Page) (sizes : ℕ → 
 
 -- The write of a page
 module _ (known : ℕ → Bool) (origin : ℕ → Option Page) (sizes : ℕ → ℕ) (log : Log) (flushed : ℕ) (views : List View) (h : HistoryLaw known origin sizes log flushed views) (logged : LogLaw log) (i : ℕ) (v w : View) (there : get_elem? views i ≡ some v) (e : Entry) (starts : e.start ≡ log_end log)
-    (tag : ℕ) (p : Page) (record_is : WriteRecord) (of : tag_in e.change ≡ Some tag) (whole : (t : ℕ) (q : Page) → e.change ≡ image t q → q ≡ p) (sized : change_size e.change ≡ record_is.size) (tested : (t : ImageTest) → record_is.test ≡ Some t → known tag ≡ true → (q : Page) × (cell origin log.entries tag ≡ Some q) × (lsn_of q ≡ t.before))
+    (tag : ℕ) (p : Page) (record_is : WriteRecord) (of : tag_in e.change ≡ Some tag) (whole : (t : ℕ) (q : Page) → e.change ≡ image t q → q ≡ p) (sized : change_size e.change ≡ record_is.size) (tested : (t : ImageTest) → record_is.test ≡ Some t → known tag ≡ true → (q : Page) × (cell origin log.entries tag ≡ Some q) × (lsn_of q ≡ t.before)) (past : record_is.size < record_size → (t : ImageTest) × (record_is.test ≡ Some t) × (t.redo < t.before))
     (is : known tag ≡ true → cell origin (log.entries ++ e ∷ []) tag ≡ Some p) (calls : w.calls ≡ v.calls ++ Write e.backend tag p (end_of e) record_is ∷ []) (front : w.front ≡ end_of e) (emptied : w.emptied ≡ v.emptied) (loaded : w.flushed ≡ v.flushed) (number : w.number ≡ v.number) (kept : w.joined_checkpoints ≡ v.joined_checkpoints) (maker : e.backend ≡ v.number) where
   abbrev with_entry : Log
   with_entry = record log { entries = log.entries ++ e ∷ [] }
 
   pub history_written : HistoryLaw known origin sizes with_entry flushed (set views i w)
-  history_written = history_entered known origin sizes log flushed views h logged i v w there e starts (Write e.backend tag p (end_of e) record_is) refl maker refl (λ q. refl) (record { index = length log.entries; entry = e; entered = record { there = at_last log.entries; of = of }; made = refl; ends = refl; image_is = whole; sized = sized; tested = λ y test has. let z = tested y test has in (z.0, ap (λ (es : List Entry). cell origin es tag) cut_before ∙ z.1, z.2); writes = λ has. ap (λ (es : List Entry). cell origin es tag) (cut_all (end_of e) with_entry.entries all_within) ∙ is has }) calls front emptied loaded number kept
+  history_written = history_entered known origin sizes log flushed views h logged i v w there e starts (Write e.backend tag p (end_of e) record_is) refl maker refl (λ q. refl) (record { index = length log.entries; entry = e; entered = record { there = at_last log.entries; of = of }; made = refl; ends = refl; image_is = whole; sized = sized; tested = λ y test has. let z = tested y test has in (z.0, ap (λ (es : List Entry). cell origin es tag) cut_before ∙ z.1, z.2); past = past; writes = λ has. ap (λ (es : List Entry). cell origin es tag) (cut_all (end_of e) with_entry.entries all_within) ∙ is has }) calls front emptied loaded number kept
     where
       at_last : (l : List Entry) → get_elem? (l ++ e ∷ []) (length l) ≡ some e
       at_last [] = refl

@@ -170,4 +170,4 @@ stores : (p : Page) → IsPut p → HasStored p (c28 p)
 stores p is = record { lane = refl; durable = (let e = is.ends in omega arith); clean = refl; joined = refl; ended = (view_of (c28 p), kept_checkpoint (second_of (c27 p)), refl, refl, refl, refl, refl, refl) }
 
 pub checkpoints : CheckpointRuns
-checkpoints p is = (c28 p, run_append filled (run_append (changes p is) (run_append (flushes p is) (run_append (begins_there p) (run_append (writes_there p is) (run_append (drops p) (run_append (syncs p) (joins_there p))))))), stores p is)
+checkpoints p is = (c28 p, run_append (filled false) (run_append (changes false p is) (run_append (flushes p is) (run_append (begins_there p) (run_append (writes_there p is) (run_append (drops p) (run_append (syncs p) (joins_there p))))))), stores p is)

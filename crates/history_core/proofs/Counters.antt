@@ -25,7 +25,7 @@ use Rattle.history_core.specs.Balances.{added_to}
 use Rattle.history_core.specs.Counters.{FollowsCounters, IsBounded, CountersLaw, CountersAreSums}
 use Rattle.history_core.specs.Laws.{Laws}
 use Rattle.history_core.specs.Steps.{Event, stepped, looked, pool_noting, paged, laned, has_read, has_seen_size, has_written, Step, pools, lanes, writes, notes, logs, enters, reads, reads_size, words, after_word}
-use Rattle.history_core.specs.Words.{WordKind, load_counter, add_counter, WordAllowed, counter_word, word_at, number_after, word_set, last_published}
+use Rattle.history_core.specs.Words.{WordKind, load_counter, add_counter, WordAllowed, counter_word, word_at, number_after, word_set, most_published}
 use Rattle.history_core.proofs.Balances.{balances_aside, balances_listed, balances_split, balances_joined}
 use Rattle.grid.specs.Shape.{put, total, at_key, sum_at}
 use Rattle.grid.proofs.Lists.{at_set, at_end, at_only, put_at, put_else, put_same}
@@ -66,14 +66,14 @@ bounded_none i v none zero = record {
   alone = λ other. zero;
 }
 
-bounded_joined : (v u : View) → IsBounded 0 v → ((number : ℕ) → added_to number u ≤ last_published) → IsBounded 0 (joined_view v u)
+bounded_joined : (v u : View) → IsBounded 0 v → ((number : ℕ) → added_to number u ≤ most_published) → IsBounded 0 (joined_view v u)
 bounded_joined v u x few = record {
   within = λ n. let a = x.within n in let b = few n in let c : added_to n (joined_view v u) ≡ added_to n v + added_to n u = total-both (at_key (λ (p : Published). p.count) (λ (p : Published). p.more) n) v.published u.published in omega arith;
   alone = λ other. absurd (other refl);
 }
 
 -- what a view but the first has added
-few_of : (j : ℕ) (u : View) → j ≢ 0 → IsBounded j u → (number : ℕ) → added_to number u ≤ last_published
+few_of : (j : ℕ) (u : View) → j ≢ 0 → IsBounded j u → (number : ℕ) → added_to number u ≤ most_published
 few_of j u other x n = let a = x.within n in let b = x.alone other in omega arith
 
 pools_counters : (s : State) → CountersLaw s.counter s.pool.core.views → {e : pin_steps.Event} {core' : pins.State} → pin_steps.Step e s.pool.core core' → CountersLaw s.counter core'.views
@@ -92,7 +92,7 @@ pools_counters s m (pin_steps.joins j v u there other here live free) = record {
 }
 
 -- a backend that adds to a counter has added no more than its own bound
-bounded_added : (number more i : ℕ) (v w : View) → w.published ≡ v.published ++ record { count = number; more = more } ∷ [] → w.joined ≡ v.joined → added_to number v + more ≤ last_published → IsBounded i v → IsBounded i w
+bounded_added : (number more i : ℕ) (v w : View) → w.published ≡ v.published ++ record { count = number; more = more } ∷ [] → w.joined ≡ v.joined → added_to number v + more ≤ most_published → IsBounded i v → IsBounded i w
 bounded_added number more i v w listed joined room x = record {
   within = λ n. let a = x.within n in let p : Published = record { count = number; more = more } in let b : added_to n w ≡ added_to n v + at_key (λ (q : Published). q.count) (λ (q : Published). q.more) n p = ap (λ (l : List Published). sum_at (λ (q : Published). q.count) (λ (q : Published). q.more) n l) listed ∙ total-snoc (at_key (λ (q : Published). q.count) (λ (q : Published). q.more) n) v.published p in dite (ℕ_discrete n number)
       (λ (e : n ≡ number). let c = put_at (λ (k : ℕ). 0) number more n e in let d : added_to n v ≡ added_to number v = ap (λ (k : ℕ). added_to k v) e in omega arith)
@@ -141,24 +141,24 @@ counters_sums s h n = let x = (h.counters.fixed n).sums in
     let none = total-none (λ (v : View). sum_at (λ (p : Published). p.count) (λ (p : Published). 0) n v.published) s.pool.core.views (λ i v at. total-none (at_key (λ (p : Published). p.count) (λ (p : Published). 0) n) v.published (λ j p here. both_none (nat_eq n p.count))) in omega arith
 
 -- a sum is bounded by so many times another
-sum_within : {A : Type 0} (g h : A → ℕ) (l : List A) → ((j : ℕ) (a : A) → get_elem? l j ≡ some a → g a ≤ h a * last_published) → total g l ≤ total h l * last_published
+sum_within : {A : Type 0} (g h : A → ℕ) (l : List A) → ((j : ℕ) (a : A) → get_elem? l j ≡ some a → g a ≤ h a * most_published) → total g l ≤ total h l * most_published
 unfolding total
 sum_within g h [] each = omega arith
 sum_within g h (x ∷ xs) each = let a = each 0 x refl in let b = sum_within g h xs (λ j y at. each (suc j) y at) in omega arith
 
 -- what a view but the first has added, if it is there
-live_within : (number j : ℕ) (u : View) (b : Bool) → u.emptied ≡ b → j ≢ 0 → IsBounded j u → (u.emptied ≡ true → u ≡ emptied_view) → added_to number u ≤ live_weight u.emptied * last_published
+live_within : (number j : ℕ) (u : View) (b : Bool) → u.emptied ≡ b → j ≢ 0 → IsBounded j u → (u.emptied ≡ true → u ≡ emptied_view) → added_to number u ≤ live_weight u.emptied * most_published
 unfolding total
 live_within number j u true e other x spent = let z : added_to number u ≡ 0 = ap (added_to number) (spent e) in omega arith
 live_within number j u false e other x spent = let y : live_weight u.emptied ≡ 1 = ap live_weight e in let z = few_of j u other x number in omega arith
 
-all_within : (number : ℕ) (views : List View) → AreBounded views → ((i : ℕ) (v : View) → get_elem? views i ≡ some v → v.emptied ≡ true → v ≡ emptied_view) → ((v : View) → get_elem? views 0 ≡ some v → v.emptied ≡ false) → AllAccounted views → length views ≤ 64 → total (λ (v : View). added_to number v) views ≤ 64 * last_published
+all_within : (number : ℕ) (views : List View) → AreBounded views → ((i : ℕ) (v : View) → get_elem? views i ≡ some v → v.emptied ≡ true → v ≡ emptied_view) → ((v : View) → get_elem? views 0 ≡ some v → v.emptied ≡ false) → AllAccounted views → length views ≤ 64 → total (λ (v : View). added_to number v) views ≤ 64 * most_published
 unfolding total
 all_within number [] m spent first counted few = omega arith
 all_within number (v ∷ rest) m spent first counted few = let a = (m 0 v refl).within number in let b = counted v refl in let live : live_weight v.emptied ≡ 1 = ap live_weight (first v refl) in
     let c = sum_within (λ (u : View). added_to number u) (λ (u : View). live_weight u.emptied) rest (λ j u at. live_within number (suc j) u u.emptied refl (λ z. omega arith) (m (suc j) u at) (spent (suc j) u at)) in omega arith
 
 -- so no counter is above what all backends together may add
-pub counters_fit : (s : State) → Laws s → s.pool.core.backends ≤ 64 → (number : ℕ) → s.counter number ≤ 64 * last_published
+pub counters_fit : (s : State) → Laws s → s.pool.core.backends ≤ 64 → (number : ℕ) → s.counter number ≤ 64 * most_published
 counters_fit s h few n = let sum = counters_sums s h n in let small = h.invariant.pool.core.views.few in
     let x = all_within n s.pool.core.views h.counters.bounded h.spent (λ v at. (h.invariant.pool.core.views.first v at).0) h.invariant.pool.core.accounted (omega arith) in omega arith

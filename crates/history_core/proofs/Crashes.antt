@@ -25,7 +25,7 @@ use Rattle.history_core.specs.Laws.{Laws}
 use Rattle.history_core.specs.Steps.{Event, MayWriteLane, LaneAlone, new_entry, Step, pools, lanes, writes, notes, logs, enters, reads, words, reads_size}
 use Rattle.history_core.specs.Words.{WordKind, raise_flushed, number_after, word_at, word_set, flushed_word}
 use Rattle.history_core.specs.Unentered.{IsEntered, IsFlushedEntered, IsUnentered, IsHeldUnentered, DirtyHaveEntries, WrittenHaveEntries}
-use Rattle.history_core.specs.Redo.{CanFollow, HasWhole, StartsBased, RedoLaw}
+use Rattle.history_core.specs.Redo.{CanFollow, HasWholePage, StartsAtBase, RedoLaw}
 use Rattle.history_core.specs.Crashes.{Survives, first, one_more, Crashed, IsExcepted, CrashesRedo, StartsSynced}
 use Rattle.history_core.proofs.Calls.{at_both}
 use Rattle.history_core.proofs.Histories.{loaded, is_out}
@@ -228,7 +228,7 @@ module _ (s : State) (h : HistoryInvariant s) where
   early_left _ (one_more x more bytes whole starts valid follow) tag k e of low = (k, e, record { there = at_longer s.log.entries (x ∷ []) k e of.there; of = of.of })
 
   -- where an entry of ranges survives, a whole page of its block does
-  whole_left : RedoLaw s → (es : List Entry) → Survives s es → (tag k : ℕ) (e : Entry) (spans : List Span) → s.known tag ≡ true → get_elem? es k ≡ some e → e.change ≡ ranges tag spans → StartsBased s → HasWhole es tag
+  whole_left : RedoLaw s → (es : List Entry) → Survives s es → (tag k : ℕ) (e : Entry) (spans : List Span) → s.known tag ≡ true → get_elem? es k ≡ some e → e.change ≡ ranges tag spans → StartsAtBase s → HasWholePage es tag
   whole_left m _ (first es rest is high) tag k e spans known at change based = let there = subst (λ (l : List Entry). get_elem? l k ≡ some e) (sym is) (at_longer es rest k e at) in
       let x = m.follows based tag s.log.base k e spans (inl refl) there change known (starts_above s.log e h.log k e there) in (x.index, x.entry, x.page, at_shorter es rest x.index k x.entry e (subst (λ (l : List Entry). get_elem? l x.index ≡ some x.entry) is x.there) x.before at, x.is)
   whole_left m _ (one_more y more bytes whole starts valid follow) tag k e spans known at change based = ⊎_elim
@@ -237,7 +237,7 @@ module _ (s : State) (h : HistoryInvariant s) where
       (at_end s.log.entries y e k at)
 
   -- an entry of a block survives: its whole page does
-  by_entry : (pages : ℕ → Option Page) (es : List Entry) (tag : ℕ) → ((k : ℕ) (e : Entry) (spans : List Span) → get_elem? es k ≡ some e → e.change ≡ ranges tag spans → HasWhole es tag) → (k : ℕ) (e : Entry) (c : Change) → e.change ≡ c → get_elem? es k ≡ some e → tag_in c ≡ Some tag → cell pages es tag ≡ cell s.origin es tag
+  by_entry : (pages : ℕ → Option Page) (es : List Entry) (tag : ℕ) → ((k : ℕ) (e : Entry) (spans : List Span) → get_elem? es k ≡ some e → e.change ≡ ranges tag spans → HasWholePage es tag) → (k : ℕ) (e : Entry) (c : Change) → e.change ≡ c → get_elem? es k ≡ some e → tag_in c ≡ Some tag → cell pages es tag ≡ cell s.origin es tag
   by_entry pages es tag whole k e (image t p) is at of = same_after tag k es e p (pages tag) (s.origin tag) at (is ∙ ap (λ (z : ℕ). image z p) (same_Some t tag of))
   by_entry pages es tag whole k e (ranges t spans) is at of = let x = whole k e spans at (is ∙ ap (λ (z : ℕ). ranges z spans) (same_Some t tag of)) in same_after tag x.0 es x.1 x.2 (pages tag) (s.origin tag) x.3 x.4
   by_entry pages es tag whole k e (resize fork old new) is at of = absurd (cc)
@@ -264,8 +264,8 @@ module _ (s : State) (h : HistoryInvariant s) where
         by_failure (inr x) = x
 
     redone : CrashesRedo s
-    redone pages es c tag block (inl (k, e, p, at, is)) = inl (same_after tag k es e p (pages tag) (s.origin tag) at is)
-    redone pages es c tag block (inr (known, synced, based)) = ⊎_elim
+    redone pages es c tag (inl (k, e, p, at, is)) = inl (same_after tag k es e p (pages tag) (s.origin tag) at is)
+    redone pages es c tag (inr (block, known, synced, based)) = ⊎_elim
         (λ (t : IsEntered es tag). inl (by_entry pages es tag (λ k e spans at is. whole_left redo es c.log tag k e spans known at is (based k e spans at is)) t.0 t.1 t.1.change refl t.2.there t.2.of))
         (λ (none : (k : ℕ) (e : Entry) → IsEntryOf es tag k e → ⊥). either_way (unsynced s tag)
         (λ written. inr (excepted pages es c tag synced none (inl written)))

@@ -32,7 +32,7 @@ abbrev pub second_paged : Kind → State → State
 second_paged k s = record s { pool = page_steps.state_after k s.pool 1 0 (second_of s) }
 
 abbrev e1 : State
-e1 = pooled pins.unpin m22
+e1 = pooled pins.unpin (m22 false)
 
 abbrev e2 : State
 e2 = pooled pins.lock_header e1
@@ -67,8 +67,17 @@ e11 = turned leave_turn e10
 abbrev e12 : State
 e12 = pooled pins.unpin e11
 
-evicts : Run evict m22 e12
-evicts = goes (pools (page_steps.cores (pin_steps.touches 0 0 pins.unpin (view_of m22) refl refl (lit< tt) (record { unlocked = refl; pinned = λ e. cc; no_content = refl; no_io = refl; no_wait = refl; unnoted = refl }) tt)) tt)
+abbrev e13 : State
+e13 = pooled pins.lock_header e12
+
+abbrev e14 : State
+e14 = pooled pins.load_tag e13
+
+abbrev e15 : State
+e15 = pooled pins.unlock_header e14
+
+evicts : Run evict (m22 false) e15
+evicts = goes (pools (page_steps.cores (pin_steps.touches 0 0 pins.unpin (view_of (m22 false)) refl refl (lit< tt) (record { unlocked = refl; pinned = λ e. cc; no_content = refl; no_io = refl; no_wait = refl; unnoted = refl }) tt)) tt)
     (goes (pools (page_steps.cores (pin_steps.touches 0 0 pins.lock_header (view_of e1) refl refl (lit< tt) (record { unlocked = refl }) (at_frame (λ (l : Link). l.header ≡ None) (view_of e1) _ refl refl refl))) tt)
     (goes (pools (page_steps.cores (pin_steps.touches 0 0 pins.pin_victim (view_of e2) refl refl (lit< tt) (record { held = refl; absent = refl; room = λ e. refl }) (at_frame (λ (l : Link). l.role ≢ Victim) (view_of e2) _ refl (λ e. cc) (λ e. cc)))) tt)
     (goes (pools (page_steps.cores (pin_steps.turns 0 0 take_turn (view_of e3) refl refl (lit< tt) (record { free = refl }))) tt)
@@ -80,13 +89,16 @@ evicts = goes (pools (page_steps.cores (pin_steps.touches 0 0 pins.unpin (view_o
     (goes (pools (page_steps.cores (pin_steps.turns 0 0 (map_back []) (view_of e9) refl refl (lit< tt) (record { out = λ e. cc; entries_are = left_out }))) tt)
     (goes (pools (page_steps.cores (pin_steps.turns 0 0 leave_turn (view_of e10) refl refl (lit< tt) (record { held = refl; home = refl; no_change = refl }))) tt)
     (goes (pools (page_steps.cores (pin_steps.touches 0 0 pins.unpin (view_of e11) refl refl (lit< tt) (record { unlocked = refl; pinned = λ e. cc; no_content = refl; no_io = refl; no_wait = refl; unnoted = refl }) tt)) tt)
-    rests)))))))))))
+    (goes (pools (page_steps.cores (pin_steps.touches 0 0 pins.lock_header (view_of e12) refl refl (lit< tt) (record { unlocked = refl }) (at_frame (λ (l : Link). l.header ≡ None) (view_of e12) _ refl refl refl))) tt)
+    (goes (pools (page_steps.cores (pin_steps.touches 0 0 pins.load_tag (view_of e13) refl refl (lit< tt) (λ e. cc) tt)) tt)
+    (goes (pools (page_steps.cores (pin_steps.touches 0 0 pins.unlock_header (view_of e14) refl refl (lit< tt) (record { held = refl; settled = refl }) tt)) tt)
+    rests))))))))))))))
 
 pub evictions : EvictionRuns
-evictions = (e12, run_append filled evicts, record { tag = refl; word = refl; mapped = refl; taken = refl })
+evictions = (e15, run_append (filled false) evicts, record { tag = refl; word = refl; mapped = refl; taken = refl; gone = (view_of e15, refl, refl, refl) })
 
 abbrev w1 : State
-w1 = record m22 { pool = record m22.pool { core = split_state m22.pool.core (view_of m22) } }
+w1 = record (m22 false) { pool = record (m22 false).pool { core = split_state (m22 false).pool.core (view_of (m22 false)) } }
 
 abbrev w2 : State
 w2 = second_turned take_turn w1
@@ -130,8 +142,8 @@ w14 = second_paged exclude w13
 abbrev w15 : State
 w15 = second_pooled pins.load_state w14
 
-waits : Run wait m22 w9
-waits = goes (pools (page_steps.cores (pin_steps.splits (view_of m22) refl (lit< tt))) tt)
+waits : Run wait (m22 false) w9
+waits = goes (pools (page_steps.cores (pin_steps.splits (view_of (m22 false)) refl (lit< tt))) tt)
     (goes (pools (page_steps.cores (pin_steps.turns 1 0 take_turn (second_of w1) refl refl (lit< tt) (record { free = refl }))) tt)
     (goes (pools (page_steps.cores (pin_steps.touches 1 0 (pins.pin_mapped 7 false) (second_of w2) refl refl (lit< tt) (record { unlocked = refl; absent = refl }) (record { held = refl; no_change = refl; given = refl }))) tt)
     (goes (pools (page_steps.cores (pin_steps.turns 1 0 leave_turn (second_of w3) refl refl (lit< tt) (record { held = refl; home = refl; no_change = refl }))) tt)
@@ -152,4 +164,4 @@ wakes = goes (pools (page_steps.cores (pin_steps.touches 0 0 pins.unpin (view_of
     rests)))))
 
 pub waited : WaitRuns
-waited = (w9, w15, run_append filled waits, record { word = refl; waits = (second_of w9, refl, refl) }, wakes, record { word = refl; locked = (second_of w15, refl, refl, refl, refl) })
+waited = (w9, w15, run_append (filled false) waits, record { word = refl; waits = (second_of w9, refl, refl) }, wakes, record { word = refl; locked = (second_of w15, refl, refl, refl, refl) })

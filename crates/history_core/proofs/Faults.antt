@@ -19,7 +19,7 @@ use Rattle.history_core.specs.Faults.{faulted_lane, fail_input, sync_twice, Faul
 use Rattle.history_core.proofs.Miss.{view_of, pooled, paged, at_lane, m12, m13, m14, begun, goes_out, run_append, below, at_one_lane}
 
 abbrev f1 : State
-f1 = at_lane (fail_read 7 1) m14
+f1 = at_lane (fail_read 7 1) (m14 false)
 
 abbrev f2 : State
 f2 = at_lane (lane_back true) f1
@@ -67,10 +67,10 @@ read_once taken e less = let x = ap (λ (t : TakenLane). t.read_faults) (same_So
 no_write_out : HasNoWriteOut (view_of f4) 0
 no_write_out n out = absurd (out (at_one_lane (λ (h : LaneHold). h.out ≡ None) (view_of f4) _ refl refl refl n))
 
-fails : Run (fail_input ++ sync_twice) m12 f13
-fails = goes (lanes 0 0 take_lane (view_of m12) refl refl (lit< tt) (record { free = refl }) tt)
-    (goes (lanes 0 0 (lane_out sample_lane) (view_of m13) refl refl (lit< tt) goes_out tt)
-    (goes (lanes 0 0 (fail_read 7 1) (view_of m14) refl refl (lit< tt) (record { call = record { out = λ e. cc; once = refl }; rises = rose }) refl)
+fails : Run (fail_input ++ sync_twice) (m12 false) f13
+fails = goes (lanes 0 0 take_lane (view_of (m12 false)) refl refl (lit< tt) (record { free = refl }) tt)
+    (goes (lanes 0 0 (lane_out sample_lane) (view_of (m13 false)) refl refl (lit< tt) (goes_out false) tt)
+    (goes (lanes 0 0 (fail_read 7 1) (view_of (m14 false)) refl refl (lit< tt) (record { call = record { out = λ e. cc; once = refl }; rises = rose }) refl)
     (goes (lanes 0 0 (lane_back true) (view_of f1) refl refl (lit< tt) (record { out = λ e. cc; counts = λ taken e. record { failed = λ z. refl; all = λ z. refl; read_rose = λ z. refl; write_rose = λ z. refl } }) tt)
     (goes (lanes 0 0 leave_lane (view_of f2) refl refl (lit< tt) (record { held = refl; home = refl }) tt)
     (goes (pools (page_steps.cores (pin_steps.touches 0 0 pins.lock_header (view_of f3) refl refl (lit< tt) (record { unlocked = refl }) (at_frame (λ (l : Link). l.header ≡ None) (view_of f3) _ refl refl refl))) tt)
@@ -86,4 +86,4 @@ fails = goes (lanes 0 0 take_lane (view_of m12) refl refl (lit< tt) (record { fr
     rests))))))))))))))
 
 pub faults : FaultRuns
-faults = (f13, run_append begun fails, record { word = refl; free = refl; read_faults = refl; write_faults = refl; counted = (view_of f13, refl, refl, refl) })
+faults = (f13, run_append (begun false) fails, record { word = refl; free = refl; read_faults = refl; write_faults = refl; counted = (view_of f13, refl, refl, refl) })

@@ -22,6 +22,7 @@ pub mod Rest
 pub mod Sample
 pub mod Miss
 pub mod Put
+pub mod Ranges
 pub mod Faults
 pub mod Checkpoints
 pub mod Evictions
@@ -47,6 +48,7 @@ pub mod Sizes
 pub mod Always
 pub mod Residents
 pub mod Listed
+pub mod Marked
 pub mod Images
 pub mod EntryBlocks
 pub mod There

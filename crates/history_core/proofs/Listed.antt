@@ -16,7 +16,7 @@ use Rattle.pin_core.specs.State as pins
 use Rattle.pin_core.specs.Invariant.{LinkLaw, PinInvariant}
 use Rattle.pin_core.specs.Kinds as pin_kinds
 use Rattle.pin_core.specs.Kinds.{seen_gone, sighted}
-use Rattle.pin_core.specs.Sizes.{SizeKind, SizeAllowed, view_sized}
+use Rattle.pin_core.specs.Sizes.{SizeKind, SizeAllowed, pass_frame, residents_sized, view_sized}
 use Rattle.pin_core.specs.Turns.{view_turned}
 use Rattle.pin_core.specs.Steps as pin_steps
 use Rattle.pin_core.proofs.Stepping.{new_link, relinked, sized_links}
@@ -41,7 +41,7 @@ use Rattle.grid.proofs.Lists.{at_set, at_end, at_last, at_longer, at_only}
 abbrev Keeps : List Resident → List Resident → Type 0
 Keeps before after = (f tag : ℕ) → ListsResident f tag before → ListsResident f tag after
 
-at_mapped : (g : Resident → Resident) (l : List Resident) (k : ℕ) (r : Resident) → get_elem? l k ≡ some r → get_elem? (map g l) k ≡ some (g r)
+pub at_mapped : (g : Resident → Resident) (l : List Resident) (k : ℕ) (r : Resident) → get_elem? l k ≡ some r → get_elem? (map g l) k ≡ some (g r)
 at_mapped g [] k r at = absurd (some-ne-none r (sym at))
 at_mapped g (x ∷ l) zero r at = ap (λ (y : Resident). some (g y)) (some-injective x r at)
 at_mapped g (x ∷ l) (suc k) r at = at_mapped g l k r at
@@ -111,6 +111,11 @@ touched n f v w l inside here else keeps new m g tag below saw known = dite (ℕ
 unseen : (number base n p m f : ℕ) → (link (new_view number base n p m) f).seen_valid ≡ true → ⊥
 unseen number base n p m f saw = let e = (new_link number base n p m f (empty_frame [])).seen saw in absurd (cc)
 
+-- a step at the size of a fork marks some as gone, and takes none from the list
+keeps_sized : (k : SizeKind) (s : pins.State) (rs : List Resident) → Keeps rs (residents_sized k s rs)
+keeps_sized (pass_frame g n) s rs = keeps_gone (λ (r : Resident). not (nat_eq r.tag (s.frame g).tag)) g rs
+keeps_sized _ s rs = λ f tag x. x
+
 -- what a link knows of its frame's block
 record KnowsNoMore (l m : Link) : Type 0 where
   pub seen_valid : m.seen_valid ≡ l.seen_valid
@@ -119,7 +124,7 @@ record KnowsNoMore (l m : Link) : Type 0 where
 -- a step at the size of a fork leaves that
 sized_listed : (s : State) (h : PinInvariant s.pool.core) (i fork : ℕ) (v : View) → get_elem? s.pool.core.views i ≡ some v → v.emptied ≡ false → (k : SizeKind) → SizeAllowed k s.pool.core v fork → PinsListed s.pool.core.frames v → PinsListed s.pool.core.frames (view_sized k fork s.pool.core v)
 sized_listed s h i fork v there live k a m f tag below saw known = let x = sized_links s.pool.core h i fork v there live KnowsNoMore k a (λ l. record { seen_valid = refl; tag = refl }) (λ l some. record { seen_valid = refl; tag = refl }) (λ g end b e. record { seen_valid = refl; tag = refl }) f in
-    m f tag below (sym x.seen_valid ∙ saw) (sym x.tag ∙ known)
+    keeps_sized k s.pool.core v.residents f tag (m f tag below (sym x.seen_valid ∙ saw) (sym x.tag ∙ known))
 
 pools_listed : (s : State) (h : PinInvariant s.pool.core) → AllListed s.pool.core.frames s.pool.core.views → {e : pin_steps.Event} {core' : pins.State} → pin_steps.Step e s.pool.core core' → AllListed core'.frames core'.views
 pools_listed s h m (pin_steps.touches i f k v there live inside a around) = let n = s.pool.core.frames in let fr = s.pool.core.frame f in let w : View = pin_kinds.view_after k s.pool.core.partition_of f fr (link v f) v in let r = relinked s.pool.core h i f v there live inside k in

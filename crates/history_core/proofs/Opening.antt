@@ -12,7 +12,7 @@ use Rattle.history_core.proofs.Sizes.{sizes_none}
 use Rattle.history_core.specs.Log.{Log, cell, cut, write_weight, writes_in, records, head_bytes}
 use Rattle.history_core.specs.State.{Store, CanStore, is_known, known_origin, fresh_lane, fresh_device, opening}
 use Rattle.history_core.specs.Lanes.{holders, LaneLink, lane_shape}
-use Rattle.history_core.specs.Homes.{Home, HomeFrame, HomeLink, home_of, IsFresh}
+use Rattle.history_core.specs.Homes.{Home, HomeFrame, HomeLink, home_of, IsUnwrittenNew}
 use Rattle.history_core.specs.Invariant.{CallsLaw, written_of, HistoryInvariant}
 use Rattle.history_core.specs.Device.{LogTally, holders, appenders, log_weigh, LogLink}
 use Rattle.history_core.proofs.Device.{no_log_law}
@@ -86,6 +86,6 @@ opens c store page can stores = let w : View = first_view c.base c.frames c.part
 }
   where
     -- past the sizes a lane holds what it held
-    by_size : (tag : ℕ) (b : Bool) → is_below c.sizes tag ≡ b → (is_below c.sizes tag ≡ true → store.origin tag ≡ cell (below_sizes c.sizes store.origin) (cut c.base []) tag) → (store.origin tag ≡ cell (below_sizes c.sizes store.origin) (cut c.base []) tag) ⊎ IsFresh [] tag (home_of (opening c store page) tag)
+    by_size : (tag : ℕ) (b : Bool) → is_below c.sizes tag ≡ b → (is_below c.sizes tag ≡ true → store.origin tag ≡ cell (below_sizes c.sizes store.origin) (cut c.base []) tag) → (store.origin tag ≡ cell (below_sizes c.sizes store.origin) (cut c.base []) tag) ⊎ IsUnwrittenNew [] tag (home_of (opening c store page) tag)
     by_size tag true e is = inl (is e)
     by_size tag false e is = inr (record { fresh = inl e; page = inr refl })

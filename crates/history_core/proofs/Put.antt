@@ -1,5 +1,5 @@
 -- The events of the put are steps.
-use Rattle.std.proofs.Common.{◌≡◌, ◌≤◌, ◌+◌, ℕ, true, false, [], ◌∷◌, ◌++◌, List, None, lit<, refl, sym, ap, append-nil, arith}
+use Rattle.std.proofs.Common.{◌≡◌, ◌≤◌, ◌+◌, ℕ, Bool, true, false, [], ◌∷◌, ◌++◌, List, None, lit<, refl, sym, ap, append-nil, arith}
 use Rattle.std.proofs.lemmas.Option.{same_Some}
 use Rattle.state_word.specs.declared.word.IoEnd.TheVariants.{WriteOk}
 use lib.ListN.{length-replicate}
@@ -16,7 +16,7 @@ use Rattle.page_core.proofs.Sample.{at_frame}
 use Rattle.page_core.specs.Kinds.{share, unshare, exclude, unexclude, mark_dirty, page_out, overwrite_logged, page_back, begin_write, start_output, clear_just_dirtied, make_entry, note_write, end_io}
 use Rattle.page_core.specs.Steps as page_steps
 use Rattle.page_core.specs.Steps.{HasNoWriteOut}
-use Rattle.history_core.specs.Log.{record_size, head_bytes, records, log_bytes, image, change_size}
+use Rattle.history_core.specs.Log.{Change, record_size, head_bytes, records, log_bytes, image, change_size}
 use Rattle.history_core.specs.State.{State, last_position}
 use Rattle.history_core.specs.Lanes.{take_lane, leave_lane, lane_out, write_block, CanTakeOut, lane_after}
 use Rattle.history_core.specs.Device.{LogKind, take_log, leave_log, log_out, append, sync_log, log_back, device_after, view_logged}
@@ -39,10 +39,11 @@ is_flushed p is = omega (arith, is.ends)
 abbrev pub at_log : LogKind → State → State
 at_log k s = record s { pool = aside s.pool 0 (view_logged k (view_of s)); device = device_after k s.end s.device }
 
-abbrev entered : Page → State → State
-entered p s = let tag = (s.pool.core.frame 0).tag in let end = s.end + change_size (image 7 p) in record s {
-  pool = pool_after (make_entry p) s.pool 0 0 (has_written (image 7 p) (link (view_of s) 0).copied end tag p (steps.paged (make_entry p) s.pool 0 (view_of s)));
-  log = record s.log { entries = s.log.entries ++ new_entry s (view_of s).number (image 7 p) ∷ [] };
+-- the entry of the page p, which the change c makes
+abbrev pub entered : Change → Page → State → State
+entered c p s = let tag = (s.pool.core.frame 0).tag in let end = s.end + change_size c in record s {
+  pool = pool_after (make_entry p) s.pool 0 0 (has_written c (link (view_of s) 0).copied end tag p (steps.paged (make_entry p) s.pool 0 (view_of s)));
+  log = record s.log { entries = s.log.entries ++ new_entry s (view_of s).number c ∷ [] };
   end = end;
 }
 
@@ -55,44 +56,44 @@ loaded_by i s = state_after_word load_flushed s i (view_at i s)
 abbrev pub written_by : ℕ → Page → State → State
 written_by i p s = record s { pool = pool_after begin_write s.pool i 0 (laned (write_block 0 7 p) 0 (view_at i s) (steps.paged begin_write s.pool 0 (view_at i s))); lane = put s.lane 0 (lane_after (write_block 0 7 p) (s.lane 0)) }
 
-abbrev q1 : Page → State
-q1 p = paged exclude m22
+abbrev q1 : Bool → Page → State
+q1 may p = paged exclude (m22 may)
 
-abbrev q2 : Page → State
-q2 p = paged mark_dirty (q1 p)
+abbrev q2 : Bool → Page → State
+q2 may p = paged mark_dirty (q1 may p)
 
-abbrev q3 : Page → State
-q3 p = at_log take_log (q2 p)
+abbrev q3 : Bool → Page → State
+q3 may p = at_log take_log (q2 may p)
 
-abbrev q4 : Page → State
-q4 p = at_log (log_out sample_log) (q3 p)
+abbrev q4 : Bool → Page → State
+q4 may p = at_log (log_out sample_log) (q3 may p)
 
-abbrev q5 : Page → State
-q5 p = at_log (append 0 7 p (put_bytes p)) (q4 p)
+abbrev q5 : Bool → Page → State
+q5 may p = at_log (append 0 7 p (put_bytes p)) (q4 may p)
 
-abbrev q6 : Page → State
-q6 p = at_log (log_back false) (q5 p)
+abbrev q6 : Bool → Page → State
+q6 may p = at_log (log_back false) (q5 may p)
 
-abbrev q7 : Page → State
-q7 p = entered p (q6 p)
+abbrev q7 : Bool → Page → State
+q7 may p = entered (image 7 p) p (q6 may p)
 
-abbrev q8 : Page → State
-q8 p = at_log leave_log (q7 p)
+abbrev q8 : Bool → Page → State
+q8 may p = at_log leave_log (q7 may p)
 
-abbrev q9 : Page → State
-q9 p = paged page_out (q8 p)
+abbrev q9 : Bool → Page → State
+q9 may p = paged page_out (q8 may p)
 
-abbrev q10 : Page → State
-q10 p = paged overwrite_logged (q9 p)
+abbrev q10 : Bool → Page → State
+q10 may p = paged overwrite_logged (q9 may p)
 
-abbrev q11 : Page → State
-q11 p = paged page_back (q10 p)
+abbrev q11 : Bool → Page → State
+q11 may p = paged page_back (q10 may p)
 
-abbrev q12 : Page → State
-q12 p = paged unexclude (q11 p)
+abbrev pub q12 : Bool → Page → State
+q12 may p = paged unexclude (q11 may p)
 
 abbrev q13 : Page → State
-q13 p = at_log take_log (q12 p)
+q13 p = at_log take_log (q12 false p)
 
 abbrev q14 : Page → State
 q14 p = at_log (log_out (log_with p)) (q13 p)
@@ -157,26 +158,26 @@ takes_out p = record { held = refl; home = refl; reads = refl; writes = refl; pa
 none_out : (p : Page) → HasNoWriteOut (view_of (q30 p)) 0
 none_out p n out = absurd (out (at_one_lane (λ (h : LaneHold). h.out ≡ None) (view_of (q30 p)) _ refl refl refl n))
 
-may_log : (p : Page) → IsPut p → CanLog (q4 p) 0 7 p (image 7 p) (view_of (q4 p))
-may_log p is = record { inside = lit< tt; tagged = refl; right = record { right = refl; dirtied = refl; applied = refl; sound = is.sound; used = is.used }; around = record { block = in_fork; none = at_frame (λ (l : Link). l.unapplied ≡ false) (view_of (q4 p)) _ refl refl refl }; full = is.full; ends = is.ends; room = has_room; makes = (refl, refl); past = tt; allowed = tt }
+may_log : (may : Bool) (p : Page) → IsPut p → CanLog (q4 may p) 0 7 p (image 7 p) (view_of (q4 may p))
+may_log may p is = record { inside = lit< tt; tagged = refl; right = record { right = refl; dirtied = refl; applied = refl; sound = is.sound; used = is.used }; around = record { block = in_fork; none = at_frame (λ (l : Link). l.unapplied ≡ false) (view_of (q4 may p)) _ refl refl refl }; full = is.full; ends = is.ends; room = has_room; makes = (refl, refl); past = tt; allowed = tt }
 
-pub changes : (p : Page) → IsPut p → Run (change p) m22 (q12 p)
-changes p is = goes (pools (page_steps.touches 0 0 exclude (view_of m22) refl refl (lit< tt) (record { pinned = λ e. cc; seen = refl; none = refl; free = refl; alone = refl; no_copy = refl }) tt) tt)
-    (goes (pools (page_steps.touches 0 0 mark_dirty (view_of (q1 p)) refl refl (lit< tt) (record { unlocked = refl; right = refl }) tt) tt)
-    (goes (logs 0 take_log (view_of (q2 p)) refl refl (record { free = refl }) tt)
-    (goes (logs 0 (log_out sample_log) (view_of (q3 p)) refl refl (record { held = refl; home = refl; faults = refl; synced = refl; down = refl; bytes = λ bytes e. sym (same_Some (head_bytes 0) bytes e) }) tt)
-    (goes (logs 0 (append 0 7 p (put_bytes p)) (view_of (q4 p)) refl refl (record { call = record { out = λ e. cc; once = refl; up = refl }; entered = refl; unsynced = refl; short = (let x = record_length sample_store.names 0 record_size (image 7 p) (λ tag. refl) (record { sound = is.sound; used = is.used; full = is.full; ends = is.ends }) in omega arith) }) (image 7 p, may_log p is, refl))
-    (goes (logs 0 (log_back false) (view_of (q5 p)) refl refl (record { out = λ e. cc; failed = λ z. absurd (cc); rose = λ taken e z. below taken.faults z }) tt)
-    (goes (enters 0 0 p (image 7 p) (view_of (q6 p)) refl refl (lit< tt) (record { right = record { right = refl; dirtied = refl; applied = refl; sound = is.sound; used = is.used }; around = record { block = in_fork; none = at_frame (λ (l : Link). l.unapplied ≡ false) (view_of (q6 p)) _ refl refl refl }; full = is.full; ends = is.ends; room = has_room; makes = (refl, refl); past = tt; allowed = tt; appended = refl }))
-    (goes (logs 0 leave_log (view_of (q7 p)) refl refl (record { held = refl; home = refl; entered = refl }) tt)
-    (goes (pools (page_steps.touches 0 0 page_out (view_of (q8 p)) refl refl (lit< tt) (record { page_home = refl; shared = λ e. absurd (cc); unlocked = λ e. absurd (cc) }) tt) tt)
-    (goes (pools (page_steps.touches 0 0 overwrite_logged (view_of (q9 p)) refl refl (lit< tt) (record { out = λ e. cc; once = refl; unapplied = refl }) tt) tt)
-    (goes (pools (page_steps.touches 0 0 page_back (view_of (q10 p)) refl refl (lit< tt) (record { out = λ e. cc }) tt) tt)
-    (goes (pools (page_steps.touches 0 0 unexclude (view_of (q11 p)) refl refl (lit< tt) (record { right = refl; applied = refl; page_home = refl }) tt) tt)
+pub changes : (may : Bool) (p : Page) → IsPut p → Run (change p) (m22 may) (q12 may p)
+changes may p is = goes (pools (page_steps.touches 0 0 exclude (view_of (m22 may)) refl refl (lit< tt) (record { pinned = λ e. cc; seen = refl; none = refl; free = refl; alone = refl; no_copy = refl }) tt) tt)
+    (goes (pools (page_steps.touches 0 0 mark_dirty (view_of (q1 may p)) refl refl (lit< tt) (record { unlocked = refl; right = refl }) tt) tt)
+    (goes (logs 0 take_log (view_of (q2 may p)) refl refl (record { free = refl }) tt)
+    (goes (logs 0 (log_out sample_log) (view_of (q3 may p)) refl refl (record { held = refl; home = refl; faults = refl; synced = refl; down = refl; bytes = λ bytes e. sym (same_Some (head_bytes 0) bytes e) }) tt)
+    (goes (logs 0 (append 0 7 p (put_bytes p)) (view_of (q4 may p)) refl refl (record { call = record { out = λ e. cc; once = refl; up = refl }; entered = refl; unsynced = refl; short = (let x = record_length sample_store.names 0 record_size (image 7 p) (λ tag. refl) (record { sound = is.sound; used = is.used; full = is.full; ends = is.ends }) in omega arith) }) (image 7 p, may_log may p is, refl))
+    (goes (logs 0 (log_back false) (view_of (q5 may p)) refl refl (record { out = λ e. cc; failed = λ z. absurd (cc); rose = λ taken e z. below taken.faults z }) tt)
+    (goes (enters 0 0 p (image 7 p) (view_of (q6 may p)) refl refl (lit< tt) (record { right = record { right = refl; dirtied = refl; applied = refl; sound = is.sound; used = is.used }; around = record { block = in_fork; none = at_frame (λ (l : Link). l.unapplied ≡ false) (view_of (q6 may p)) _ refl refl refl }; full = is.full; ends = is.ends; room = has_room; makes = (refl, refl); past = tt; allowed = tt; appended = refl }))
+    (goes (logs 0 leave_log (view_of (q7 may p)) refl refl (record { held = refl; home = refl; entered = refl }) tt)
+    (goes (pools (page_steps.touches 0 0 page_out (view_of (q8 may p)) refl refl (lit< tt) (record { page_home = refl; shared = λ e. absurd (cc); unlocked = λ e. absurd (cc) }) tt) tt)
+    (goes (pools (page_steps.touches 0 0 overwrite_logged (view_of (q9 may p)) refl refl (lit< tt) (record { out = λ e. cc; once = refl; unapplied = refl }) tt) tt)
+    (goes (pools (page_steps.touches 0 0 page_back (view_of (q10 may p)) refl refl (lit< tt) (record { out = λ e. cc }) tt) tt)
+    (goes (pools (page_steps.touches 0 0 unexclude (view_of (q11 may p)) refl refl (lit< tt) (record { right = refl; applied = refl; page_home = refl }) tt) tt)
     rests)))))))))))
 
-pub flushes : (p : Page) → IsPut p → Run (flush p) (q12 p) (q19 p)
-flushes p is = goes (logs 0 take_log (view_of (q12 p)) refl refl (record { free = refl }) tt)
+pub flushes : (p : Page) → IsPut p → Run (flush p) (q12 false p) (q19 p)
+flushes p is = goes (logs 0 take_log (view_of (q12 false p)) refl refl (record { free = refl }) tt)
     (goes (logs 0 (log_out (log_with p)) (view_of (q13 p)) refl refl (record { held = refl; home = refl; faults = refl; synced = refl; down = refl; bytes = λ bytes e. sym (same_Some (head_bytes 0 ++ put_bytes p) bytes e) }) tt)
     (goes (logs 0 sync_log (view_of (q14 p)) refl refl (record { out = λ e. cc; once = refl; up = refl }) tt)
     (goes (logs 0 (log_back false) (view_of (q15 p)) refl refl (record { out = λ e. cc; failed = λ z. absurd (cc); rose = λ taken e z. below taken.faults z }) tt)
@@ -206,14 +207,14 @@ pub one_record : (p : Page) → head_bytes 0 ++ put_bytes p ≡ log_bytes sample
 unfolding records
 one_record p = ap (λ (l : List ℕ). head_bytes 0 ++ l) (sym (append-nil (put_bytes p)))
 
-may_put : IsPut some_page
+pub may_put : IsPut some_page
 unfolding is_sound_page is_new_page header_of lsn_of
 may_put = record { sound = refl; used = refl; full = omega (arith, length-replicate {A = ℕ} 8168 0); ends = refl }
 
 every_put : (p : Page) → IsPut p → (t : State) × Run (miss ++ fill ++ change p ++ flush p ++ write_out 0 p) miss_start t × HasPut p t
 every_put p is = (
   q32 p,
-  run_append filled (run_append (changes p is) (run_append (flushes p is) (writes_out p is))),
+  run_append (filled false) (run_append (changes false p is) (run_append (flushes p is) (writes_out p is))),
   record { lane = refl; held = refl; clean = refl; logged = refl; bytes = one_record p; durable = refl; flushed = refl; called = (_, refl, refl, refl) },
 )
 

@@ -28,9 +28,9 @@ use Rattle.history_core.specs.Device.{LogKind, leave_log, view_logged, log_hold_
 use Rattle.history_core.specs.State.{Device, State, Store, opening}
 use Rattle.history_core.specs.Invariant.{HistoryInvariant, written_of}
 use Rattle.history_core.specs.Sound.{SoundLaw}
-use Rattle.history_core.specs.Redo.{IsRaised, HasBeenRedo, StartsBased, FollowsImage, CanFollow, IsHighestRaised, ChosenBy, RedoLaw}
+use Rattle.history_core.specs.Redo.{IsRaised, HasBeenRedo, StartsAtBase, FollowsImage, CanFollow, IsHighestRaised, ChosenBy, RedoLaw}
 use Rattle.history_core.specs.Words.{WordKind, load_redo, raise_redo, WordAllowed}
-use Rattle.history_core.specs.Steps.{Event, new_entry, stepped, looked, pool_noting, paged, laned, has_read, has_written, logged_as, test_of, IsPastRedo, MayPass, MakesPage, CanEnter, Step, pools, lanes, writes, notes, logs, enters, reads, words, after_word, state_after_word, reads_size, has_seen_size}
+use Rattle.history_core.specs.Steps.{Event, new_entry, stepped, looked, pool_noting, paged, laned, has_read, has_written, logged_as, test_of, IsPastRedo, MaySkipImage, MakesPage, CanEnter, Step, pools, lanes, writes, notes, logs, enters, reads, words, after_word, state_after_word, reads_size, has_seen_size}
 use Rattle.history_core.proofs.Calls.{at_both, index_below}
 use Rattle.history_core.proofs.Logs.{cut_all, ends_below, some_size, cell_absent, last_upto, IsLastUpto, cell_upto}
 use Rattle.history_core.proofs.Sound.{locked_sound}
@@ -217,7 +217,7 @@ record SameRedo (s t : State) : Type 0 where
   log : t.log ≡ s.log
   end : t.end ≡ s.end
   redo : t.redo ≡ s.redo
-  based : StartsBased t → StartsBased s
+  based : StartsAtBase t → StartsAtBase s
   knows : (tag : ℕ) → t.known tag ≡ true → s.known tag ≡ true
 
 been_before : (s t : State) → t.log ≡ s.log → ((r : ℕ) → IsRaised t.pool.core.views r → IsRaised s.pool.core.views r) → (r : ℕ) → HasBeenRedo t r → HasBeenRedo s r
@@ -282,7 +282,7 @@ record HasBehind (es : List Entry) (tag r : ℕ) : Type 0 where
   is : entry.change ≡ image tag page
   from : r ≤ entry.start
 
-module _ (s : State) (h : HistoryInvariant s) (n : SoundLaw s) (m : RedoLaw s) (i f : ℕ) (v : View) (there : get_elem? s.pool.core.views i ≡ some v) (inside : f < s.pool.core.frames) (locked : (link v f).content ≡ Exclusive) (past : IsPastRedo v.log (link v f)) (based : StartsBased s) (known : s.known (s.pool.core.frame f).tag ≡ true) where
+module _ (s : State) (h : HistoryInvariant s) (n : SoundLaw s) (m : RedoLaw s) (i f : ℕ) (v : View) (there : get_elem? s.pool.core.views i ≡ some v) (inside : f < s.pool.core.frames) (locked : (link v f).content ≡ Exclusive) (past : IsPastRedo v.log (link v f)) (based : StartsAtBase s) (known : s.known (s.pool.core.frame f).tag ≡ true) where
   abbrev tag_here : ℕ
   tag_here = (s.pool.core.frame f).tag
 
@@ -322,7 +322,7 @@ module _ (s : State) (h : HistoryInvariant s) (n : SoundLaw s) (m : RedoLaw s) (
           let a = past.past in let b = redo_is in let c = m.highest.from in omega arith
 
 -- redo can do the next entry
-pub can_follow : (s : State) → HistoryInvariant s → SoundLaw s → RedoLaw s → (i f tag : ℕ) (p : Page) (c : Change) (end : ℕ) (v : View) → get_elem? s.pool.core.views i ≡ some v → f < s.pool.core.frames → (s.pool.core.frame f).tag ≡ tag → (link v f).content ≡ Exclusive → MakesPage c end tag p (link v f) → MayPass c v.log (link v f) → CanFollow s c
+pub can_follow : (s : State) → HistoryInvariant s → SoundLaw s → RedoLaw s → (i f tag : ℕ) (p : Page) (c : Change) (end : ℕ) (v : View) → get_elem? s.pool.core.views i ≡ some v → f < s.pool.core.frames → (s.pool.core.frame f).tag ≡ tag → (link v f).content ≡ Exclusive → MakesPage c end tag p (link v f) → MaySkipImage c v.log (link v f) → CanFollow s c
 can_follow s h n m i f tag p (image t q) end v there inside tagged locked makes past = tt
 can_follow s h n m i f tag p (ranges t spans) end v there inside tagged locked makes past = λ based known. let same : t ≡ (s.pool.core.frame f).tag = makes.0 ∙ sym tagged in
     let x = image_behind s h n m i f v there inside locked past based (ap s.known (sym same) ∙ known) s.log.base (inl refl) in (x.index, x.entry, x.page, x.there, x.is ∙ ap (λ (z : ℕ). image z x.page) (sym same))
@@ -343,7 +343,7 @@ module _ (s : State) (h : HistoryInvariant s) (n : SoundLaw s) (m : RedoLaw s) (
   follow_longer tag r k y = record { index = y.index; entry = y.entry; page = y.page; there = at_longer s.log.entries (entry ∷ []) y.index y.entry y.there; is = y.is; from = y.from; before = y.before }
 
   -- ranges follow an image, wherever the redo position stood
-  new_follows : (c : Change) → MakesPage c (s.end + change_size c) (s.pool.core.frame f).tag p (link v f) → MayPass c v.log (link v f) → StartsBased s → (tag r : ℕ) (spans : List Span) → HasBeenRedo s r → c ≡ ranges tag spans → s.known tag ≡ true → FollowsImage longer tag r (length s.log.entries)
+  new_follows : (c : Change) → MakesPage c (s.end + change_size c) (s.pool.core.frame f).tag p (link v f) → MaySkipImage c v.log (link v f) → StartsAtBase s → (tag r : ℕ) (spans : List Span) → HasBeenRedo s r → c ≡ ranges tag spans → s.known tag ≡ true → FollowsImage longer tag r (length s.log.entries)
   new_follows (image t q) makes past based tag r spans been is known = absurd (cc)
   new_follows (ranges t ss) makes past based tag r spans been is known = let same : t ≡ tag = same_Some t tag (ap tag_in is) in let here : (s.pool.core.frame f).tag ≡ tag = sym makes.0 ∙ same in
       let y = image_behind s h n m i f v there inside x.right.right past based (ap s.known here ∙ known) r been in
@@ -360,7 +360,7 @@ module _ (s : State) (h : HistoryInvariant s) (n : SoundLaw s) (m : RedoLaw s) (
       by_test (Some r) (Some q) e is = let now : r ≡ s.redo = m.loaded i v r there e in let tested : r ≡ test.redo = ap (λ (y : ImageTest). y.redo) (same_Some (record { redo = r; before = lsn_of q }) test is) in
           (subst (HasBeenRedo t) (sym now ∙ tested) (still s.redo m.highest.reached), (let low = m.within in omega arith))
 
-  enters_redo : (t : State) → t.log ≡ record s.log { entries = longer } → t.end ≡ s.end + change_size ch → t.redo ≡ s.redo → t.pool.core.views ≡ set s.pool.core.views i written → (StartsBased t → StartsBased s) → ((tag : ℕ) → t.known tag ≡ true → s.known tag ≡ true) → RedoLaw t
+  enters_redo : (t : State) → t.log ≡ record s.log { entries = longer } → t.end ≡ s.end + change_size ch → t.redo ≡ s.redo → t.pool.core.views ≡ set s.pool.core.views i written → (StartsAtBase t → StartsAtBase s) → ((tag : ℕ) → t.known tag ≡ true → s.known tag ≡ true) → RedoLaw t
   enters_redo t log end redo views based knows = record {
     loaded = λ j u r at is. let z = one_holds s.pool.core.views i v written there (λ q y. y) j u r (at_views j u at) is in m.loaded z.0 z.1 r z.2 z.3 ∙ sym redo;
     within = let a = m.within in omega arith;
@@ -475,6 +475,10 @@ module _ (s : State) (h : HistoryInvariant s) (m : RedoLaw s) (i : ℕ) (v : Vie
   words_redo raise_redo a = raises_redo a
   words_redo k a = let w : View = after_word k s v in redo_same s (state_after_word k s i v) (record { log = refl; end = refl; redo = refl; based = λ b. b; knows = λ tag y. y }) (one_raised s.pool.core.views i v w there refl (same_calls v w refl)) m (one_holds s.pool.core.views i v w there (λ r y. y))
 
+words_been : (s : State) (i : ℕ) (v : View) → get_elem? s.pool.core.views i ≡ some v → (k : WordKind) → (r : ℕ) → HasBeenRedo s r → HasBeenRedo (state_after_word k s i v) r
+words_been s i v there raise_redo = been_still s (state_after_word raise_redo s i v) refl (raised_kept s.pool.core.views i v (after_word raise_redo s v) (s.end ∷ []) there refl)
+words_been s i v there k = let w : View = after_word k s v in been_still s (state_after_word k s i v) refl (raised_kept s.pool.core.views i v w [] there (sym (append-nil v.redo_raised)))
+
 -- a step at the log notes no redo position
 hold_less : (k : LogKind) (h : LogHold) (r : ℕ) → (log_hold_after k h).redo ≡ Some r → h.redo ≡ Some r
 hold_less leave_log h r e = absurd (cc)
@@ -498,6 +502,19 @@ redo_kept {t = t} (enters {s = s} i f p ch v there live inside x) h n m = enters
 redo_kept {t = t} (reads {s = s} i f tag p v there live inside a) h n m = let w : View = looked (seen.LogEnd s.end) (has_read s.end tag p v) in redo_same s t (record { log = refl; end = refl; redo = refl; based = λ b. b; knows = λ tag k. k }) (one_raised s.pool.core.views i v w there refl (read_calls v w v.number tag p s.end refl)) m (one_holds s.pool.core.views i v w there (λ r y. y))
 redo_kept {t = t} (reads_size {s = s} i fork v there live a) h n m = let w : View = looked (seen.LogEnd s.end) (has_seen_size s.end fork (size_hold v fork).blocks v) in redo_same s t (record { log = refl; end = refl; redo = refl; based = λ b. b; knows = λ tag k. k }) (one_raised s.pool.core.views i v w there refl (size_calls v w v.number fork (size_hold v fork).blocks s.end refl)) m (one_holds s.pool.core.views i v w there (λ r y. y))
 redo_kept (words {s = s} i k v there live a) h n m = words_redo s h m i v there k a
+
+-- where the redo position stood stays listed
+pub been_kept : {e : Event} {s t : State} → Step e s t → (r : ℕ) → HasBeenRedo s r → HasBeenRedo t r
+been_kept {t = t} (pools {s = s} (page_steps.cores x) a) = been_still s t refl (pools_raised s x).0.kept
+been_kept {t = t} (pools {s = s} (page_steps.touches i f k v there live inside a around) plain) = let w : View = paged k s.pool f v in been_still s t refl (one_raised s.pool.core.views i v w there refl (same_calls v w refl)).kept
+been_kept {t = t} (lanes {s = s} i q k v there live low a alone) = let w : View = stepped (laned k q v v) in been_still s t refl (one_raised s.pool.core.views i v w there refl (same_calls v w refl)).kept
+been_kept {t = t} (writes {s = s} i q f k v there live low inside a x) = let w : View = laned k q v (paged begin_write s.pool f v) in been_still s t refl (one_raised s.pool.core.views i v w there refl (same_calls v w refl)).kept
+been_kept {t = t} (notes {s = s} i q f noted k v there live low inside a x) = let w : View = laned (lane_back noted) q v (paged k (pool_noting k s f) f v) in been_still s t refl (one_raised s.pool.core.views i v w there refl (same_calls v w refl)).kept
+been_kept {t = t} (logs {s = s} i k v there live a record_is) = let w : View = view_logged k v in been_still s t refl (one_raised s.pool.core.views i v w there refl (same_calls v w refl)).kept
+been_kept {t = t} (enters {s = s} i f p ch v there live inside x) = let w : View = has_written ch (link v f).copied (s.end + change_size ch) (s.pool.core.frame f).tag p (paged (make_entry p) s.pool f v) in been_still s t refl (raised_kept s.pool.core.views i v w [] there (sym (append-nil v.redo_raised)))
+been_kept {t = t} (reads {s = s} i f tag p v there live inside a) = let w : View = looked (seen.LogEnd s.end) (has_read s.end tag p v) in been_still s t refl (raised_kept s.pool.core.views i v w [] there (sym (append-nil v.redo_raised)))
+been_kept {t = t} (reads_size {s = s} i fork v there live a) = let w : View = looked (seen.LogEnd s.end) (has_seen_size s.end fork (size_hold v fork).blocks v) in been_still s t refl (raised_kept s.pool.core.views i v w [] there (sym (append-nil v.redo_raised)))
+been_kept (words {s = s} i k v there live a) = words_been s i v there k
 
 pub redo_open : (c : Config) (store : Store) (page : Page) → RedoLaw (opening c store page)
 redo_open c store page = let w : View = first_view c.base c.frames c.partitions c.lanes in record {

@@ -20,7 +20,7 @@ use Rattle.pin_core.specs.Invariant.{FrameLaw, LinkLaw, PinInvariant}
 use Rattle.pin_core.specs.Kinds as pin_kinds
 use Rattle.pin_core.specs.Kinds.{seen_gone, sighted, seen_valid_after, tag_after}
 use Rattle.pin_core.specs.Tallies.{Tally, frame_shape}
-use Rattle.pin_core.specs.Sizes.{view_sized}
+use Rattle.pin_core.specs.Sizes.{SizeKind, pass_frame, residents_sized, view_sized}
 use Rattle.pin_core.specs.Turns.{view_turned}
 use Rattle.pin_core.specs.Steps as pin_steps
 use Rattle.page_core.specs.State.{Block, block_of}
@@ -186,6 +186,11 @@ pin_lists s h i f pin_kinds.lower_usage v there inside was k r at = inl (k, at)
 pin_lists s h i f pin_kinds.assign v there inside was k r at = inl (k, at)
 pin_lists s h i f pin_kinds.clear v there inside was k r at = inl (k, at)
 
+-- a frame that a cut passes has the block that it is seen to have
+sized_lists : (s : State) (k : SizeKind) (rs : List Resident) → ((r : Resident) (j : ℕ) → get_elem? rs j ≡ some r → IsResident s.pool.core.frames s.pool.core.frame r) → ListsThere s.pool.core.frames s.pool.core.frame rs (residents_sized k s.pool.core rs)
+sized_lists s (pass_frame f n) rs was j r at = inr (gone_there s.pool.core.frames f s.pool.core.frame (λ q. not (nat_eq q.tag (s.pool.core.frame f).tag)) rs (λ q x e. let tag : q.tag ≡ (s.pool.core.frame f).tag = sym x.has.tag ∙ ap (λ (z : ℕ). (s.pool.core.frame z).tag) e in ap not (eq-eqb q.tag (s.pool.core.frame f).tag tag)) was j r at)
+sized_lists s _ rs was j r at = inl (j, at)
+
 lists_put : (n f : ℕ) (frame : ℕ → Frame) (fr : Frame) (before after : List Resident) → KeepsBlock (frame f) fr → ListsThere n frame before after → ListsThere n (put frame f fr) before after
 lists_put n f frame fr before after keeps lists k r at = ⊎_elim (λ (x : (j : ℕ) × (get_elem? before j ≡ some r)). inl x) (λ (x : IsResident n frame r). inr (resident_put n f frame fr keeps r x)) (lists k r at)
 
@@ -196,7 +201,8 @@ pools_stay s h m (pin_steps.touches i f k v there live inside a around) = let fr
     frame_stays s.pool.core.frames s.pool.core.frame s.pool.core.views i f v w (pin_kinds.frame_after k fr) there y.0 keeps (λ was. lists_put s.pool.core.frames f s.pool.core.frame (pin_kinds.frame_after k fr) v.residents w.residents keeps (pin_lists s h i f k v there inside was)) m)
     (counts k v.cleared)
 pools_stay s h m (pin_steps.turns i p k v there live below a) = aside_stays s.pool.core.frames s.pool.core.frame s.pool.core.views i v (view_turned k p (hold v p) v) there refl refl m
-pools_stay s h m (pin_steps.sized i fork k v there live a) = aside_stays s.pool.core.frames s.pool.core.frame s.pool.core.views i v (view_sized k fork s.pool.core v) there refl refl m
+pools_stay s h m (pin_steps.sized i fork k v there live a) = let w : View = view_sized k fork s.pool.core v in λ none. let was = m (cleared_set s.pool.core.views i v w there (omega arith) none) in
+    resident_set s.pool.core.frames s.pool.core.frame s.pool.core.frame s.pool.core.views i v w there (λ r x. x) (sized_lists s k v.residents (λ r j at. was i j v r there at)) was
 pools_stay s h m (pin_steps.splits v there room) = let w : View = record v { next = v.next + 1 } in let b : View = new_view v.next s.pool.core.base (length v.links) (length v.partitions) (length v.lanes) in
     λ none i k u r at listed. let x = aside_stays s.pool.core.frames s.pool.core.frame s.pool.core.views 0 v w there refl refl m (let y = total-snoc (λ (z : View). z.cleared) (set s.pool.core.views 0 w) b in omega arith) in ⊎_elim
     (λ (y : get_elem? (set s.pool.core.views 0 w) i ≡ some u). x i k u r y listed)

@@ -11,7 +11,7 @@ use Rattle.history_core.specs.State.{State, Store, Device, opening}
 use Rattle.history_core.specs.Device.{LogKind, take_log, leave_log, log_out, append, fail_append, sync_log, fail_sync, log_back, see_down, LogAllowed, device_after, view_logged, Written, DeviceLaw, LogLink, LogTally, holders, appenders, log_weigh, log_shape}
 use Rattle.history_core.specs.Invariant.{HistoryInvariant, written_of}
 use Rattle.history_core.specs.Steps.{Event, new_entry, CanLog, AppendsRecord, aside, Step, logs, enters}
-use Rattle.history_core.specs.Redo.{StartsBased, HasWhole, CanFollow, RedoLaw}
+use Rattle.history_core.specs.Redo.{StartsAtBase, HasWholePage, CanFollow, RedoLaw}
 use Rattle.history_core.specs.Rest.{NoneAppended, HasRest, RestLaw}
 use Rattle.history_core.specs.Sound.{SoundLaw}
 use Rattle.history_core.specs.TornRecords.{NotesTorn}
@@ -41,13 +41,13 @@ nothing : (s : State) → s.device.bytes ≡ log_bytes s.names s.log → HasRest
 nothing s e = record { rest = []; is_bytes = e ∙ sym (append-nil (log_bytes s.names s.log)); begins = λ some. absurd (some refl); follows = λ some. absurd (some refl); torn = λ some down. absurd (some refl); short = omega arith }
 
 -- what redo can do next it can do where the log and the start are the same
-follows_still : (s t : State) → t.log ≡ s.log → (StartsBased t → StartsBased s) → ((tag : ℕ) → t.known tag ≡ true → s.known tag ≡ true) → (c : Change) → CanFollow s c → CanFollow t c
+follows_still : (s t : State) → t.log ≡ s.log → (StartsAtBase t → StartsAtBase s) → ((tag : ℕ) → t.known tag ≡ true → s.known tag ≡ true) → (c : Change) → CanFollow s c → CanFollow t c
 follows_still s t log based knows (image tag page) x = tt
-follows_still s t log based knows (ranges tag spans) x = λ b known. subst (λ (l : Log). HasWhole l.entries tag) (sym log) (x (based b) (knows tag known))
+follows_still s t log based knows (ranges tag spans) x = λ b known. subst (λ (l : Log). HasWholePage l.entries tag) (sym log) (x (based b) (knows tag known))
 follows_still s t log based knows (resize fork old new) x = absurd x
 
 -- the log and its device's bytes stay, and so does what is noted of failed appends
-same : (s t : State) → HasRest s → (StartsBased t → StartsBased s) → ((tag : ℕ) → t.known tag ≡ true → s.known tag ≡ true) → t.device.bytes ≡ s.device.bytes → t.device.down ≡ s.device.down → ((c : Change) → NotesTorn s.pool.core.views c → NotesTorn t.pool.core.views c) → t.names ≡ s.names → t.ranges ≡ s.ranges → t.log ≡ s.log → t.end ≡ s.end → HasRest t
+same : (s t : State) → HasRest s → (StartsAtBase t → StartsAtBase s) → ((tag : ℕ) → t.known tag ≡ true → s.known tag ≡ true) → t.device.bytes ≡ s.device.bytes → t.device.down ≡ s.device.down → ((c : Change) → NotesTorn s.pool.core.views c → NotesTorn t.pool.core.views c) → t.names ≡ s.names → t.ranges ≡ s.ranges → t.log ≡ s.log → t.end ≡ s.end → HasRest t
 same s t x based knows bytes down noted names may_be log end = record {
   rest = x.rest;
   is_bytes = bytes ∙ x.is_bytes ∙ (λ j. log_bytes (sym names j) (sym log j) ++ x.rest);

@@ -45,13 +45,13 @@ use Rattle.page_core.proofs.Stepping.{quiet_logged}
 use Rattle.page_core.proofs.Cases.{tag_kept}
 use Rattle.page_core.proofs.Stepping as page_stepping
 use Rattle.page_core.proofs.Stepping.{new_none}
-use Rattle.history_core.specs.Log.{is_of_page, AreOfPages, Entry, IsImage, change_size, cell, log_bytes, record_bytes, Change, image, ranges, resize, IsChange, IsEntryOf, HasImage, end_of, log_end, tag_in, changed_page, cut}
+use Rattle.history_core.specs.Log.{is_of_page, record_size, AreOfPages, Entry, IsImage, change_size, cell, log_bytes, record_bytes, Change, image, ranges, resize, IsChange, IsEntryOf, HasImage, end_of, log_end, tag_in, changed_page, cut}
 use Rattle.history_core.specs.State.{Lane, Device, State, stored, stored_upto, failed}
 use Rattle.history_core.specs.Lanes as lane_kinds
 use Rattle.history_core.specs.Lanes.{swept_by, LaneKind, LaneAllowed, lane_after, lane_hold_after, lane_shape, lane_part}
-use Rattle.history_core.specs.Homes.{Home, home_of, IsClean, HomeLink, home_shape, home_part, IsUnframed, Extends, IsFresh, IsFlushedCell}
+use Rattle.history_core.specs.Homes.{Home, home_of, IsClean, HomeLink, home_shape, home_part, IsUnframed, AddsBlock, IsUnwrittenNew, IsFlushedCell}
 use Rattle.history_core.specs.Invariant.{HistoryLaw, written_of, HistoryInvariant}
-use Rattle.history_core.specs.Steps.{has_seen_size, Event, IsPlain, PoolAllowed, stepped, looked, aside, pool_after, pool_noting, CanNoteLaneRead, paged, laned, LaneAlone, CanWrite, MayWriteLane, Notes, new_entry, CanEnter, CanRead, has_read, logged_as, test_of, has_written, Step, pools, lanes, writes, notes, enters, reads, logs, Run, rests, goes, words, after_word, state_after_word, has_raised, MakesPage, reads_size}
+use Rattle.history_core.specs.Steps.{has_seen_size, Event, IsPlain, PoolAllowed, stepped, looked, aside, pool_after, pool_noting, CanNoteLaneRead, paged, laned, LaneAlone, CanWrite, MayWriteLane, Notes, new_entry, CanEnter, CanRead, has_read, logged_as, test_of, MaySkipImage, has_written, Step, pools, lanes, writes, notes, enters, reads, logs, Run, rests, goes, words, after_word, state_after_word, has_raised, MakesPage, reads_size}
 use Rattle.history_core.specs.Words.{WordKind, load_end, begin_checkpoint, load_flushed, raise_flushed, load_redo, raise_redo, WordAllowed}
 use Rattle.history_core.specs.Device.{LogKind, take_log, leave_log, log_out, append, fail_append, sync_log, fail_sync, log_back, see_down, LogAllowed, device_after, view_logged, log_weigh, log_shape, log_part}
 use Rattle.history_core.proofs.Device.{log_keeps, enter_keeps, end_keeps, redo_keeps, synced_all}
@@ -205,9 +205,9 @@ no_resize : (g o n : ℕ) → is_of_page (resize g o n) ≡ true → ⊥
 no_resize g o n x = absurd (cc)
 
 -- a block that was fresh stays so, where the log has one entry more, of a page
-fresh_longer : (es : List Entry) (x : Entry) (tag : ℕ) (a b : Home) → is_of_page x.change ≡ true → b.inside ≡ a.inside → b.stored_upto ≡ a.stored_upto → b.stored ≡ a.stored → b.held ≡ a.held → IsFresh es tag a → IsFresh (es ++ x ∷ []) tag b
+fresh_longer : (es : List Entry) (x : Entry) (tag : ℕ) (a b : Home) → is_of_page x.change ≡ true → b.inside ≡ a.inside → b.stored_upto ≡ a.stored_upto → b.stored ≡ a.stored → b.held ≡ a.held → IsUnwrittenNew es tag a → IsUnwrittenNew (es ++ x ∷ []) tag b
 fresh_longer es x tag a b of_page inside upto stored held is = record {
-  fresh = ⊎_elim (λ (y : a.inside ≡ false). inl (inside ∙ y)) (λ (y : Extends es a.stored_upto tag). inr (record {
+  fresh = ⊎_elim (λ (y : a.inside ≡ false). inl (inside ∙ y)) (λ (y : AddsBlock es a.stored_upto tag). inr (record {
     index = y.index;
     entry = y.entry;
     there = at_longer es (x ∷ []) y.index y.entry y.there;
@@ -439,7 +439,7 @@ module _ (s : State) (h : HistoryInvariant s) (i q f : ℕ) (noted : Bool) (k : 
         flushed_cells = λ t. let x = h.flushed_cells t in record {
           based = x.based;
           within = x.within;
-          is_cell = λ known ok. ⊎_elim (λ (is : stored s t ≡ cell s.origin (cut (stored_upto s t) s.log.entries) t). inl is) (λ (is : IsFresh s.log.entries t (home_of s t)). inr (record { fresh = is.fresh; page = is.page })) (x.is_cell known ok);
+          is_cell = λ known ok. ⊎_elim (λ (is : stored s t ≡ cell s.origin (cut (stored_upto s t) s.log.entries) t). inl is) (λ (is : IsUnwrittenNew s.log.entries t (home_of s t)). inr (record { fresh = is.fresh; page = is.page })) (x.is_cell known ok);
         };
       })))
 
@@ -646,9 +646,9 @@ reads_size_step s h i fork v there right = let w : View = looked (seen.LogEnd s.
 
 -- The lane holds the block's page after the entries up to what it is noted to have, since forks don't grow yet
 pub lane_cell : (s : State) → HistoryInvariant s → (tag : ℕ) → is_block s.pool.core tag ≡ true → s.known tag ≡ true → failed s tag ≡ false → stored s tag ≡ cell s.origin (cut (stored_upto s tag) s.log.entries) tag
-lane_cell s h tag block known ok = ⊎_elim (λ (is : stored s tag ≡ cell s.origin (cut (stored_upto s tag) s.log.entries) tag). is) (λ (x : IsFresh s.log.entries tag (home_of s tag)). absurd (⊎_elim
+lane_cell s h tag block known ok = ⊎_elim (λ (is : stored s tag ≡ cell s.origin (cut (stored_upto s tag) s.log.entries) tag). is) (λ (x : IsUnwrittenNew s.log.entries tag (home_of s tag)). absurd (⊎_elim
     (λ (out : is_block s.pool.core tag ≡ false). flags_differ (sym out ∙ block))
-    (λ (y : Extends s.log.entries (stored_upto s tag) tag). no_resize (tag_fork tag) (tag_block tag) (tag_block tag + 1) (subst (λ (c : Change). is_of_page c ≡ true) y.grows (plain s h y.index y.entry y.there))) x.fresh)) ((h.flushed_cells tag).is_cell known ok)
+    (λ (y : AddsBlock s.log.entries (stored_upto s tag) tag). no_resize (tag_fork tag) (tag_block tag) (tag_block tag + 1) (subst (λ (c : Change). is_of_page c ≡ true) y.grows (plain s h y.index y.entry y.there))) x.fresh)) ((h.flushed_cells tag).is_cell known ok)
 
 -- the flushed position rises to the log's end, whose bytes are durable
 raised_state : (t : State) → HistoryInvariant t → length (log_bytes t.names t.log) ≤ t.device.synced → HistoryInvariant (record t { flushed = max t.flushed t.end })
@@ -789,6 +789,12 @@ module _ (s : State) (h : HistoryInvariant s) (i f : ℕ) (p : Page) (ch : Chang
       by_test (Some r) None e is known = absurd (cc)
       by_test (Some r) (Some q) e is known = (q, copied_cell s h i f v there inside named q e known, ap (λ (x : ImageTest). x.before) (same_Some (record { redo = r; before = lsn_of q }) t is))
 
+  -- a record shorter than that of a whole page passed the redo position
+  past_now : (c : Change) → MaySkipImage c v.log (link v f) → change_size c < record_size → (t : ImageTest) × (test_of v.log.redo (link v f).copied ≡ Some t) × (t.redo < t.before)
+  past_now (image t q) y short = absurd (omega arith)
+  past_now (ranges t spans) y short = (record { redo = y.redo; before = lsn_of y.before }, ap (λ (r : Option ℕ). test_of r (link v f).copied) y.loaded ∙ ap (test_of (Some y.redo)) y.copied, y.past)
+  past_now (resize fork o n) y short = absurd y
+
   -- the change makes the page, where the contents of the block's lane are known
   makes_page : (c : Change) → MakesPage c end' tag_of p (link v f) → s.known tag_of ≡ true → changed_page c end' tag_of (cell s.origin s.log.entries tag_of) ≡ Some p
   makes_page (image t q) m _ = changed_image t end' tag_of q (cell s.origin s.log.entries tag_of) (sym m.0) ∙ ap (λ (y : Page). Some y) m.1
@@ -846,7 +852,7 @@ module _ (s : State) (h : HistoryInvariant s) (i f : ℕ) (p : Page) (ch : Chang
         durable = h.durable;
         device = sweep log_shape log_part log_part 1 (λ _. s.device) (λ _. s.device) (λ _. written_of s) (λ _. written_of entered) views i v after h.device there
             (λ g below. enter_keeps (written_of s) s.device v.saw_down v.log (record_bytes s.names entry) end' (log_bytes s.names entered.log) x.appended (bytes_longer s.names s.log entry));
-        history = history_written s.known s.origin s.opened_sizes s.log s.flushed views h.history h.log i v after there entry h.ends tag_of p (logged_as ch v.log.redo (link v f).copied) of_block (makes_whole ch end' tag_of p (link v f) x.makes) refl tested_now cell_now refl refl refl refl refl refl refl;
+        history = history_written s.known s.origin s.opened_sizes s.log s.flushed views h.history h.log i v after there entry h.ends tag_of p (logged_as ch v.log.redo (link v f).copied) of_block (makes_whole ch end' tag_of p (link v f) x.makes) refl tested_now (past_now ch x.past) cell_now refl refl refl refl refl refl refl;
         lanes = steady lane_shape lane_part s.lanes s.lane (λ _. s.flushed) views h.lanes i v after there refl (λ q. refl);
         wide = wide_set s.lanes views h.wide i v after there refl refl;
         placed = h.placed;
@@ -857,7 +863,7 @@ module _ (s : State) (h : HistoryInvariant s) (i f : ℕ) (p : Page) (ch : Chang
           based = y.based;
           within = y.within;
           is_cell = λ known ok. ⊎_elim (λ (is : stored s t ≡ cell s.origin (cut (stored_upto s t) s.log.entries) t). inl (is ∙ ap (λ (es : List Entry). cell s.origin es t) (sym (cut_longer (stored_upto s t) s.log.entries entry (let a = y.within in let c = h.flushed_to in omega (arith, some_size ch))))))
-              (λ (is : IsFresh s.log.entries t (home_of s t)). inr (fresh_longer s.log.entries entry t (home_of s t) (home_of entered t) of_page refl refl refl refl is)) (y.is_cell known ok);
+              (λ (is : IsUnwrittenNew s.log.entries t (home_of s t)). inr (fresh_longer s.log.entries entry t (home_of s t) (home_of entered t) of_page refl refl refl refl is)) (y.is_cell known ok);
         };
       }
 

@@ -113,10 +113,10 @@ module _ (p q : Page) (n : ℕ) (few : n < 32) where
   }
 
 torn_runs : TornRuns
-torn_runs p q n is next few = (c5 p q n, run_append filled (run_append (changes p is) (run_append (flushes p is) (run_append (writes_out p is) (tears p q n next few)))), has_torn p q n few)
+torn_runs p q n is next few = (c5 p q n, run_append (filled false) (run_append (changes false p is) (run_append (flushes p is) (run_append (writes_out p is) (tears p q n next few)))), has_torn p q n few)
 
 abbrev r1 : State
-r1 = paged exclude m22
+r1 = paged exclude (m22 false)
 
 abbrev r2 : State
 r2 = paged mark_dirty r1
@@ -173,8 +173,8 @@ takes_out = record { held = refl; home = refl; reads = refl; writes = refl; page
 none_out : HasNoWriteOut (view_of r14) 0
 none_out n out = absurd (out (at_one_lane (λ (h : LaneHold). h.out ≡ None) (view_of r14) _ refl refl refl n))
 
-refuses : Run refuse m22 r3
-refuses = goes (pools (page_steps.touches 0 0 exclude (view_of m22) refl refl (lit< tt) (record { pinned = λ e. cc; seen = refl; none = refl; free = refl; alone = refl; no_copy = refl }) tt) tt)
+refuses : Run refuse (m22 false) r3
+refuses = goes (pools (page_steps.touches 0 0 exclude (view_of (m22 false)) refl refl (lit< tt) (record { pinned = λ e. cc; seen = refl; none = refl; free = refl; alone = refl; no_copy = refl }) tt) tt)
     (goes (pools (page_steps.touches 0 0 mark_dirty (view_of r1) refl refl (lit< tt) (record { unlocked = refl; right = refl }) tt) tt)
     (goes (pools (page_steps.touches 0 0 unexclude (view_of r2) refl refl (lit< tt) (record { right = refl; applied = refl; page_home = refl }) tt) tt)
     rests))
@@ -205,7 +205,7 @@ has_refused = record {
 }
 
 refused_runs : RefusedRuns
-refused_runs = (r16, run_append filled (run_append refuses refused_out), has_refused)
+refused_runs = (r16, run_append (filled false) (run_append refuses refused_out), has_refused)
 
 may_be_next : IsNext later_page
 unfolding is_sound_page is_new_page header_of lsn_of

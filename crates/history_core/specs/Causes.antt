@@ -29,6 +29,8 @@ pub record AllQuiet (s : State) : Type 0 where
   pub blocks : (tag : ℕ) → failed s tag ≡ false
   pub views : (i : ℕ) (v : View) → get_elem? s.pool.core.views i ≡ some v → KnowsNoOutput v
 
--- so it is where no view has the mark
+-- so it is where no view has the mark.
+-- That is as strong as a law about marks that are there, and each step shows it from what it
+-- changes. Faults are a sum over all views, which a join doesn't change.
 abbrev pub MarksLaw : State → Type 0
 MarksLaw s = NoneMarked s.pool.core.views → AllQuiet s

@@ -6,24 +6,28 @@ use Rattle.pin_core.specs.declared.view.Published.{Published}
 use Rattle.pin_core.specs.declared.view.View.{View}
 use Rattle.history_core.specs.Balances.{Balances, added_to}
 use Rattle.history_core.specs.State.{State}
-use Rattle.history_core.specs.Words.{last_published}
+use Rattle.history_core.specs.Words.{most_published}
 use Rattle.grid.specs.Shape.{total}
 
--- The views fix each counter: an addition leaves what was added more than it found
+-- The views fix each counter: it is the sum of what they have added
 abbrev pub FollowsCounters : (ℕ → ℕ) → List View → Type 0
 FollowsCounters counter views = (number : ℕ) → Balances (λ (v : View). v.published)
     (λ (p : Published). p.count) (λ (p : Published). 0) (λ (p : Published). p.more) number 0 (counter number) views
 
--- How much view i may have added
+-- What view i has added is bounded
 pub record IsBounded (i : ℕ) (v : View) : Type 0 where
-  -- to each counter, for itself and for each that it took in
-  pub within : (number : ℕ) → added_to number v ≤ (v.joined + 1) * last_published
+  -- to each counter at most 2^48 - 1 for itself, and as much for each view that was joined into it
+  pub within : (number : ℕ) → added_to number v ≤ (v.joined + 1) * most_published
   -- only the first takes in others
   pub alone : i ≢ 0 → v.joined ≡ 0
 
 pub record CountersLaw (counter : ℕ → ℕ) (views : List View) : Type 0 where
   pub fixed : FollowsCounters counter views
   pub bounded : (i : ℕ) (v : View) → get_elem? views i ≡ some v → IsBounded i v
+
+-- Each backend has added to a counter no more than it may, for itself and for each that was joined into it
+abbrev pub CountersAreBounded : State → Type 0
+CountersAreBounded s = (i : ℕ) (v : View) → get_elem? s.pool.core.views i ≡ some v → IsBounded i v
 
 -- Each counter is the sum of what the backends have added to it, those too that were joined into the first
 abbrev pub CountersAreSums : State → Type 0

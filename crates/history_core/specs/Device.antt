@@ -1,4 +1,9 @@
 -- The log's device and its latch: the kinds of step, and what holds of it.
+-- An append is of an entry that could be made: what the store of the log end requires is required
+-- before it. There is no append after a sync under one latch, since the sync has to cover all
+-- bytes.
+-- A failed append leaves the first bytes of the record, and its backend lists the block and the
+-- page. It is a list, so the joined view needs no law that only one backend can have failed.
 use Rattle.std.specs.Prelude.{◌≡◌, ◌≢◌, ℕ, ◌+◌, ◌<◌, ◌≤◌, Bool, true, false, List, [], ◌∷◌, ◌++◌, length, Option, Some, None, ◌||◌}
 use Rattle.pin_core.specs.declared.view.LogChange.{LogChange}
 use Rattle.pin_core.specs.declared.view.LogChange.TheVariants as change

@@ -17,9 +17,9 @@ use Rattle.history_core.specs.Steps as steps
 use Rattle.history_core.specs.Steps.{Event, Run}
 use Rattle.history_core.specs.Miss.{miss_start, pool_by, page_by, pool, turn, page, miss, fill}
 
--- the pin goes; under the latch of the partition the tag is erased, the frame cleared, and the map's entry left out
+-- the pin goes; under the latch of the partition the tag is erased, the frame cleared, and the map's entry left out; under the header the tag word is loaded then
 abbrev pub evict : List Event
-evict = pool pins.unpin ∷ pool pins.lock_header ∷ pool pins.pin_victim ∷ turn take_turn ∷ pool pins.lock_header ∷ pool pins.erase_tag ∷ pool pins.clear ∷ turn (map_out (sample_entry ∷ [])) ∷ turn change_map ∷ turn (map_back []) ∷ turn leave_turn ∷ pool pins.unpin ∷ []
+evict = pool pins.unpin ∷ pool pins.lock_header ∷ pool pins.pin_victim ∷ turn take_turn ∷ pool pins.lock_header ∷ pool pins.erase_tag ∷ pool pins.clear ∷ turn (map_out (sample_entry ∷ [])) ∷ turn change_map ∷ turn (map_back []) ∷ turn leave_turn ∷ pool pins.unpin ∷ pool pins.lock_header ∷ pool pins.load_tag ∷ pool pins.unlock_header ∷ []
 
 -- the frame has no tag and no pin then, and the map lacks the block
 pub record Evicted (t : State) : Type 0 where
@@ -27,6 +27,8 @@ pub record Evicted (t : State) : Type 0 where
   pub word : (t.pool.core.frame 0).word ≡ zero_word
   pub mapped : (t.pool.core.partition 0).map 7 ≡ None
   pub taken : (t.pool.core.partition 0).taken ≡ false
+  -- the backend has taken one tag from a frame, and the one block that it had seen in a frame is gone
+  pub gone : (v : View) × (get_elem? t.pool.core.views 0 ≡ some v) × (v.cleared ≡ 1) × (v.residents ≡ record { frame = 0; tag = 7; gone = true } ∷ [])
 
 abbrev pub EvictionRuns : Type 0
 EvictionRuns = (t : State) × Run (miss ++ fill ++ evict) miss_start t × Evicted t

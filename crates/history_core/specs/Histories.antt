@@ -23,7 +23,7 @@ use Rattle.history_core.specs.Lanes.{LaneKind, lane_out, sync_lane}
 use Rattle.history_core.specs.Device.{HasRisen}
 use Rattle.history_core.specs.Invariant.{HasNumber, KeptLaw}
 use Rattle.history_core.specs.Steps.{Event, pool, lane, write, enter, read, read_size, new_entry, logged_as, Step, Run}
-use Rattle.history_core.specs.Redo.{HasBeenRedo, StartsBased, FollowsImage}
+use Rattle.history_core.specs.Redo.{HasBeenRedo}
 use Rattle.history_core.specs.Rest.{NoneAppended, HasRest}
 use Rattle.grid.specs.Shape.{total}
 
@@ -77,7 +77,8 @@ JoinedAreApart s = KeptLaw s.pool.core.views
 abbrev pub FrontsAreReached : State → Type 0
 FrontsAreReached s = (i : ℕ) (v : View) → get_elem? s.pool.core.views i ≡ some v → v.emptied ≡ false → IsFront s.log.base v.calls v.front
 
--- the event is no read or entry of backend i, nor a sight of a fork's size, and no join that takes it in or has it take in another
+-- the event is no read, entry or `read_size` of backend i, and no join that takes it in or has it
+-- take in another
 abbrev pub LeavesCalls : Event → ℕ → Type 0
 LeavesCalls (read j f) i = i ≢ j
 LeavesCalls (read_size j fork) i = i ≢ j
@@ -161,7 +162,7 @@ pub record WriteStands (s t : State) (f : ℕ) (p : Page) (change : Change) (v w
   pub is_cell : (is_image change ≡ true) ⊎ (s.known (s.pool.core.frame f).tag ≡ true) → cell t.origin t.log.entries (s.pool.core.frame f).tag ≡ Some p
   pub above : v.front < t.end
 
--- What holds where the view v of a state s has given the size of a fork that it has seen its place, and is w then
+-- What holds if the view v of a state s gives a size that it found its place, and is w then
 pub record SizeStands (s : State) (fork : ℕ) (v w : View) : Type 0 where
   pub blocks : ℕ
   -- it has kept the fork at its size since it found this one
@@ -173,11 +174,11 @@ pub record SizeStands (s : State) (fork : ℕ) (v w : View) : Type 0 where
   pub place_loads : w.place_loads ≡ v.place_loads + 1
   -- the fork has this size after the entries up to there
   pub sees : sizes_after (cut s.end s.log.entries) s.opened_sizes fork ≡ blocks
-  -- which is after all that the backend had read, written and seen
+  -- all that the backend had read, written and seen is at the place or before it
   pub later : (k : ℕ) (c : Call) → get_elem? v.calls k ≡ some c → place_of c ≤ s.end
   pub above : v.front ≤ s.end
 
--- so it is with the step that does so
+-- each `read_size` does so
 abbrev pub SizesStand : State → Type 0
 SizesStand s = (i fork : ℕ) (t : State) → Step (read_size i fork) s t → (v : View) × (w : View) × (get_elem? s.pool.core.views i ≡ some v) × (get_elem? t.pool.core.views i ≡ some w) × SizeStands s fork v w
 
@@ -238,7 +239,7 @@ pub record IsStored (s : State) (tag : ℕ) : Type 0 where
   pub done : failed s tag ≡ false
   pub stored_is : s.known tag ≡ true → stored s tag ≡ cell s.origin s.log.entries tag
 
--- so it is where the block is there and no dirty frame has it
+-- a block that is there, and that no dirty frame has, is stored
 abbrev pub CleanBlocksAreStored : State → Type 0
 CleanBlocksAreStored s = (tag : ℕ) → tag ≢ no_tag → is_block s.pool.core tag ≡ true → HasNoDirtyFrame s tag → IsStored s tag
 
@@ -250,9 +251,12 @@ FramesAreSound s = (f : ℕ) → f < s.pool.core.frames → (s.pool.core.frame f
 abbrev pub FramesHoldCells : State → Type 0
 FramesHoldCells s = (f : ℕ) → s.known (s.pool.core.frame f).tag ≡ true → f < s.pool.core.frames → HasTag (s.pool.core.frame f) → (s.pool.core.frame f).word.valid ≡ true → NoneUnapplied s.pool f → cell s.origin s.log.entries (s.pool.core.frame f).tag ≡ Some (s.pool.core.frame f).page
 
--- full page writes: where no sound page had a position past the log's base at the start, each entry of ranges that starts where the redo position stood, or after it, follows an entry of its block's whole page that does, if the contents of the block's lane are known
-abbrev pub RangesFollowImages : State → Type 0
-RangesFollowImages s = StartsBased s → (tag r k : ℕ) (e : Entry) (spans : List Span) → HasBeenRedo s r → get_elem? s.log.entries k ≡ some e → e.change ≡ ranges tag spans → s.known tag ≡ true → r ≤ e.start → FollowsImage s.log.entries tag r k
+-- The redo position, and each that it has been, is the log's base or one that a view lists
+pub record RedoIsListed (s : State) : Type 0 where
+  pub now : HasBeenRedo s s.redo
+  pub stays : (e : Event) (t : State) → Step e s t → (r : ℕ) → HasBeenRedo s r → HasBeenRedo t r
+  -- what a backend has loaded under the log's latch, and not raised since, is the redo position
+  pub loaded : (i : ℕ) (v : View) (r : ℕ) → get_elem? s.pool.core.views i ≡ some v → v.log.redo ≡ Some r → r ≡ s.redo
 
 -- The words of the log
 pub record LogWords (s : State) : Type 0 where

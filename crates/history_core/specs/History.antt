@@ -1,4 +1,6 @@
 -- The history that the calls of all backends make, when they have ended.
+-- Calls are ordered by backend number. A view that took in others lists several backends' calls,
+-- each in its own order; no number is given twice.
 use Rattle.std.specs.Prelude.{◌≡◌, ◌≢◌, ℕ, Bool, true, List, length, Option}
 use mathlib.Core.Option.{some}
 use lib.ListN.{get_elem?}

@@ -1,4 +1,8 @@
 -- The blocks of the frames: what their lanes hold.
+-- One number says which entries a lane has: each good write raises a block's position to that of
+-- its page. Log before data and checkpoints both use it, and no device has to keep it.
+-- A checkpoint says nothing of a block whose last write failed, until a good one: its frame is
+-- dirty, so the page isn't lost.
 use Rattle.std.specs.Prelude.{◌≡◌, ◌≢◌, ◌⊎◌, ℕ, ◌+◌, ◌<◌, ◌≤◌, Bool, true, false, List, Option, Some}
 use Rattle.pin_core.specs.declared.view.LastWrite.TheVariants.{Done}
 use Rattle.pin_core.specs.declared.view.Link.{Link}
@@ -30,7 +34,8 @@ pub record Home : Type 0 where
 abbrev pub home_of : State → ℕ → Home
 home_of s tag = record { inside = is_block s.pool.core tag; block = block_of s.pool.logged tag; known = s.known tag; stored = stored s tag; stored_upto = stored_upto s tag; failed = failed s tag; held = s.held tag }
 
--- if the block is there its last write didn't fail, and the lane holds its page after the log, where its contents are known
+-- if the block is there, its last write didn't fail, and the lane holds its page after the log,
+-- if the lane's contents are known
 pub record IsClean (h : Home) : Type 0 where
   pub done : h.inside ≡ true → h.failed ≡ false
   pub stored : h.inside ≡ true → h.known ≡ true → h.block.logged ≡ h.stored
@@ -65,8 +70,8 @@ home_part = record { column = λ h fr t. HomeFrame h fr; cell = λ h fr _ l. Hom
 abbrev pub IsUnframed : ℕ → (ℕ → Frame) → ℕ → Type 0
 IsUnframed frames frame tag = (f : ℕ) → f < frames → (frame f).tag ≢ tag
 
--- an entry of the log adds the block to its fork, ends past the position, and no later entry cuts the block away
-pub record Extends (es : List Entry) (upto tag : ℕ) : Type 0 where
+-- An entry adds the block to its fork and ends past the position, and no later one cuts it away
+pub record AddsBlock (es : List Entry) (upto tag : ℕ) : Type 0 where
   pub index : ℕ
   pub entry : Entry
   pub there : get_elem? es index ≡ some entry
@@ -75,9 +80,9 @@ pub record Extends (es : List Entry) (upto tag : ℕ) : Type 0 where
   pub kept : (j : ℕ) (d : Entry) (fork old new : ℕ) → index < j → get_elem? es j ≡ some d → d.change ≡ resize fork old new → new < old → is_cut fork new tag ≡ false
 
 -- The block isn't there, or what added it to its fork isn't in the lane's page
-pub record IsFresh (es : List Entry) (tag : ℕ) (h : Home) : Type 0 where
-  pub fresh : (h.inside ≡ false) ⊎ Extends es h.stored_upto tag
-  -- the lane holds zeros then, or what it held at the start
+pub record IsUnwrittenNew (es : List Entry) (tag : ℕ) (h : Home) : Type 0 where
+  pub fresh : (h.inside ≡ false) ⊎ AddsBlock es h.stored_upto tag
+  -- then the lane holds zeros, or what it held at the start
   pub page : (h.stored ≡ Some zero_page) ⊎ (h.stored ≡ h.held)
 
 -- The lane holds no page of the block that is ahead of the flushed log
@@ -85,5 +90,6 @@ pub record IsFlushedCell (origin : ℕ → Option Page) (log : Log) (flushed tag
   -- the position up to which the block's entries are in its page is flushed
   pub based : log.base ≤ h.stored_upto
   pub within : h.stored_upto ≤ flushed
-  -- where the lane's contents are known, and the block's last write didn't fail, its page is the block's after the entries up to there, or it is fresh
-  pub is_cell : h.known ≡ true → h.failed ≡ false → (h.stored ≡ cell origin (cut h.stored_upto log.entries) tag) ⊎ IsFresh log.entries tag h
+  -- if the lane's contents are known and the block's last write didn't fail, the page is the
+  -- block's after the entries up to there, or the block is new to the lane
+  pub is_cell : h.known ≡ true → h.failed ≡ false → (h.stored ≡ cell origin (cut h.stored_upto log.entries) tag) ⊎ IsUnwrittenNew log.entries tag h

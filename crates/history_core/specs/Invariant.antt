@@ -65,10 +65,11 @@ pub record HistoryInvariant (s : State) : Type 0 where
   pub pool : pages.PageInvariant s.pool
   -- the page of a block after the log is what its entries make of the one that its lane held at the start, where the lane's contents are known
   pub logged : (tag : ℕ) → s.known tag ≡ true → s.pool.logged tag ≡ cell s.origin s.log.entries tag
-  -- the size of a fork by the log is what the entries make of the one that it had at the start; forks don't grow or shrink yet
+  -- each fork's size by the log is what the entries make of its size at the start
   pub sizes : (fork : ℕ) → (s.pool.core.size fork).logged ≡ sizes_after s.log.entries s.opened_sizes fork
+  -- forks don't grow or shrink yet
   pub quiet : s.pool.core.resizes ≡ false
-  -- where forks don't grow and shrink each entry is of a page
+  -- if forks don't grow and shrink, each entry is of a page
   pub of_pages : s.pool.core.resizes ≡ false → AreOfPages s.log.entries
   -- there is a page of each block of the relations
   pub there : (tag : ℕ) → is_block s.pool.core tag ≡ true → s.known tag ≡ true → is_some (cell s.origin s.log.entries tag) ≡ true

@@ -88,7 +88,9 @@ pub record CanReadBlock (tag : ℕ) (page : Page) (ln : Lane) (h : LaneHold) : T
   pub call : CanCall ln h
   pub given : ln.known ≡ true → ln.stored tag ≡ Some page
 
--- A fault is counted only for a call that failed; it is for each write or sync that failed, also where the count stands at its last value, and where a count rose
+-- A fault is counted only for a call that failed; it is for each write or sync that failed, also where the count stands at its last value, and where a count rose.
+-- A read's at the count's last value may be counted or not, since the backend can't see the count
+-- rise. Contracts don't say by how much a count rises.
 pub record CountsFault (noted : Bool) (taken : TakenLane) (ln : Lane) (change : LaneChange) : Type 0 where
   pub failed : noted ≡ true → (is_failed_read change || is_failed_write change) ≡ true
   pub all : is_failed_write change ≡ true → noted ≡ true

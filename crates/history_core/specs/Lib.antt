@@ -16,6 +16,7 @@ pub mod Histories
 pub mod Sample
 pub mod Miss
 pub mod Put
+pub mod Ranges
 pub mod Faults
 pub mod Checkpoints
 pub mod Evictions

@@ -1,4 +1,6 @@
 -- The write-ahead log, the pages of blocks that follow from it, and what backends read and wrote.
+-- An image is always allowed, ranges only if `ranges` says so; a table's log has images alone.
+-- Ranges are put into the page that was copied under the lock. No step enters a size.
 use Rattle.std.specs.Prelude.{◌≡◌, ◌≢◌, ◌⊎◌, ℕ, ◌+◌, ◌-◌, ◌*◌, ◌/◌, ◌%◌, ◌<◌, ◌≤◌, Bool, true, false, ◌&&◌, List, [], ◌∷◌, ◌++◌, length, take, drop, replicate, nat_eq, nat_le, nat_lt, Option, Some, None, option_map, if◌then◌else◌}
 use mathlib.Core.Option.{some}
 use lib.ListN.{get_elem?}
@@ -114,19 +116,19 @@ IsChange end (image tag page) = IsImage end page
 IsChange end (ranges tag spans) = AreRanges spans
 IsChange end (resize fork old new) = IsResize old new
 
--- whether an entry of a page may be made of a change: of an image it may; of ranges where `may` says so
+-- whether an entry of a page may be made of a change: of ranges only if `may` says so
 abbrev pub MayMake : Bool → Change → Type 0
 MayMake may (image tag page) = Unit {0}
 MayMake may (ranges tag spans) = may ≡ true
 MayMake may (resize fork old new) = ⊥
 
--- whether it is of a page, not of the size of a fork
+-- whether a change is of a page, not of a fork's size
 abbrev pub is_of_page : Change → Bool
 is_of_page (image tag page) = true
 is_of_page (ranges tag spans) = true
 is_of_page (resize fork old new) = false
 
--- each entry is
+-- each entry is of a page
 abbrev pub AreOfPages : List Entry → Type 0
 AreOfPages es = (k : ℕ) (e : Entry) → get_elem? es k ≡ some e → is_of_page e.change ≡ true
 
@@ -206,7 +208,9 @@ unfoldable pub page_after : ℕ → List Entry → Option Page → Option Page
 page_after tag [] p = p
 page_after tag (e ∷ es) p = page_after tag es (changed_page e.change (end_of e) tag p)
 
--- each block's page after these entries, where `origin` is what it was before them
+-- each block's page after these entries, where `origin` is what it was before them.
+-- Redo does the same on what a crash left, so the claim of redo is that two folds agree. A block
+-- past its fork's end has no page, and each block of the relations has one.
 abbrev pub cell : (ℕ → Option Page) → List Entry → ℕ → Option Page
 cell origin es tag = page_after tag es (origin tag)
 
@@ -216,7 +220,7 @@ resized_fork (image tag page) sizes fork = sizes fork
 resized_fork (ranges tag spans) sizes fork = sizes fork
 resized_fork (resize g old new) sizes fork = if nat_eq fork g then new else sizes fork
 
--- and after entries
+-- the size of each fork after entries
 unfoldable pub sizes_after : List Entry → (ℕ → ℕ) → ℕ → ℕ
 sizes_after [] sizes fork = sizes fork
 sizes_after (e ∷ es) sizes fork = sizes_after es (resized_fork e.change sizes) fork
@@ -238,7 +242,8 @@ pub record HasImage (end : ℕ) (page : Option Page) : Type 0 where
   pub is : page ≡ Some shown
   pub valid : IsImage end shown
 
--- A read is legal with the log where its page is the block's page after the entries up to the read's place, if the contents of the block's lane are known (`known`)
+-- A read is legal with the log if its page is the block's page after the entries up to the read's
+-- place, if the contents of the block's lane are known (`known`)
 pub record IsLegalRead (known : ℕ → Bool) (origin : ℕ → Option Page) (log : Log) (tag : ℕ) (page : Page) (place : ℕ) : Type 0 where
   pub based : log.base ≤ place
   pub within : place ≤ log_end log
@@ -248,7 +253,10 @@ pub record IsLegalRead (known : ℕ → Bool) (origin : ℕ → Option Page) (lo
 abbrev pub image_record : WriteRecord
 image_record = record { size = record_size; test = None }
 
--- A write is legal where it is an entry of its backend, and its place the entry's end; it says how long the entry's record is, and by which test it was chosen. Its page is the image of the entry, if that has one, and the block's page after the entries up to there, if the contents of the block's lane are known
+-- A write is legal if it is an entry of its backend that ends at its place; it says how long the
+-- entry's record is, and which two positions it was tested by, if any. Its page is the image of
+-- the entry, if that has one, and the block's page after the entries up to there, if the contents
+-- of the block's lane are known
 pub record IsLegalWrite (known : ℕ → Bool) (origin : ℕ → Option Page) (log : Log) (backend tag : ℕ) (page : Page) (place : ℕ) (logged : WriteRecord) : Type 0 where
   pub index : ℕ
   pub entry : Entry
@@ -259,9 +267,11 @@ pub record IsLegalWrite (known : ℕ → Bool) (origin : ℕ → Option Page) (l
   pub sized : change_size entry.change ≡ logged.size
   -- the position that was tested is that of the block's page after the entries before this one
   pub tested : (t : ImageTest) → logged.test ≡ Some t → known tag ≡ true → (q : Page) × (cell origin (cut entry.start log.entries) tag ≡ Some q) × (lsn_of q ≡ t.before)
+  -- a record shorter than that of a whole page was chosen by a test: the page's position was past the redo position
+  pub past : logged.size < record_size → (t : ImageTest) × (logged.test ≡ Some t) × (t.redo < t.before)
   pub writes : known tag ≡ true → cell origin (cut place log.entries) tag ≡ Some page
 
--- A change of a fork's size is legal where it is an entry of its backend, and its place the entry's end
+-- A change of a fork's size is legal if it is an entry of its backend that ends at its place
 pub record IsLegalSize (log : Log) (backend fork blocks place : ℕ) : Type 0 where
   pub index : ℕ
   pub entry : Entry
@@ -271,7 +281,8 @@ pub record IsLegalSize (log : Log) (backend fork blocks place : ℕ) : Type 0 wh
   pub made : entry.backend ≡ backend
   pub ends : end_of entry ≡ place
 
--- A size that was seen is legal where it is the fork's after the entries up to its place, if `sizes` is what the forks had at the start
+-- A size that was seen is legal if it is the fork's after the entries up to its place; `sizes`
+-- are those of the start
 pub record IsLegalSized (sizes : ℕ → ℕ) (log : Log) (fork blocks place : ℕ) : Type 0 where
   pub based : log.base ≤ place
   pub within : place ≤ log_end log
@@ -301,13 +312,14 @@ backend_of (Write backend tag page place logged) = backend
 backend_of (Size backend fork blocks place) = backend
 backend_of (Sized backend fork blocks place) = backend
 
--- 1 for a write, of a page or of a size, and for one at the place p
+-- 1 for a write of a page or of a size, else 0
 abbrev pub write_weight : Call → ℕ
 write_weight (Read backend tag page place) = 0
 write_weight (Write backend tag page place logged) = 1
 write_weight (Size backend fork blocks place) = 1
 write_weight (Sized backend fork blocks place) = 0
 
+-- 1 for one at the place p, else 0
 abbrev pub weight_at : ℕ → Call → ℕ
 weight_at p (Read backend tag page place) = 0
 weight_at p (Write backend tag page place logged) = if nat_eq place p then 1 else 0

@@ -1,5 +1,5 @@
 -- A miss and a read, for the definitions to be seen at work: a backend gives a frame to a block, reads the block from its lane into it, copies the page under the shared lock and gives the read its place.
-use Rattle.std.specs.Prelude.{◌≡◌, ℕ, false, List, [], ◌∷◌, ◌++◌, Some}
+use Rattle.std.specs.Prelude.{◌≡◌, ℕ, Bool, false, List, [], ◌∷◌, ◌++◌, Some}
 use mathlib.Core.Option.{some}
 use lib.ListN.{get_elem?}
 use Rattle.state_word.specs.declared.word.IoEnd.TheVariants.{ReadOk}
@@ -17,9 +17,12 @@ use Rattle.history_core.specs.Steps as steps
 use Rattle.history_core.specs.Steps.{Event, Run}
 use Rattle.history_core.specs.Sample.{sample_config, sample_store, sample_lane}
 
--- the lane holds a sound page for each block
+-- the lane holds a sound page for each block; entries may be made of ranges if `may` says so
+abbrev pub start_with : Bool → State
+start_with may = opening sample_config (record sample_store { origin = λ _. Some example_page; ranges = may }) []
+
 abbrev pub miss_start : State
-miss_start = opening sample_config (record sample_store { origin = λ _. Some example_page }) []
+miss_start = start_with false
 
 -- a step of backend i at the one frame
 abbrev pub pool_by : ℕ → pins.Kind → Event

@@ -66,7 +66,8 @@ AreSynced s upto = (k tag : ℕ) (e : Entry) → IsEntryOf s.log.entries tag k e
 abbrev pub SweepsStore : State → Type 0
 SweepsStore s = (i upto : ℕ) (v : View) → get_elem? s.pool.core.views i ≡ some v → ((n : ℕ) → n < s.lanes → upto ≤ (lane_hold v n).swept) ⊎ ((k : ℕ) × (c : JoinedCheckpoint) × (get_elem? v.joined_checkpoints k ≡ some c) × ((n : ℕ) → n < s.lanes → upto ≤ has_swept c n)) → AreSynced s upto × AreStored s upto
 
--- What a checkpoint says at its end, when it has visited every frame and none is left that it has still to write: its own, or that of a backend that was joined into another
+-- What a checkpoint says at its end, when it has visited every frame and none is left that it has still to write: its own, or that of a backend that was joined into another.
+-- A checkpoint has no step for its end: the promise holds in the state where it ends.
 pub record CheckpointsStore (s : State) : Type 0 where
   pub own : (i : ℕ) (v : View) → get_elem? s.pool.core.views i ≡ some v → ((f : ℕ) → f < s.pool.core.frames → ((link v f).visited ≡ true) × ((link v f).left_to_write ≡ false)) → AreStored s v.upto
   pub kept : (i k : ℕ) (v : View) (c : JoinedCheckpoint) → get_elem? s.pool.core.views i ≡ some v → get_elem? v.joined_checkpoints k ≡ some c → ((f : ℕ) → f < s.pool.core.frames → (has_visited c f ≡ true) × (has_left_to_write c f ≡ false)) → AreStored s c.upto

@@ -1,4 +1,5 @@
--- The redo position (`RedoRecPtr`): where it stood, and why redo finds the whole page of each block that entries of ranges are of.
+-- The redo position (`RedoRecPtr`): where it stood, and why redo finds a whole page of each block
+-- that has entries of ranges.
 use Rattle.std.specs.Prelude.{◌≡◌, ◌⊎◌, ℕ, ◌+◌, ◌<◌, ◌≤◌, true, List, Some}
 use mathlib.Core.Option.{some}
 use lib.ListN.{get_elem?}
@@ -20,13 +21,14 @@ IsRaised views r = (i k : ℕ) × (v : View) × (get_elem? views i ≡ some v) �
 abbrev pub HasBeenRedo : State → ℕ → Type 0
 HasBeenRedo s r = (r ≡ s.log.base) ⊎ IsRaised s.pool.core.views r
 
--- no sound page had a position past the log's base at the start, where the contents of its lane are known
-abbrev pub StartsBased : State → Type 0
-StartsBased s = (tag : ℕ) (p : Page) → s.known tag ≡ true → s.origin tag ≡ Some p → is_sound_page p ≡ true → lsn_of p ≤ s.log.base
+-- at the start no sound page had a position past the log's base, as far as the lanes' contents
+-- are known
+abbrev pub StartsAtBase : State → Type 0
+StartsAtBase s = (tag : ℕ) (p : Page) → s.known tag ≡ true → s.origin tag ≡ Some p → is_sound_page p ≡ true → lsn_of p ≤ s.log.base
 
 -- one of the entries has the whole page of the block
-abbrev pub HasWhole : List Entry → ℕ → Type 0
-HasWhole es tag = (k : ℕ) × (e : Entry) × (p : Page) × (get_elem? es k ≡ some e) × (e.change ≡ image tag p)
+abbrev pub HasWholePage : List Entry → ℕ → Type 0
+HasWholePage es tag = (k : ℕ) × (e : Entry) × (p : Page) × (get_elem? es k ≡ some e) × (e.change ≡ image tag p)
 
 -- Before the entry k an entry has the whole page of the block, which starts at r or after it
 pub record FollowsImage (es : List Entry) (tag r k : ℕ) : Type 0 where
@@ -38,10 +40,12 @@ pub record FollowsImage (es : List Entry) (tag r k : ℕ) : Type 0 where
   pub from : r ≤ entry.start
   pub before : index < k
 
--- What redo needs of the next entry: ranges are of a block that has a whole page in the log, if that was so of the start
+-- What redo needs of the next entry: before ranges the log has a whole page of their block, if at
+-- the start no sound page was past the log's base and the contents of the block's lane are known.
+-- No entry resizes a fork yet
 abbrev pub CanFollow : State → Change → Type 0
 CanFollow s (image t q) = Unit {0}
-CanFollow s (ranges t spans) = StartsBased s → s.known t ≡ true → HasWhole s.log.entries t
+CanFollow s (ranges t spans) = StartsAtBase s → s.known t ≡ true → HasWholePage s.log.entries t
 CanFollow s (resize fork old new) = ⊥
 
 -- The redo position is the base, or the largest to which a view raised it
@@ -50,21 +54,32 @@ pub record IsHighestRaised (base redo : ℕ) (views : List View) : Type 0 where
   pub above : (r : ℕ) → IsRaised views r → r ≤ redo
   pub reached : (redo ≡ base) ⊎ IsRaised views redo
 
--- a call's record was chosen by a redo position that stood there, before the record
+-- the redo position by which a write's record was tested had stood, before the record was made
 abbrev pub ChosenBy : State → Call → Type 0
 ChosenBy s (Read backend tag page place) = Unit {0}
 ChosenBy s (Size backend fork blocks place) = Unit {0}
 ChosenBy s (Sized backend fork blocks place) = Unit {0}
 ChosenBy s (Write backend tag page place logged) = (t : ImageTest) → logged.test ≡ Some t → HasBeenRedo s t.redo × (t.redo + logged.size ≤ place)
 
+-- full page writes: if at the start no sound page had a position past the log's base, each entry
+-- of ranges that starts at a redo position or after it follows an entry of its block's whole page
+-- that does too, if the contents of the block's lane are known
+abbrev pub RangesFollowImages : State → Type 0
+RangesFollowImages s = StartsAtBase s → (tag r k : ℕ) (e : Entry) (spans : List Span) → HasBeenRedo s r → get_elem? s.log.entries k ≡ some e → e.change ≡ ranges tag spans → s.known tag ≡ true → r ≤ e.start → FollowsImage s.log.entries tag r k
+
+-- the redo position by which a write's record was tested had stood before the record was made
+abbrev pub TestsStood : State → Type 0
+TestsStood s = (i k : ℕ) (v : View) (c : Call) → get_elem? s.pool.core.views i ≡ some v → get_elem? v.calls k ≡ some c → ChosenBy s c
+
 pub record RedoLaw (s : State) : Type 0 where
-  -- what the holder of the log's latch has loaded under it is the redo position
+  -- the redo position that a backend has loaded under the log's latch is the one that stands
   pub loaded : (i : ℕ) (v : View) (r : ℕ) → get_elem? s.pool.core.views i ≡ some v → v.log.redo ≡ Some r → r ≡ s.redo
   -- it is between the base and the log's end, and the views fix it
   pub within : s.redo ≤ s.end
   pub highest : IsHighestRaised s.log.base s.redo s.pool.core.views
-  -- wherever it stood no entry lies across
+  -- no entry lies across a redo position
   pub between : (r : ℕ) → HasBeenRedo s r → (k : ℕ) (e : Entry) → get_elem? s.log.entries k ≡ some e → (end_of e ≤ r) ⊎ (r ≤ e.start)
-  -- and each entry of ranges that starts there or after it follows an image of its block that does
-  pub follows : StartsBased s → (tag r k : ℕ) (e : Entry) (spans : List Span) → HasBeenRedo s r → get_elem? s.log.entries k ≡ some e → e.change ≡ ranges tag spans → s.known tag ≡ true → r ≤ e.start → FollowsImage s.log.entries tag r k
-  pub chosen : (i k : ℕ) (v : View) (c : Call) → get_elem? s.pool.core.views i ≡ some v → get_elem? v.calls k ≡ some c → ChosenBy s c
+  -- an entry of ranges that starts at one or after it follows an image of its block that does too
+  pub follows : RangesFollowImages s
+  -- each write's test was of one
+  pub chosen : TestsStood s

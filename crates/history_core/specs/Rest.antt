@@ -21,7 +21,8 @@ pub record BeginsRecord (ranges : Bool) (names : ℕ → List ℕ) (end : ℕ) (
   pub more : List ℕ
   pub begins : bytes ++ more ≡ record_bytes names entry
 
--- After the log's bytes the device has nothing, or the first bytes of a record that would be the next
+-- After the log's bytes the device has nothing, or the first bytes of a record that would be the next.
+-- So a crash finds no more than that, and if the record is whole it could have been entered.
 pub record HasRest (s : State) : Type 0 where
   pub rest : List ℕ
   pub is_bytes : s.device.bytes ≡ log_bytes s.names s.log ++ rest

@@ -1,4 +1,7 @@
 -- The buffer pool with the lanes that hold its blocks, and the log.
+-- From outside come the numbers of partitions and lanes, the functions from tags to them, the forks
+-- and their sizes, and how the log names a block. The table has 128 partitions, the hash of
+-- `block_tag`, and the forks and names of its catalogue.
 use Rattle.std.specs.Prelude.{◌≡◌, ℕ, ◌+◌, ◌<◌, ◌≤◌, Bool, true, false, List, [], length, nat_eq, Option, None, if◌then◌else◌}
 use Rattle.std.specs.Option.{is_some}
 use Rattle.pin_core.specs.State.{Page, Config, is_below}
@@ -54,6 +57,7 @@ pub record Device : Type 0 where
   pub down : Option ℕ
 
 -- the greatest position that a log may reach: 2 to the power 62
+-- (so no sum of positions overflows)
 abbrev pub last_position : ℕ
 last_position = 4611686018427387904
 
@@ -67,8 +71,9 @@ pub record State : Type 0 where
   pub lane : ℕ → Lane
   -- whether the contents of a block's lane are known, by the block's tag
   pub known : ℕ → Bool
-  -- how many blocks each fork had at the start, and the pages that the lanes held of them then, where their contents are known
+  -- how many blocks each fork had at the start
   pub opened_sizes : ℕ → ℕ
+  -- the pages that the lanes held of these blocks then, if their contents are known
   pub origin : ℕ → Option Page
   -- the pages that the lanes held then, below the sizes and past them
   pub held : ℕ → Option Page
@@ -89,7 +94,7 @@ pub record State : Type 0 where
   pub redo : ℕ
   -- the word of the clock's hand (`nextVictimBuffer`)
   pub hand : ℕ
-  -- the counters of reads, writes and evictions (`pg_stat_io`)
+  -- the counters (`pg_stat_io`), by their numbers
   pub counter : ℕ → ℕ
   -- the hint words: each names no frame, by 0, or the frame f, by f + 1
   pub hint : ℕ → ℕ
@@ -129,7 +134,9 @@ pub record Store : Type 0 where
   pub head_synced : ℕ
   pub log_faults : ℕ
 
--- each tag has a lane, the log begins at a position, and it names a block in 20 bytes; each lane whose contents are known holds its blocks of the relations, and maybe others; forks don't grow or shrink yet
+-- each tag has a lane, the log begins at a position, and it names a block in 20 bytes;
+-- each lane whose contents are known holds its blocks of the relations, and maybe others;
+-- forks don't grow or shrink yet
 pub record CanStore (c : Config) (store : Store) : Type 0 where
   pub quiet : c.resizes ≡ false
   pub placed : (tag : ℕ) → store.lane_of tag < c.lanes

@@ -48,7 +48,7 @@ pub data Event : Type 0 where
   enter : ℕ → ℕ → Page → Change → Event
   -- the log's end is loaded as the place of a read of the page that was copied from a frame
   read : ℕ → ℕ → Event
-  -- the log's end is loaded as the place of the size of a fork, which the backend has seen under its shared right
+  -- the log's end is loaded as the place of a fork's size, which the backend keeps there
   read_size : ℕ → ℕ → Event
   -- a step at one of the table's other words
   word : ℕ → WordKind → Event
@@ -121,7 +121,8 @@ MayWriteLane (write_block g tag p) s n f h l = (g ≡ f) × CanWrite s n f tag p
 MayWriteLane (fail_write g tag p m) s n f h l = (g ≡ f) × CanWrite s n f tag (s.pool.core.frame f).page h l
 MayWriteLane _ s n f h l = ⊥
 
--- the page that was read is of the frame's block, which isn't one by which the fork is to grow; the backend has the input right there, and isn't just putting an earlier read into the frame
+-- The page that was read is of the frame's block, which isn't new. The backend has the input
+-- right there, and isn't just putting an earlier read into the frame
 pub record CanNoteLaneRead (s : State) (n f : ℕ) (p : Page) (h : LaneHold) (l : Link) : Type 0 where
   pub was_read : h.change ≡ lane_change.Read (s.pool.core.frame f).tag p
   pub lane : s.lane_of (s.pool.core.frame f).tag ≡ n
@@ -174,7 +175,8 @@ MakesPage (image t q) end tag p l = (t ≡ tag) × (q ≡ p)
 MakesPage (ranges t spans) end tag p l = (t ≡ tag) × Replaces end spans p l
 MakesPage (resize fork old new) end tag p l = ⊥
 
--- An entry of ranges is of a page whose position in the log was past the redo position, as the backend has loaded that under the log's latch
+-- Ranges may be logged if the page's position, as it was copied, is past the redo position that the
+-- backend has loaded under the log's latch
 pub record IsPastRedo (h : LogHold) (l : Link) : Type 0 where
   pub redo : ℕ
   pub loaded : h.redo ≡ Some redo
@@ -182,10 +184,10 @@ pub record IsPastRedo (h : LogHold) (l : Link) : Type 0 where
   pub copied : l.copied ≡ Some before
   pub past : redo < lsn_of before
 
-abbrev pub MayPass : Change → LogHold → Link → Type 0
-MayPass (image t q) h l = Unit {0}
-MayPass (ranges t spans) h l = IsPastRedo h l
-MayPass (resize fork old new) h l = ⊥
+abbrev pub MaySkipImage : Change → LogHold → Link → Type 0
+MaySkipImage (image t q) h l = Unit {0}
+MaySkipImage (ranges t spans) h l = IsPastRedo h l
+MaySkipImage (resize fork old new) h l = ⊥
 
 -- the page p is a whole page that the backend may enter by the change for the block of the frame f, whose tag is this, and has the position of the entry's end, which is at most the last one
 pub record CanLog (s : State) (f tag : ℕ) (p : Page) (c : Change) (v : View) : Type 0 where
@@ -197,7 +199,7 @@ pub record CanLog (s : State) (f tag : ℕ) (p : Page) (c : Change) (v : View) :
   pub ends : lsn_of p ≡ s.end + change_size c
   pub room : s.end + change_size c ≤ last_position
   pub makes : MakesPage c (s.end + change_size c) tag p (link v f)
-  pub past : MayPass c v.log (link v f)
+  pub past : MaySkipImage c v.log (link v f)
   pub allowed : MayMake s.ranges c
 
 -- what is appended is the record of the entry that the backend would make of the page now; an append that fails leaves the first bytes of it
@@ -218,7 +220,7 @@ pub record CanEnter (s : State) (f : ℕ) (p : Page) (c : Change) (v : View) : T
   pub ends : lsn_of p ≡ s.end + change_size c
   pub room : s.end + change_size c ≤ last_position
   pub makes : MakesPage c (s.end + change_size c) (s.pool.core.frame f).tag p (link v f)
-  pub past : MayPass c v.log (link v f)
+  pub past : MaySkipImage c v.log (link v f)
   pub allowed : MayMake s.ranges c
   pub appended : v.log.appended ≡ Some (record_bytes s.names (new_entry s v.number c))
 
@@ -233,12 +235,13 @@ pub record CanRead (tag : ℕ) (p : Page) (l : Link) : Type 0 where
 abbrev pub end_loaded : ℕ → LogHold → LogHold
 end_loaded end h = record h { end = if h.held then Some end else h.end }
 
--- the test by which a record was chosen: there was one where the redo position had been loaded, and the page copied
+-- the redo position and the page's position as they were at hand when the record was made, if both
+-- were
 abbrev pub test_of : Option ℕ → Option Page → Option ImageTest
 test_of (Some redo) (Some before) = Some (record { redo = redo; before = lsn_of before })
 test_of _ _ = None
 
--- how a write is in the log
+-- the log's record of a write
 abbrev pub logged_as : Change → Option ℕ → Option Page → WriteRecord
 logged_as c redo before = record { size = change_size c; test = test_of redo before }
 
@@ -310,7 +313,7 @@ abbrev pub raised_by : WordKind → ℕ → ℕ → ℕ
 raised_by raise_flushed end n = max n end
 raised_by _ end n = n
 
--- it raises the redo position to there
+-- the positions to which the view raised the redo position
 abbrev pub redo_raised_by : WordKind → ℕ → List ℕ → List ℕ
 redo_raised_by raise_redo end raised = raised ++ end ∷ []
 redo_raised_by _ end raised = raised
@@ -324,7 +327,7 @@ abbrev pub hints_by : WordKind → ℕ → List HintStore → List HintStore
 hints_by (store_hint number value) found hs = hs ++ record { number = number; found = found; left = value } ∷ []
 hints_by _ found hs = hs
 
--- it lists what was added to a counter
+-- the view lists what it added to a counter
 abbrev pub published_by : WordKind → List Published → List Published
 published_by (add_counter number more) ps = ps ++ record { count = number; more = more } ∷ []
 published_by _ ps = ps
@@ -387,7 +390,7 @@ pub data Step : Event → State → State → Type 0 where
   -- backend i gives the read of the page p its place
   reads : {s : State} (i f tag : ℕ) (p : Page) (v : View) → get_elem? s.pool.core.views i ≡ some v → v.emptied ≡ false → f < s.pool.core.frames → CanRead tag p (link v f)
       → Step (read i f) s (record s { pool = aside s.pool i (looked (seen.LogEnd s.end) (has_read s.end tag p v)) })
-  -- backend i, which keeps the fork at its size, gives what it has seen of that its place
+  -- backend i, which keeps the fork at the size that it found, gives that its place
   reads_size : {s : State} (i fork : ℕ) (v : View) → get_elem? s.pool.core.views i ≡ some v → v.emptied ≡ false → (size_hold v fork).right ≡ size_right.Shared
       → Step (read_size i fork) s (record s { pool = aside s.pool i (looked (seen.LogEnd s.end) (has_seen_size s.end fork (size_hold v fork).blocks v)) })
   -- a step at one of the other words by backend i, whose view is v

@@ -1,4 +1,7 @@
--- What the views fix of the shared words. The changes of state words that they list follow on one another, from the word at the start to the word that the frame has; they count the moves of the clock's hand; and they keep to where they raised the flushed position.
+-- What the views fix of the shared words. The changes of state words that they list follow on one
+-- another, from the word at the start to the word that the frame has; they count the moves of the
+-- clock's hand; they keep to where they raised the flushed and the redo position; and they list
+-- what they added to counters and stored in hint words.
 use Rattle.std.specs.Prelude.{◌≡◌, ◌≢◌, ℕ, ◌+◌, ◌%◌, ◌≤◌, List, [], ◌∷◌, ◌++◌, max, slice_set}
 use mathlib.Core.Option.{some}
 use lib.ListN.{get_elem?}
@@ -32,7 +35,9 @@ pub record TrailLaw (s : State) : Type 0 where
   -- the flushed position
   pub flushed : IsHighest s.flushed s.pool.core.views
 
--- The frames of two states have the same state words, the hand stands at the same place, and the flushed position, the counters and the hint words are the same; so is the redo position, where the logs begin at one place
+-- The frames of two states have the same state words, the hand stands at the same place, and the
+-- flushed position, the counters and the hint words are the same; so is the redo position, if the
+-- logs begin at one place
 pub record HasSameWords (s t : State) : Type 0 where
   pub words : (f : ℕ) → (t.pool.core.frame f).word ≡ (s.pool.core.frame f).word
   pub hand : t.hand ≡ s.hand
@@ -43,27 +48,29 @@ pub record HasSameWords (s t : State) : Type 0 where
 
 -- What one view, which was v in the state s and is w in the state t, lists and counts since has been made, and nothing else
 pub record MakesListed (s t : State) (v w : View) : Type 0 where
-  -- where it lists no change more each state word is as it was
+  -- if it lists no further change, each state word is as it was
   pub still : w.changes ≡ v.changes → (f : ℕ) → (t.pool.core.frame f).word ≡ (s.pool.core.frame f).word
-  -- where it lists one more, of a frame's word as it was, the frame has the word that was left
+  -- if it lists one more, of a frame's word as it was, the frame has the word that was left
   pub changed : (f : ℕ) (c : WordChange) → w.changes ≡ v.changes ++ c ∷ [] → c.frame ≡ f → c.found ≡ (s.pool.core.frame f).word → (t.pool.core.frame f).word ≡ c.left
   -- and the other frames have theirs
   pub others : (f : ℕ) (c : WordChange) → w.changes ≡ v.changes ++ c ∷ [] → f ≢ c.frame → (t.pool.core.frame f).word ≡ (s.pool.core.frame f).word
-  -- where it counts no move of the hand more, or one more
+  -- if it counts no further move of the hand, or one more
   pub unmoved : w.ticks ≡ v.ticks → t.hand ≡ s.hand
   pub moved : w.ticks ≡ v.ticks + 1 → t.hand ≡ next_hand s.hand
   -- the flushed position is the larger of what it was and of where the view has raised it to
   pub raised : v.raised_to ≤ w.raised_to → t.flushed ≡ max s.flushed w.raised_to
-  -- where the logs begin at one place, the redo position is as it was where the view raised it nowhere more, and where it raised it once more the larger of what it was and of that
+  -- if the logs begin at one place, the redo position is as it was, if the view didn't raise it,
   pub unraised : t.log.base ≡ s.log.base → w.redo_raised ≡ v.redo_raised → t.redo ≡ s.redo
+  -- and if the view raised it once more, the larger of what it was and of that
   pub raised_redo : t.log.base ≡ s.log.base → (r : ℕ) → w.redo_raised ≡ v.redo_raised ++ r ∷ [] → t.redo ≡ max s.redo r
-  -- where it lists no addition to a counter more each counter is as it was
+  -- if it lists no further addition, each counter is as it was
   pub unadded : w.published ≡ v.published → (number : ℕ) → t.counter number ≡ s.counter number
-  -- where it lists one more, the counter has risen by what was added, and no other has changed
+  -- if it lists one more, the counter has risen by what was added, and no other has changed
   pub added : (p : Published) → w.published ≡ v.published ++ p ∷ [] → (number : ℕ) → t.counter number ≡ put s.counter p.count (s.counter p.count + p.more) number
-  -- where it lists no store of a hint word more each hint word is as it was
+  -- if it lists no further store of a hint word, each hint word is as it was
   pub unstored : w.hints ≡ v.hints → (number : ℕ) → t.hint number ≡ s.hint number
-  -- where it lists one more, which found the word's value, the word has the value left, and no other hint word changed
+  -- if it lists one more, which found the word's value, the word has the value left, and no other
+  -- hint word changed
   pub stored : (h : HintStore) → w.hints ≡ v.hints ++ h ∷ [] → h.found ≡ s.hint h.number
       → (number : ℕ) → t.hint number ≡ put s.hint h.number h.left number
 

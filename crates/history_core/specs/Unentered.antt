@@ -21,7 +21,9 @@ IsFlushedEntered es flushed tag = (k : ℕ) × (e : Entry) × IsEntryOf es tag k
 abbrev pub NotesUnentered : List View → ℕ → Type 0
 NotesUnentered views tag = (i k : ℕ) × (v : View) × (get_elem? views i ≡ some v) × (get_elem? v.unentered k ≡ some tag)
 
--- some backend ended an exclusive lock of the block's frame, which it had marked dirty, and made no entry under it (as after a put that was refused)
+-- some backend ended an exclusive lock of the block's frame, which it had marked dirty, and made no entry under it (as after a put that was refused).
+-- A refused put leaves its frame dirty: the page is written, and no entry brings it back if a crash
+-- tears it. The note is made as the lock is given up, so `crashes` excepts no other block.
 abbrev pub IsUnentered : State → ℕ → Type 0
 IsUnentered s tag = NotesUnentered s.pool.core.views tag
 

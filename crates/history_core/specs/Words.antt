@@ -1,4 +1,7 @@
 -- The words of the table that no frame and no latch has, and the kinds of step at one.
+-- What the kinds here make of view and state is written once, with the kind as a variable, so a new
+-- word costs no law that doesn't speak of it. A read's place adds to the calls, so it is a step of
+-- its own.
 use Rattle.std.specs.Prelude.{◌≡◌, ℕ, ◌+◌, ◌*◌, ◌<◌, ◌≤◌, Bool, true, false, max, nat_eq, Some, if◌then◌else◌}
 use Rattle.pin_core.specs.declared.view.View.{View}
 use Rattle.history_core.specs.Balances.{added_to}
@@ -13,13 +16,14 @@ pub data Word : Type 0 where
   counter_word : ℕ → Word
   hint_word : ℕ → Word
 
--- how many counters there are: the five of each context
+-- how many counters there are: hits, reads, writes, evictions and reuses, each without a ring and
+-- for each of the three kinds of ring
 abbrev pub counter_count : ℕ
 counter_count = 20
 
--- the most that one backend may add to a counter
-abbrev pub last_published : ℕ
-last_published = 281474976710655
+-- the most that one backend may add to a counter: 2 to the power 48, less 1
+abbrev pub most_published : ℕ
+most_published = 281474976710655
 
 -- how many hint words a table of n frames has
 abbrev pub hint_count : ℕ → ℕ
@@ -94,13 +98,17 @@ word_at (add_counter number more) = counter_word number
 word_at (load_hint number) = hint_word number
 word_at (store_hint number value) = hint_word number
 
--- the flushed position is raised under the log's latch, after a sync; the redo position is loaded under that latch, and raised once the log's end was loaded under it; the counter is there, and what the backend adds to it stays within bounds; the hint word is there, and the value names no frame or one that is there
+-- the flushed position is raised under the log's latch, after a sync;
+-- the redo position is loaded under the log's latch, and raised once the log's end was loaded or
+-- stored under it;
+-- the counter is there, and what the backend adds to it stays within bounds;
+-- the hint word is there, and the value names no frame, or one that is there
 abbrev pub WordAllowed : WordKind → State → View → Type 0
 WordAllowed raise_flushed s v = v.log.synced ≡ true
 WordAllowed load_redo s v = v.log.held ≡ true
 WordAllowed raise_redo s v = v.log.end ≡ Some s.end
 WordAllowed (load_counter number) s v = number < counter_count
-WordAllowed (add_counter number more) s v = (number < counter_count) × (added_to number v + more ≤ last_published)
+WordAllowed (add_counter number more) s v = (number < counter_count) × (added_to number v + more ≤ most_published)
 WordAllowed (load_hint number) s v = number < hint_count s.pool.core.frames
 WordAllowed (store_hint number value) s v = (number < hint_count s.pool.core.frames) × (value ≤ s.pool.core.frames)
 WordAllowed _ s v = Unit {0}

@@ -8,8 +8,10 @@
 
 ghost use Rattle.std.specs.Prelude.{◌≡◌, ℕ, ◌<◌, List};
 ghost use Rattle.pin_core.specs.State.{CanOpen, Config, Page};
-ghost use Rattle.pin_core.specs.Schedules.{TagsAreUnique, PinsRemember, SizeRights, SizesAreLogged, SeenBlocksStay};
+ghost use Rattle.pin_core.specs.Sizes.{NotedAreAtSize, PassedAreFree};
+ghost use Rattle.pin_core.specs.Schedules.{TagsAreUnique, TagWordsAreBlocks, PinsRemember, SizeRights, SizesAreLogged, SeenBlocksStay};
 ghost use Rattle.page_core.specs.Histories.{CleanupIsAlone};
+ghost use Rattle.page_core.specs.Invariant.{OthersHaveNoPage};
 ghost use Rattle.history_core.specs.State.{CanStore, State, Store, opening};
 ghost use Rattle.history_core.specs.Laws.{Laws};
 ghost use Rattle.history_core.specs.Ends.{EndsLaw};
@@ -21,18 +23,21 @@ ghost use Rattle.history_core.specs.Sizes.{BlocksThere};
 ghost use Rattle.history_core.specs.Unentered.{DirtyHaveEntries, WrittenHaveEntries};
 ghost use Rattle.history_core.specs.Crashes.{CrashesRedo};
 ghost use Rattle.history_core.specs.Torn.{CrashRuns};
-ghost use Rattle.history_core.specs.Counters.{CountersAreSums};
-ghost use Rattle.history_core.specs.Residents.{LostWereCleared, PinsAreListed, ResidentsStay};
+ghost use Rattle.history_core.specs.Counters.{CountersAreBounded, CountersAreSums};
+ghost use Rattle.history_core.specs.Residents.{LoadsMarkGone, LostWereCleared, PinsAreListed, ResidentsStay};
+ghost use Rattle.history_core.specs.Redo.{RangesFollowImages, TestsStood};
+ghost use Rattle.history_core.specs.Rest.{HasRest};
 ghost use Rattle.history_core.specs.Trail.{HasSameWords, ListedIsMade};
 ghost use Rattle.history_core.specs.Steps.{Event, Run};
 ghost use Rattle.history_core.specs.Sample.{SampleRuns};
 ghost use Rattle.history_core.specs.Miss.{MissRuns};
 ghost use Rattle.history_core.specs.Put.{PutRuns};
+ghost use Rattle.history_core.specs.Ranges.{RangesRuns};
 ghost use Rattle.history_core.specs.Faults.{FaultRuns};
 ghost use Rattle.history_core.specs.Checkpoints.{CheckpointRuns};
 ghost use Rattle.history_core.specs.Evictions.{EvictionRuns, WaitRuns};
 ghost use Rattle.page_core.specs.Histories.{NewBlocksAreZero};
-ghost use Rattle.history_core.specs.Histories.{SizesFollowLog, IsReached, BlocksAreThere, CallsAreLegal, EntriesAreOfBlocks, ImagesAlone, RangesFollowImages, ReadsAtBase, SyncsMakeDurable, SyncsCover, JoinedAreApart, CallsAreOwn, FrontsAreReached, CallsStay, CallsAreInOrder, LoadedIsFlushed, LanesGoOutFlushed, HoldsKeepFlushed, NotedWritesAreDone, LogIsHeld, HintsNameFrames, WritesAreEntries, ReadsStand, SizesStand, WritesStand, LogBeforeData, LanesHoldFlushedPages, CleanBlocksAreStored, FramesAreSound, FramesHoldCells, LogWords, EntriesAreDurable, DeviceHoldsLog, LanesAreHeld};
+ghost use Rattle.history_core.specs.Histories.{SizesFollowLog, IsReached, BlocksAreThere, CallsAreLegal, EntriesAreOfBlocks, ImagesAlone, RedoIsListed, ReadsAtBase, SyncsMakeDurable, SyncsCover, JoinedAreApart, CallsAreOwn, FrontsAreReached, CallsStay, CallsAreInOrder, LoadedIsFlushed, LanesGoOutFlushed, HoldsKeepFlushed, NotedWritesAreDone, LogIsHeld, HintsNameFrames, WritesAreEntries, ReadsStand, SizesStand, WritesStand, LogBeforeData, LanesHoldFlushedPages, CleanBlocksAreStored, FramesAreSound, FramesHoldCells, LogWords, EntriesAreDurable, DeviceHoldsLog, LanesAreHeld};
 
 /// What every list of events keeps, whatever the backends do and in whatever order.
 pub fn all_histories()
@@ -54,7 +59,9 @@ pub fn all_histories()
     ensures in_order { (s : State) → Laws s → CallsAreInOrder s }
     ensures entries { (s : State) → Laws s → WritesAreEntries s }
     ensures images_alone { (s : State) → Laws s → ImagesAlone s }
+    ensures redo { (s : State) → Laws s → RedoIsListed s }
     ensures ranges_follow { (s : State) → Laws s → RangesFollowImages s }
+    ensures tested { (s : State) → Laws s → TestsStood s }
     ensures of_blocks { (s : State) → Laws s → EntriesAreOfBlocks s }
     ensures at_base { (s : State) → Laws s → ReadsAtBase s }
     ensures reads_stand { (s : State) → Laws s → ReadsStand s }
@@ -75,6 +82,7 @@ pub fn all_histories()
     ensures ends { (s : State) → Laws s → EndsLaw s }
     ensures durable { (s : State) → Laws s → EntriesAreDurable s }
     ensures device_holds { (s : State) → Laws s → DeviceHoldsLog s }
+    ensures behind { (s : State) → Laws s → HasRest s }
     ensures held { (s : State) → Laws s → LanesAreHeld s }
     ensures log_held { (s : State) → Laws s → LogIsHeld s }
 
@@ -89,9 +97,13 @@ pub fn all_histories()
     ensures sizes_logged { (s : State) (fork : ℕ) → Laws s → SizesAreLogged s.pool.core fork }
     ensures seen_blocks { (s : State) → Laws s → SeenBlocksStay s.pool.core }
     ensures new_blocks { (s : State) → Laws s → NewBlocksAreZero s.pool }
+    ensures tags { (s : State) → Laws s → TagWordsAreBlocks s.pool.core }
+    ensures noted { (s : State) → Laws s → NotedAreAtSize s.pool.core }
+    ensures passed { (s : State) → Laws s → PassedAreFree s.pool.core }
+    ensures others { (s : State) → Laws s → OthersHaveNoPage s.pool }
     ensures by_log { (s : State) → Laws s → SizesFollowLog s }
 
-    // and of the frames:
+    // of the frames:
     ensures sound { (s : State) → Laws s → FramesAreSound s }
     ensures shows_sound { (s : State) → Laws s → ShowsSound s }
     ensures unsound { (s : State) → Laws s → UnsoundStay s }
@@ -101,11 +113,13 @@ pub fn all_histories()
     ensures residents { (s : State) → Laws s → LostWereCleared s }
     ensures residents_stay { (s : State) → Laws s → ResidentsStay s }
     ensures sighted { (s : State) → Laws s → PinsAreListed s }
+    ensures marked { (s : State) → LoadsMarkGone s }
     ensures unique { (s : State) → Laws s → TagsAreUnique s.pool.core }
     ensures remembers { (s : State) → Laws s → PinsRemember s.pool.core }
 
     // and of the counters:
     ensures counters { (s : State) → Laws s → CountersAreSums s }
+    ensures bounded { (s : State) → Laws s → CountersAreBounded s }
 {}
 
 /// No block has two frames.
@@ -143,12 +157,14 @@ pub fn ends_in_history()
     ensures { (s : State) → Laws s → EndsInHistory s }
 {}
 
-/// What the views list of the changes of state words, of the stores of hint words and of what they added to the counters, count of the moves of the clock's hand, and keep of where they raised the flushed position fixes each frame's state word, each hint word, each counter, where the hand stands, and the flushed position.
+/// Two states with the same views have the same state words, hint words, counters, flushed position
+/// and place of the clock's hand; and the same redo position, if their logs begin at one place.
 pub fn lists_fix_words()
     ensures { (s : State) (t : State) → Laws s → Laws t → s.pool.core.views ≡ t.pool.core.views → HasSameWords s t }
 {}
 
-/// A change of a state word that a view lists is made, and none that no view lists; and so with the stores of hint words, with what is added to the counters, with the moves of the clock's hand, and with where the flushed position was raised to.
+/// What a view lists of changes, stores, additions, moves and raised positions was made, and
+/// nothing that no view lists.
 pub fn listed_changes_are_made()
     ensures { (s : State) (t : State) → Laws s → Laws t → ListedIsMade s t }
 {}
@@ -168,6 +184,11 @@ pub fn put_and_flush()
     ensures { PutRuns }
 {}
 
+/// An example: after a put of a whole page a backend logs a change of four bytes of the block as a record of byte ranges, since the page's position is past the redo position; then the redo position is raised to the log's end.
+pub fn put_ranges_and_raise_redo()
+    ensures { RangesRuns }
+{}
+
 /// An example: a backend fails to read a block from its lane into a frame; then it syncs the lane, and fails to sync it again.
 pub fn failed_read_and_syncs()
     ensures { FaultRuns }
@@ -178,7 +199,7 @@ pub fn checkpoint_and_join()
     ensures { CheckpointRuns }
 {}
 
-/// An example: a backend evicts the block that it has read into a frame.
+/// An example: a backend evicts the block that it has read into a frame; then a load of the tag shows it that the block is gone.
 pub fn read_and_evict()
     ensures { EvictionRuns }
 {}

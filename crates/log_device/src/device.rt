@@ -36,6 +36,7 @@ pub trait LogDevice {
         ensures calls { calls self.new ≡ calls self.old + 1 };
 
     /// Makes all bytes so far durable. After a failed call no more of them are taken as durable than before.
+    /// A disk may hold more then, but nobody can rely on that.
     fn sync(&mut self) -> Result<(), Failed>
         ensures bytes { bytes self.new ≡ bytes self.old }
         ensures synced { IfSome (bytes self.old) (λ known. Syncs known (synced self.old) (synced self.new) result) }

@@ -62,6 +62,8 @@ impl<F: Write + OpenFile + Drop> LogDevice for FileLog<F> {
     }
 
     /// The bytes and the file's length are durable then; its times needn't be (`fdatasync`).
+    /// That is PostgreSQL's default for WAL on Linux (`wal_sync_method`). A reader of the log needs
+    /// no more. The directory of a new file isn't synced.
     fn sync(&mut self) -> Result<(), Failed> {
         self.calls.raise();
         if self.file.sync_data().is_ok() {
@@ -152,6 +154,7 @@ impl<F: Read + Drop> Source for FileSource<F> {
     ghost faults = { λ s. s.faults.count };
 
     /// A read that was interrupted is a fault, too.
+    /// It takes nothing then, and its caller may call again.
     fn next(&mut self, piece: &mut [u8]) -> Result<usize, Failed>
         ensures size { length piece.new ≡ length piece.old }
         ensures within { IfOk result (λ n. n ≤ length piece.old) }

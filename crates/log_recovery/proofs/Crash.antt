@@ -13,8 +13,8 @@ use Rattle.pin_core.specs.State.{Page}
 use Rattle.history_core.specs.Log.{Change, image, ranges, resize, Entry, Log, IsEntryOf, change_size, record_size, is_image, log_bytes, end_of, tag_in, page_after, changed_page, cell}
 use Rattle.history_core.specs.State.{State, stored, unsynced, last_position}
 use Rattle.history_core.specs.Laws.{Laws}
-use Rattle.history_core.specs.Redo.{CanFollow, HasWhole}
-use Rattle.history_core.specs.Crashes.{Survives, Crashed, RangesAreBased, StartsSynced, CanRedo, RedoGives, IsExcepted}
+use Rattle.history_core.specs.Redo.{CanFollow, HasWholePage}
+use Rattle.history_core.specs.Crashes.{Survives, Crashed, RangesStartAtBase, StartsSynced, CanRedo, RedoGives, IsExcepted}
 use Rattle.history_core.specs.Crashes as crash
 use Rattle.history_core.specs.Unentered.{IsUnentered}
 use Rattle.history_core.proofs.Crashes.{crashes_redo}
@@ -46,10 +46,10 @@ without_at [] k e at = absurd (some-ne-none e (sym at))
 without_at (d ∷ es) zero e at = ap (λ (x : Entry). some (record x { backend = 0 })) (some-injective d e at)
 without_at (d ∷ es) (suc k) e at = without_at es k e at
 
-whole_with : (es : List Entry) (tag : ℕ) → HasWhole (without_backends es) tag → HasWhole es tag
+whole_with : (es : List Entry) (tag : ℕ) → HasWholePage (without_backends es) tag → HasWholePage es tag
 whole_with es tag (k, d, p, at, is) = let x = with_backend_at es k d at in (k, x.0, p, x.1, sym x.2 ∙ is)
 
-ranges_with : (s : State) (es : List Entry) (tag : ℕ) → RangesAreBased s (without_backends es) tag → RangesAreBased s es tag
+ranges_with : (s : State) (es : List Entry) (tag : ℕ) → RangesStartAtBase s (without_backends es) tag → RangesStartAtBase s es tag
 ranges_with s es tag h k e spans at is = h k (record e { backend = 0 }) spans (without_at es k e at) is
 
 none_with : (es : List Entry) (tag : ℕ) → ((k : ℕ) (e : Entry) → IsEntryOf es tag k e → ⊥) → (k : ℕ) (d : Entry) → IsEntryOf (without_backends es) tag k d → ⊥
@@ -139,22 +139,22 @@ module _ (relations : List RelEntry) (s : State) (laws : Laws s) (by : IsLogBy r
 
     module _ (pages : ℕ → Option Page) (stays : (tag : ℕ) → unsynced s tag ≡ false → pages tag ≡ stored s tag) where
       -- what survives is redone
-      by_entries : (es : List Entry) → Survives s es → (tag : ℕ) → is_block relations tag ≡ true → CanRedo s (without_backends es) tag → RedoGives s pages (without_backends es) tag
-      by_entries es survives tag block can = ⊎_elim
+      by_entries : (es : List Entry) → Survives s es → (tag : ℕ) → CanRedo s (without_backends es) tag → RedoGives s pages (without_backends es) tag
+      by_entries es survives tag can = ⊎_elim
           (λ (same : cell pages es tag ≡ cell s.origin es tag). inl (after_backends tag es (pages tag) ∙ same ∙ sym (after_backends tag es (s.origin tag))))
           (λ (x : IsExcepted s es tag × IsUnentered s tag). inr (record { none = none_with es tag x.0.none; lost = x.0.lost }, x.1))
-          (crashes_redo s laws pages es (record { stays = stays; log = survives }) tag (by.blocks tag ∙ block) (can_with can))
+          (crashes_redo s laws pages es (record { stays = stays; log = survives }) tag (can_with can))
         where
           can_with : CanRedo s (without_backends es) tag → CanRedo s es tag
           can_with (inl whole) = inl (whole_with es tag whole)
-          can_with (inr (known, synced, whole)) = inr (known, synced, ranges_with s es tag whole)
+          can_with (inr (block, known, synced, whole)) = inr (block, known, synced, ranges_with s es tag whole)
 
-      pub by_read : (es ds : List Entry) → ds ≡ without_backends es → Survives s es → (tag : ℕ) → is_block relations tag ≡ true → CanRedo s ds tag → RedoGives s pages ds tag
-      by_read es ds read survives tag block = subst (λ (l : List Entry). CanRedo s l tag → RedoGives s pages l tag) (sym read) (by_entries es survives tag block)
+      pub by_read : (es ds : List Entry) → ds ≡ without_backends es → Survives s es → (tag : ℕ) → CanRedo s ds tag → RedoGives s pages ds tag
+      by_read es ds read survives tag = subst (λ (l : List Entry). CanRedo s l tag → RedoGives s pages l tag) (sym read) (by_entries es survives tag)
 
 pub survivors_read : SurvivorsAreRead
 survivors_read relations s laws by bytes left log is = survivors relations s laws by bytes left log is
 
 pub crashes_recover : CrashesRecover
-crashes_recover relations s laws by bytes left log is pages stays tag block = let read = survivors relations s laws by bytes left log is in
-    by_read relations s laws by bytes left pages stays read.0 log.entries read.2 read.1 tag block
+crashes_recover relations s laws by bytes left log is pages stays tag = let read = survivors relations s laws by bytes left log is in
+    by_read relations s laws by bytes left pages stays read.0 log.entries read.2 read.1 tag

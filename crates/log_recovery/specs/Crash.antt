@@ -44,4 +44,4 @@ abbrev pub CrashesRecover : Type 0
 CrashesRecover = (relations : List RelEntry) (s : State) → Laws s → IsLogBy relations s
     → (bytes : List ℕ) → IsLeft s bytes → (log : Log) → IsLogOf relations bytes log
     → (pages : ℕ → Option Page) → ((tag : ℕ) → unsynced s tag ≡ false → pages tag ≡ stored s tag)
-    → (tag : ℕ) → is_block relations tag ≡ true → CanRedo s log.entries tag → RedoGives s pages log.entries tag
+    → (tag : ℕ) → CanRedo s log.entries tag → RedoGives s pages log.entries tag

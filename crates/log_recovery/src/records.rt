@@ -1,4 +1,9 @@
 //! The fields of a record.
+//!
+//! A well-formed record is a relation between bytes and an entry, field by field, not an equation
+//! with the bytes that the writer makes. So the bytes alone determine the entries, and that what
+//! was written is read back is a theorem. A record doesn't say which backend made it; an entry that
+//! is read has backend 0.
 ghost use Rattle.std.specs.Prelude.{◌≡◌, ◌+◌, ◌≤◌, ◌<◌, ◌^◌, ◌↔◌, ℕ, List, None, IfSome, IsTrue, drop, length, true};
 ghost use Rattle.block_tag.specs.Names.{names_block, packed_tag};
 ghost use Rattle.page_layout.specs.Fields.{number_at};

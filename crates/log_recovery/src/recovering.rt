@@ -1,4 +1,8 @@
 //! The recovery of lanes by a log.
+//!
+//! Recovery allocates a set of blocks and nothing else, to tell how many different blocks it wrote.
+//! A block enters the set before its write, so out of memory leaves the redo of the records before.
+//! All records are read into one buffer.
 ghost use Rattle.std.specs.Prelude.{◌≡◌, ◌≢◌, ◌<◌, ◌≤◌, ◌⊎◌, All, IfErr, IfOk, IfSome, IsErrOf, OnErr, OnOk, length, map};
 ghost use Rattle.log_device.specs.Faults.{Rose};
 ghost use Rattle.segment_store.specs.Contents.{no_marks};

@@ -1,4 +1,8 @@
 //! Hints: which frame may have a block. It may have another one, or none.
+//!
+//! There are four hint words, 32 bytes, for each frame. The hash is a sum, so two blocks of a fork
+//! share a word only if they are a multiple of four times the pool's size apart. A hint of another
+//! block's frame costs a pin of the wrong frame; then the block is found by the map.
 ghost use Rattle.std.specs.Prelude.{◌≡◌, ◌<◌, ◌%◌, IfSome};
 ghost use Rattle.history_core.specs.Words.{hint_count};
 ghost use Rattle.frame_table.specs.Seats.{IsSeat, SameSeat, frames_of};

@@ -123,7 +123,8 @@ FramesHoldPages s = (f : ℕ) (p : Page) → f < s.core.frames → HasTag (s.cor
 abbrev pub ValidPagesAreSound : State → Type 0
 ValidPagesAreSound s = (f : ℕ) → f < s.core.frames → (s.core.frame f).word.valid ≡ true → is_sound_page (s.core.frame f).page ≡ true
 
--- A block by which a view is about to let its fork grow isn't there yet, and has no page; the frame's page, once that is valid, and a page that was noted as read there, are all zero; no other view has an input right there
+-- A new block isn't there yet. The frame's page, once it is valid, and a page noted as read there
+-- are all zero. Only the view that notes the block has an input right there
 pub record NewBlocksAreZero (s : State) : Type 0 where
   pub outside : (i f : ℕ) (v : View) → get_elem? s.core.views i ≡ some v → f < s.core.frames → (link v f).noted ≡ true → is_block s.core (s.core.frame f).tag ≡ false
   pub page : (i f : ℕ) (v : View) → get_elem? s.core.views i ≡ some v → f < s.core.frames → (link v f).noted ≡ true → (s.core.frame f).word.valid ≡ true → (s.core.frame f).page ≡ zero_page

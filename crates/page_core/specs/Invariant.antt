@@ -139,14 +139,14 @@ pub record WaitsOnce (v : View) : Type 0 where
 abbrev pub WaitsLaw : List View → Type 0
 WaitsLaw views = (i : ℕ) (v : View) → get_elem? views i ≡ some v → WaitsOnce v
 
--- What holds at a frame whose block a view notes as one by which the fork is to grow
+-- What holds at a frame with a new block, of the view that notes it
 pub record NotedPage (fr : Frame) (l : Link) : Type 0 where
   -- its page is all zero, once it is valid
   pub valid : fr.word.valid ≡ true → fr.page ≡ zero_page
-  -- and so is the page that the view notes as read
+  -- a page that the view notes as read there is all zero
   pub read : (p : Page) → l.read ≡ Some p → p ≡ zero_page
 
--- and no other view has an input right there
+-- No other view has an input right at a new block
 pub record NotedLaw (s : State) (i f : ℕ) (v : View) : Type 0 where
   pub page : NotedPage (s.core.frame f) (link v f)
   pub alone : (j : ℕ) (u : View) → j ≢ i → get_elem? s.core.views j ≡ some u → (link u f).io ≢ Input
@@ -158,7 +158,8 @@ NotedPages s = (i f : ℕ) (v : View) → get_elem? s.core.views i ≡ some v �
 abbrev pub OthersHaveNoPage : State → Type 0
 OthersHaveNoPage s = (tag : ℕ) → is_block s.core tag ≡ false → s.logged tag ≡ None
 
--- What holds of pins, headers, tags and maps, of the sizes of forks, and of content locks, pages, input and output, and waits
+-- What holds of pins, headers, tags and maps, of the sizes of forks,
+-- and of content locks, pages, input and output, and waits
 pub record PageInvariant (s : State) : Type 0 where
   pub core : pins.PinInvariant s.core
   pub sizes : SizesLaw s.core

@@ -46,7 +46,7 @@ pub data Kind : Type 0 where
   page_back : Kind
   -- the lane gave this page of the block (`smgrread`)
   note_read : Page → Kind
-  -- the page of a block by which the fork is to grow is noted as if the lane had given it: it is all zero (`smgrzeroextend`)
+  -- a new block's page is noted as if the lane had given it: it is all zero (`smgrzeroextend`)
   note_zero : Kind
   -- a write of the frame's page to its lane begins: what was noted of an earlier one goes (`smgrwrite`)
   begin_write : Kind
@@ -63,7 +63,9 @@ pub data Kind : Type 0 where
   end_io : IoEnd → Kind
   -- the backend of this number, which has the exclusive lock, begins to wait until its pin is the only one (`LockBufferForCleanup`)
   set_waiter : ℕ → Kind
-  -- the waiter is woken: the pin that is left is the only one (`UnpinBuffer`)
+  -- the waiter is woken: the pin that is left is the only one (`UnpinBuffer`).
+  -- Only the word changes, so a backend may still wait after its bit was cleared. The backend that
+  -- wakes it has just given its own pin up, and needs none.
   clear_waiter : Kind
   -- the backend's checkpoint passes the frame, which it has still to write (`BufferSync`)
   need_checkpoint : Kind
@@ -106,7 +108,9 @@ pub record CanLeaveCopy (fr : Frame) (l : Link) : Type 0 where
   pub right : l.copying ≡ true
   pub page_home : l.out ≡ None
 
--- the exclusive lock, the copy latch, or the input right
+-- the exclusive lock, the copy latch, or the input right.
+-- While a page is out its holder keeps its shared lock, since another backend may not have finished
+-- its copy. An entry is applied when the page that is out is overwritten, not when it comes back.
 pub record CanTakePage (fr : Frame) (l : Link) : Type 0 where
   pub page_home : l.out ≡ None
   pub shared : l.content ≡ Shared → l.copying ≡ true
@@ -127,14 +131,18 @@ pub record CanOverwriteRead (p : Page) (fr : Frame) (l : Link) : Type 0 where
 pub record CanReturnPage (fr : Frame) (l : Link) : Type 0 where
   pub out : l.out ≢ None
 
--- the page is the block's page after the log, where that is known, and no earlier read is just being put into the frame; the block isn't one by which the fork is to grow
+-- The block isn't new. The page is its page after the log, if that is known; no earlier read is
+-- just being put into the frame.
+-- A read is noted once under an input right: if contents aren't known a second could give another
+-- page, and the first would come home. From an unknown lane any page may be noted, and what was
+-- known of the block's page is forgotten; its entries are all in the lane.
 pub record CanNoteRead (p : Page) (b : Block) (fr : Frame) (l : Link) : Type 0 where
   pub right : l.io ≡ Input
   pub fresh : l.overwritten ≡ None
   pub given : (q : Page) → b.logged ≡ Some q → q ≡ p
   pub unnoted : l.noted ≡ false
 
--- no page of the block is in the log
+-- the block is new; its page after the log, if there is one, is all zero
 pub record CanNoteZero (b : Block) (fr : Frame) (l : Link) : Type 0 where
   pub right : l.io ≡ Input
   pub fresh : l.overwritten ≡ None
@@ -144,7 +152,8 @@ pub record CanNoteZero (b : Block) (fr : Frame) (l : Link) : Type 0 where
 pub record CanNoteWrite (fr : Frame) (l : Link) : Type 0 where
   pub right : l.io ≡ Output
 
--- the entry's page is sound and not new (`PageIsVerifiedExtended`, `PageIsNew`); the block is there, and no entry of the view is unapplied at another frame (`AllowedAround`)
+-- the entry's page is sound and not new (`PageIsVerifiedExtended`, `PageIsNew`);
+-- the block is there, and no entry of the view is unapplied at another frame (`AllowedAround`)
 pub record CanMakeEntry (p : Page) (fr : Frame) (l : Link) : Type 0 where
   pub right : l.content ≡ Exclusive
   pub dirtied : l.dirtied ≡ true
@@ -152,7 +161,9 @@ pub record CanMakeEntry (p : Page) (fr : Frame) (l : Link) : Type 0 where
   pub sound : is_sound_page p ≡ true
   pub used : is_new_page p ≡ false
 
--- the header; the view has no input or output right, here or elsewhere, and the block is there, unless the view notes it (`AllowedAround`)
+-- the header;
+-- the view has no input or output right, here or elsewhere, and the block is there, unless the view
+-- notes it (`AllowedAround`)
 pub record CanStartInput (fr : Frame) (l : Link) : Type 0 where
   pub held : l.header ≡ Some fr.word
   pub settled : l.pending ≡ false
@@ -210,7 +221,9 @@ pub record CanClearWaiter (fr : Frame) (l : Link) : Type 0 where
   pub awaited : fr.word.awaited ≡ true
   pub single : fr.word.pins ≡ 1
 
--- a dirty frame, whether the view's checkpoint has visited it or not: a load while the view waited for the header may have
+-- a dirty frame, whether the view's checkpoint has visited it or not: a load while the view waited for the header may have.
+-- A load without a checkpoint may too: the view's position is 0 then, and every entry ends past
+-- that, so its marks say nothing.
 pub record CanNeedCheckpoint (fr : Frame) (l : Link) : Type 0 where
   pub held : l.header ≡ Some fr.word
   pub settled : l.pending ≡ false
@@ -341,7 +354,7 @@ abbrev pub ended_after : Kind → Frame → Option StateWord → Option StateWor
 ended_after (end_io end) fr ended = Some (unlocked_fields (io_ended_fields end fr.word))
 ended_after _ fr ended = ended
 
--- the blocks that the view has seen in frames, with the one that the end of a good read shows: it sets BM_VALID
+-- the end of a good read sets BM_VALID, so the block that the pin knows is listed
 abbrev pub sighted_by : IoEnd → Option ℕ → ℕ → List Resident
 sighted_by ReadOk known f = sighted true known f
 sighted_by WriteOk known f = []

@@ -42,7 +42,7 @@ pub record MayMakeEntry (s : State) (v : View) (f : ℕ) : Type 0 where
   pub block : is_block s.core (s.core.frame f).tag ≡ true
   pub none : HasNoneUnapplied v
 
--- the view has no input or output right; the block of the frame's tag is there, or is one that the view notes
+-- the view has no input or output right; the frame's block is there, or is new and noted by it
 pub record MayStartInput (s : State) (v : View) (f : ℕ) : Type 0 where
   pub block : (link v f).noted ≡ false → is_block s.core (s.core.frame f).tag ≡ true
   pub none : HasNoIo v
@@ -72,7 +72,8 @@ state_after k s i f v = let fr = s.core.frame f in let b = block_of s.logged fr.
   logged = logged_after k s.logged fr.tag;
 }
 
--- the pages of the blocks, where the size of a fork changes by the log: a block that is added is all zero, and the ones that are cut away have no page
+-- the pages of the blocks after a change of a fork's size: an added block is all zero, and a
+-- block that is cut away has none
 abbrev pub logged_sized : SizeKind → ℕ → State → ℕ → Option pins.Page
 logged_sized (enter_extension f end) fork s = put s.logged (s.core.frame f).tag (Some zero_page)
 logged_sized (enter_cut n end) fork s = λ tag. if is_cut fork n tag then None else s.logged tag

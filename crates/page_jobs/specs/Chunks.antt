@@ -32,7 +32,9 @@ abbrev pub Ascend : List ℕ → Type 0
 Ascend [] = Unit {0}
 Ascend (c ∷ cs) = ((i d : ℕ) → get_elem? cs i ≡ some d → c < d) × Ascend cs
 
--- The chunks that a pass claimed, and what came of their blocks, one after the other
+-- The chunks that a pass claimed, and what came of their blocks, one after the other.
+-- So calls, places and outcomes are told by one list of block numbers, and no clause speaks of
+-- ranges. After a fault the items are those of the first blocks.
 pub record Claimed (A : Type 0) : Type 0 where
   pub chunks : List ℕ
   pub items : List A

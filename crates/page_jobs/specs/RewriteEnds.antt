@@ -115,7 +115,8 @@ pub record IsRewritten (r : Rule) (n : ℕ) (known : ℕ → Bool) (origin : ℕ
 abbrev pub IsAfter : State → ℕ → Type 0
 IsAfter s tag = ((k : ℕ) × (e : Entry) × (page : Page) × (get_elem? s.log.entries k ≡ some e) × IsPageEntry e tag page × (head_size + end_of e ≤ s.log.base + s.device.synced) × (stored s tag ≡ Some page)) ⊎ (stored s tag ≡ s.origin tag)
 
--- each lane's blocks that are there are the pages before or after the rewrite, or their last write failed
+-- each lane's blocks that are there are the pages
+-- before or after the rewrite, or their last write failed
 abbrev pub LanesHoldEither : State → Type 0
 LanesHoldEither s = (tag : ℕ) → is_block s.pool.core tag ≡ true → s.known tag ≡ true → failed s tag ≡ false → IsAfter s tag
 

@@ -1,4 +1,9 @@
 //! How a job ends.
+//!
+//! A rewrite's error is that of the first worker that failed, in the order of workers and not of
+//! time. A scan's is that of the failed put or of the worker that stopped the window, whichever was
+//! first. A refusal of the work beside is reported only if nothing else failed; then a scan puts
+//! the workers' texts and no totals.
 ghost use Rattle.std.specs.Prelude.{◌≡◌};
 ghost use Rattle.page_jobs.specs.Ending.{totals_of_rewrite, totals_of_scan};
 

@@ -1,4 +1,9 @@
 //! What the end of a manager tells of a rewrite. The functions do nothing: their contracts are the laws.
+//!
+//! `rewrite_ends` needs a state's laws and history, and no manager, so the work may be divided in
+//! any way. `rewrite_closes` says the same of the devices that are given back. It knows the
+//! checkpoint by what it leaves (`HasSwept`), and asks of the last pass only that it read and put
+//! nothing.
 ghost use Rattle.std.specs.Prelude.{ℕ, List};
 ghost use Rattle.pin_core.specs.declared.view.Call.{Call};
 ghost use Rattle.history_core.specs.History.{IsHistory};

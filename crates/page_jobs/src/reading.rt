@@ -26,6 +26,7 @@ fn is_crowding(why: &ReadError) -> bool
 }
 
 /// Pins a block. Where each frame is pinned it tries again.
+/// (`Pass::read_buffer` leaves that to its caller.)
 pub(crate) fn pin_block<L: BlockLane, G: LogDevice, R: Wait>(
     manager: &Manager<L, G>,
     rt: &R,

@@ -1,4 +1,7 @@
 //! Rewrites.
+//!
+//! A rewrite's ring is that of a vacuum, for any number of blocks. The gate (`Gate`) hears of the
+//! pin under the cleanup lock, once the page is read.
 ghost use Rattle.std.specs.Prelude.{◌≡◌, ◌≤◌, ◌⊎◌, ◌^◌, Ok, Err, IfErr, IfOk, OnOk, vec_len};
 ghost use Rattle.page_jobs.specs.Beside.{LastDid, StaysBeside};
 ghost use Rattle.page_jobs.specs.Completeness.{IsDoneFullOrMemory, IsDoneFullShortOrMemory, NoDeviceFailsIn, NothingFailsIn};

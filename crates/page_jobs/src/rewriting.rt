@@ -1,4 +1,12 @@
 //! A worker rewrites a block. All calls of the pass are made here.
+//!
+//! A worker's outcomes are 'not sound', 'kept', 'refused' or 'changed', one a block, of the pass's
+//! chunks in the order in which it claimed them: of all, or of the first blocks. A pass's calls
+//! grow by exactly those of the list, so the same definitions cover an early end. A retry reads and
+//! puts nothing, so it doesn't show.
+//!
+//! A pass's mark stays if no put was tried. A refused put may leave its frame dirty, so it sets the
+//! mark.
 ghost use Rattle.std.specs.Prelude.{◌≡◌, ◌<◌, ◌≤◌, ◌+◌, ◌^◌, [], ◌∷◌, Ok, IfErr, IfOk};
 ghost use Rattle.block_tag.specs.Catalogue.{blocks_at};
 ghost use Rattle.pin_core.specs.declared.view.Content.TheVariants as content;

@@ -38,6 +38,7 @@ pub(crate) struct Ran<K> {
 }
 
 /// All workers at once, each in a thread of its own where one can be made.
+/// If no thread can be started, the caller works.
 fn work_all<
     L: BlockLane + Send,
     G: LogDevice + Send,
@@ -75,6 +76,7 @@ fn work_all<
 }
 
 /// All workers at once, and the last pass beside them.
+/// That runs in the caller's thread, so it needn't be `Send`.
 fn work_beside<
     L: BlockLane + Send,
     G: LogDevice + Send,

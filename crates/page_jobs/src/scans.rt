@@ -1,4 +1,9 @@
 //! Scans and dumps.
+//!
+//! What a scan put isn't tied to who read it, since that is lost under the lock. Of the page of a
+//! line `PutsTexts` says that it is sound, and that it is the block's page at the opening if it was
+//! read at the log's base. If all passes are at the base at the end, the text is that of the pages
+//! at the opening. The totals' line is tied to what the passes read.
 ghost use Rattle.std.specs.Prelude.{◌≡◌, ℕ, ◌+◌, ◌-◌, ◌<◌, ◌≤◌, ◌⊎◌, List, [], Ok, IfErr, IfOk, OnOk, length, vec_len};
 ghost use mathlib.Core.Option.{some};
 ghost use lib.ListN.{get_elem?};
@@ -43,6 +48,8 @@ use std::thread::Threads;
 use text_window::{Naming, Shares, Window};
 
 /// The front of the first pass.
+/// It is the job's base, since a manager doesn't show where its log begins. Fronts never fall, so
+/// if all passes that are given back are at the log's base, the first one was there before.
 fn first_front(passes: &[Pass]) -> Lsn
     requires { 0 < length passes.now }
     ensures { (p : PassState) → get_elem? passes.now 0 ≡ some p → result ≡ p.view.front }

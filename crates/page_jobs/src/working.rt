@@ -1,4 +1,12 @@
 //! The workers of a job, whatever it does with its blocks.
+//!
+//! `run_job` deals the passes, starts a thread for each worker, has the last pass work beside them,
+//! and waits for all. What is done with a block is the task's (`BlockTask`), split off the job's
+//! own task and merged back (`JobTask`). `WorksChunks` says once, for any task, that chunks were
+//! claimed and worked on one after the other, up to the first block that failed.
+//!
+//! Each worker has room for two pages, though a scan needs one: an associated type for the room
+//! would keep the closure of `for_each_mut` from being proved.
 ghost use Rattle.std.specs.Prelude.{◌≡◌, ℕ, ◌+◌, ◌-◌, ◌<◌, ◌≤◌, ◌^◌, Result, OnOk};
 ghost use Rattle.block_tag.specs.declared.tag.Fork.{Fork};
 ghost use Rattle.backend_pass.specs.declared.manager.Manager.{Manager};

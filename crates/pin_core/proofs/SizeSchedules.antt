@@ -11,7 +11,7 @@ use Rattle.pin_core.specs.State.{State, SizeWord, no_tag, size_hold, link, tag_f
 use Rattle.pin_core.specs.Tallies.{flag_weight}
 use Rattle.pin_core.specs.Invariant.{PinInvariant}
 use Rattle.pin_core.specs.Sizes.{SizeKind, load_size, share_size, exclude_size, unshare_size, unexclude_size, pass_frame, store_size, enter_extension, enter_cut, SizeAllowed, size_after, SizeTally, sharers, excluders, unstored, size_weight, shared_weight, exclusive_weight, size_shape, SizeLaw, SizeHoldLaw, IsNoted, SizesLaw}
-use Rattle.pin_core.specs.Schedules.{IsReached, TagWordsAreBlocks, is_shared, is_exclusive, shares_size, excludes_size, SizeRights, SizesAreLogged, SeenBlocksStay}
+use Rattle.pin_core.specs.Schedules.{IsReached, TagWordsAreBlocks, is_size_shared, is_size_exclusive, shares_size, excludes_size, SizeRights, SizesAreLogged, SeenBlocksStay}
 use Rattle.grid.specs.Shape.{put, tallies}
 use Rattle.grid.proofs.Sums.{term_le, total-count, total-none}
 use Rattle.pin_core.proofs.Opening.{opens}
@@ -42,12 +42,12 @@ rights s fork h = let c = (h.words (suc fork)).columns fork (omega arith) in rec
   apart = c.excludes;
 }
   where
-    one : (r : SizeRight) → shared_weight r ≡ cond (is_shared r) 1 0
+    one : (r : SizeRight) → shared_weight r ≡ cond (is_size_shared r) 1 0
     one size_right.Unheld = refl
     one size_right.Shared = refl
     one size_right.Exclusive = refl
 
-    alone : (r : SizeRight) → exclusive_weight r ≡ cond (is_exclusive r) 1 0
+    alone : (r : SizeRight) → exclusive_weight r ≡ cond (is_size_exclusive r) 1 0
     alone size_right.Unheld = refl
     alone size_right.Shared = refl
     alone size_right.Exclusive = refl

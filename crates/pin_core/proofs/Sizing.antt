@@ -12,7 +12,7 @@ use Rattle.pin_core.specs.declared.view.SizeHold.{SizeHold}
 use Rattle.pin_core.specs.declared.view.Link.{Link}
 use Rattle.pin_core.specs.declared.view.View.{View}
 use Rattle.pin_core.specs.State.{State, Frame, SizeWord, no_tag, no_size, size_in, without_size, size_hold, idle, link, tag_fork, tag_block, is_block, is_cut}
-use Rattle.pin_core.specs.Sizes.{SizeKind, load_size, share_size, exclude_size, unshare_size, unexclude_size, pass_frame, store_size, enter_extension, enter_cut, size_after, size_hold_after, SizeTally, sharers, excluders, unstored, size_weight, size_shape, SizeLaw, SizeHoldLaw, size_part, SizeAllowed, view_sized, state_sized, MayResize, CanUnshare, CanPass, CanEnterExtension, CanEnterCut, extended_link, IsNoted, IsAtSize, SizesLaw}
+use Rattle.pin_core.specs.Sizes.{SizeKind, load_size, share_size, exclude_size, unshare_size, unexclude_size, pass_frame, store_size, enter_extension, enter_cut, size_after, size_hold_after, SizeTally, sharers, excluders, unstored, size_weight, size_shape, SizeLaw, SizeHoldLaw, size_part, SizeAllowed, view_sized, state_sized, MayResize, CanUnshareSize, CanPass, CanEnterExtension, CanEnterCut, extended_link, IsNoted, IsAtSize, SizesLaw}
 use Rattle.pin_core.specs.Invariant.{LinkLaw, PinInvariant}
 use Rattle.pin_core.proofs.Stepping.{remembered}
 use Rattle.grid.specs.Shape.{Grid, put, tallies}
@@ -349,7 +349,7 @@ module _ (s : State) (h : SizesLaw s) (i fork : ℕ) (v : View) (there : get_ele
   same_passes : (n f : ℕ) → (size_hold v fork).cut_to ≡ Some n → Contains (size_hold v fork).passed f → f < s.frames → (s.frame f).tag ≢ no_tag → is_cut fork n (s.frame f).tag ≡ false
   same_passes n f to has below named = h.passed i fork n f v there to has below named
 
-  sees_block : (seen : Option ℕ) (p : PinInvariant s) → v.emptied ≡ false → CanUnshare seen s v fork → (f : ℕ) → f < s.frames → (link (view_sized (unshare_size seen) fork s v) f).inside ≡ true → is_block s (s.frame f).tag ≡ true
+  sees_block : (seen : Option ℕ) (p : PinInvariant s) → v.emptied ≡ false → CanUnshareSize seen s v fork → (f : ℕ) → f < s.frames → (link (view_sized (unshare_size seen) fork s v) f).inside ≡ true → is_block s (s.frame f).tag ≡ true
   sees_block None p live a f below e = h.insides i f v there below e
   sees_block (Some g) p live a f below e = dite (ℕ_discrete f g)
       (λ same. let is : (s.frame g).tag ≡ a.sees.tag = ((p.grid.cells i v g there a.sees.inside).remembers a.sees.tag a.sees.remembered).1 in

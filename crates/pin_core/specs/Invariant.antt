@@ -67,13 +67,13 @@ pub record PendingLink (l : Link) : Type 0 where
   pub unread : l.tag ≡ None
   pub unseen : l.seen_valid ≡ false
 
--- What a view has there that notes the frame's block as one by which the fork is to grow
+-- What a view has at a frame with a new block that it notes
 pub record NotedLink (fr : Frame) (l : Link) : Type 0 where
   -- the frame's tag word isn't all ones
   pub named : fr.tag ≢ no_tag
   -- its pin there is its victim pin
   pub victim : l.role ≡ Victim
-  -- which remembers the tag, once the frame is assigned
+  -- the pin remembers the tag, once the frame is assigned
   pub known : l.pending ≡ false → l.tag ≢ None
 
 -- What holds of a frame and of what a view has there
@@ -90,7 +90,7 @@ pub record LinkLaw (fr : Frame) (l : Link) : Type 0 where
   pub unpinned : l.role ≡ Absent → (l.tag ≡ None) × (l.seen_valid ≡ false)
   -- a view that has stored the tag word holds the header, and its victim pin knows neither the tag nor BM_VALID
   pub pending : l.pending ≡ true → PendingLink l
-  -- a view that notes the frame's block as one by which the fork is to grow keeps its victim pin there
+  -- a view that notes a new block keeps its victim pin there
   pub noted : l.noted ≡ true → NotedLink fr l
   -- a pin whose block was seen below its fork's size remembers the tag
   pub inside : l.inside ≡ true → l.tag ≢ None

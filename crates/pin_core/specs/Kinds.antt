@@ -34,7 +34,7 @@ pub data Kind : Type 0 where
   unlock_header : Kind
   -- under the header a frame without a tag is given one (`BufferAlloc`)
   store_tag : ℕ → Kind
-  -- likewise, with the tag of the block at its fork's size, by which the fork is to grow (`ExtendBufferedRelShared`)
+  -- under the header a frame without a tag is given that of a new block (`ExtendBufferedRelShared`)
   store_new_tag : ℕ → Kind
   -- under the header a frame's tag is taken away (`InvalidateVictimBuffer`: `ClearBufferTag`)
   erase_tag : Kind
@@ -96,6 +96,7 @@ pub record CanUnlockHeader (fr : Frame) (l : Link) : Type 0 where
   pub settled : l.pending ≡ false
 
 -- The view is alone at the frame with its victim pin, under the header, and does nothing else there
+-- (with a content lock, a page that it had copied would no longer be of the frame's block)
 pub record IsAlone (fr : Frame) (l : Link) : Type 0 where
   pub held : l.header ≡ Some fr.word
   pub settled : l.pending ≡ false
@@ -111,7 +112,8 @@ pub record CanStoreTag (tag : ℕ) (fr : Frame) (l : Link) : Type 0 where
   pub packed : is_tag tag ≡ true
   pub untagged : fr.word.tag_valid ≡ false
 
--- the frame isn't dirty, unless its block is one by which the fork didn't grow after all; the view has the latch of its partition, besides (`AllowedAround`)
+-- the frame isn't dirty, unless it has a new block that wasn't added after all;
+-- the view has the latch of its partition, besides (`AllowedAround`)
 pub record CanEraseTag (fr : Frame) (l : Link) : Type 0 where
   pub alone : IsAlone fr l
   pub named : fr.tag ≢ no_tag
@@ -182,7 +184,7 @@ frame_after lower_usage fr = released (usage_down_fields fr.word) fr
 frame_after assign fr = released (assigned_fields fr.word) fr
 frame_after clear fr = released (cleared_fields fr.word) fr
 
--- a pin under which a fork is to grow stays a victim's: it is handed out once the growth is in the log
+-- the pin of a new block stays a victim's; it is handed out once the growth is in the log
 abbrev pub assigned_role : Bool → Role
 assigned_role true = Victim
 assigned_role false = HandedOut
@@ -228,22 +230,23 @@ changes_after erase_tag f fr changes = changes
 changes_after load_tag f fr changes = changes
 changes_after k f fr changes = changed f fr (frame_after k fr).word changes
 
--- how many tags the view took from frames, with the one that a kind takes
+-- how many tags the view erased, with the one that a kind erases
 abbrev pub cleared_after : Kind → ℕ → ℕ
 cleared_after erase_tag n = n + 1
 cleared_after _ n = n
 
--- the blocks that were seen in frames, where those at the frame f that p refuses are gone
+-- the listed blocks, with those of the frame f of which p is true marked as gone
 abbrev pub seen_gone : (Resident → Bool) → ℕ → List Resident → List Resident
 seen_gone p f rs = map (λ (r : Resident). record r { gone = r.gone || (nat_eq r.frame f && p r) }) rs
 
--- the block that a pin shows at the frame f, where it knows the tag and has seen BM_VALID
+-- the block that a pin shows at the frame f, if it knows the tag and has seen BM_VALID
 abbrev pub sighted : Bool → Option ℕ → ℕ → List Resident
 sighted false known f = []
 sighted true None f = []
 sighted true (Some tag) f = record { frame = f; tag = tag; gone = false } ∷ []
 
--- the blocks that the view has seen in frames: a load marks as gone what it shows to be another, and adds what the pin knows then
+-- the listed blocks after a kind: a load marks those that it shows to be gone, and adds the one
+-- that the pin knows by then
 abbrev pub residents_after : Kind → ℕ → Frame → Link → List Resident → List Resident
 residents_after load_state f fr l rs = seen_gone (λ r. not fr.word.valid) f rs ++ sighted (link_after load_state fr l).seen_valid (link_after load_state fr l).tag f
 residents_after load_tag f fr l rs = seen_gone (λ r. not (nat_eq r.tag fr.tag)) f rs ++ sighted (link_after load_tag fr l).seen_valid (link_after load_tag fr l).tag f

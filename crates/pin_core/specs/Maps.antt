@@ -1,4 +1,6 @@
 -- The maps of the partitions and the tag words of the frames.
+-- Tag words count with or without BM_TAG_VALID: the two agree except on a pending frame. The pair
+-- in change is in the state's partition as well as in the holder's view.
 use Rattle.std.specs.Prelude.{◌≡◌, ◌≢◌, ℕ, ◌<◌, Option, Some, None}
 use Rattle.pin_core.specs.declared.view.MapChange.{MapChange}
 use Rattle.pin_core.specs.declared.view.MapChange.TheVariants.{Stable, Entering, Leaving}

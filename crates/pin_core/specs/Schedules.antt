@@ -92,35 +92,39 @@ UntaggedFramesHaveOnePin s = (f : ℕ) → f < s.frames → (s.frame f).tag ≡ 
 abbrev pub TagWordsAreTags : State → Type 0
 TagWordsAreTags s = (f : ℕ) → f < s.frames → (s.frame f).tag ≢ no_tag → is_tag (s.frame f).tag ≡ true
 
--- and is a block of the relations; but where forks may grow, it may be the block at its fork's size, noted by the backend that has the exclusive right on that
+-- A tag word that isn't all ones is of a block of the relations, or of a new block, which a backend
+-- notes; if forks don't grow and shrink, it is of a block of the relations
 pub record TagWordsAreBlocks (s : State) : Type 0 where
   pub noted : (f : ℕ) → f < s.frames → (s.frame f).tag ≢ no_tag → (is_block s (s.frame f).tag ≡ true) ⊎ IsNoted s f
   pub quiet : s.resizes ≡ false → (f : ℕ) → f < s.frames → (s.frame f).tag ≢ no_tag → is_block s (s.frame f).tag ≡ true
 
-abbrev pub is_shared : SizeRight → Bool
-is_shared size_right.Unheld = false
-is_shared size_right.Shared = true
-is_shared size_right.Exclusive = false
+abbrev pub is_size_shared : SizeRight → Bool
+is_size_shared size_right.Unheld = false
+is_size_shared size_right.Shared = true
+is_size_shared size_right.Exclusive = false
 
-abbrev pub is_exclusive : SizeRight → Bool
-is_exclusive size_right.Unheld = false
-is_exclusive size_right.Shared = false
-is_exclusive size_right.Exclusive = true
+abbrev pub is_size_exclusive : SizeRight → Bool
+is_size_exclusive size_right.Unheld = false
+is_size_exclusive size_right.Shared = false
+is_size_exclusive size_right.Exclusive = true
 
--- whether the view has the shared right on the fork's size, or the exclusive one
+-- whether the view has the shared right on the fork's size
 abbrev pub shares_size : ℕ → View → Bool
-shares_size fork v = is_shared (size_hold v fork).right
+shares_size fork v = is_size_shared (size_hold v fork).right
 
+-- whether the view has the exclusive right on the fork's size
 abbrev pub excludes_size : ℕ → View → Bool
-excludes_size fork v = is_exclusive (size_hold v fork).right
+excludes_size fork v = is_size_exclusive (size_hold v fork).right
 
--- A size word counts the backends with the shared right, and its bit stands where one has the exclusive right, which excludes the others
+-- A size word counts the backends with the shared right. Its bit stands exactly if one has the
+-- exclusive right, and then nobody has the shared one
 pub record SizeRights (s : State) (fork : ℕ) : Type 0 where
   pub sharers : (s.size fork).sharers ≡ count_by (shares_size fork) s.views
   pub exclusive : count_by (excludes_size fork) s.views ≡ (if (s.size fork).exclusive then 1 else 0)
   pub apart : (s.size fork).exclusive ≡ true → (s.size fork).sharers ≡ 0
 
--- Without an exclusive right, or under one under which no change was made yet, a size word is the fork's size by the log; and it is what a backend found that has a right
+-- A size word is the fork's size by the log, unless a backend has changed that under its
+-- exclusive right. A backend that has a right, and made no change, found that size
 pub record SizesAreLogged (s : State) (fork : ℕ) : Type 0 where
   pub free : (s.size fork).exclusive ≡ false → (s.size fork).blocks ≡ (s.size fork).logged
   pub unmade : (i : ℕ) (v : View) → get_elem? s.views i ≡ some v → (size_hold v fork).right ≡ size_right.Exclusive → (size_hold v fork).made ≡ None → (s.size fork).blocks ≡ (s.size fork).logged

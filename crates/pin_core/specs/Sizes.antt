@@ -1,5 +1,5 @@
 -- The sizes of forks: the kinds of step at one, and what holds of them.
-use Rattle.std.specs.Prelude.{◌≡◌, ◌≢◌, ◌⊎◌, ℕ, ◌+◌, ◌-◌, ◌<◌, ◌≤◌, Bool, true, false, List, [], ◌∷◌, ◌++◌, map, slice_set, Contains, Option, Some, None, if◌then◌else◌}
+use Rattle.std.specs.Prelude.{◌≡◌, ◌≢◌, ◌⊎◌, ℕ, ◌+◌, ◌-◌, ◌<◌, ◌≤◌, Bool, true, false, List, [], ◌∷◌, ◌++◌, map, slice_set, Contains, Option, Some, None, nat_eq, not, if◌then◌else◌}
 use mathlib.Core.Option.{some}
 use lib.ListN.{get_elem?}
 use Rattle.pin_core.specs.declared.view.Role.TheVariants.{HandedOut}
@@ -12,9 +12,10 @@ use Rattle.pin_core.specs.declared.view.SizeHold.{SizeHold}
 use Rattle.pin_core.specs.declared.view.LoadedWord.{LoadedWord}
 use Rattle.pin_core.specs.declared.view.LoadedWord.TheVariants as seen
 use Rattle.pin_core.specs.declared.view.Link.{Link}
+use Rattle.pin_core.specs.declared.view.Resident.{Resident}
 use Rattle.pin_core.specs.declared.view.View.{View}
 use Rattle.pin_core.specs.State.{Frame, State, SizeWord, no_tag, no_size, without_size, size_hold, link, tag_fork, tag_block, is_block, is_cut}
-use Rattle.pin_core.specs.Kinds.{load_of}
+use Rattle.pin_core.specs.Kinds.{load_of, seen_gone}
 use Rattle.pin_core.specs.Tallies.{flag_weight}
 use Rattle.grid.specs.Shape.{Shape, Part, Grid, put}
 
@@ -25,32 +26,32 @@ pub data SizeKind : Type 0 where
   share_size : SizeKind
   -- the fork's size becomes one backend's to change (`LockRelationForExtension`)
   exclude_size : SizeKind
-  -- a shared right is given up; with a frame: the backend saw its block below the size
+  -- a shared right is given up; if a frame is named, the backend saw its block below the size
   unshare_size : Option ℕ → SizeKind
   -- an exclusive right is given up (`UnlockRelationForExtension`)
   unexclude_size : SizeKind
-  -- before a cut to a number of blocks a frame is seen to have none of those that it takes away (`DropRelationBuffers`)
+  -- before a cut: the frame's tag is seen to be of no block that is to go (`DropRelationBuffers`)
   pass_frame : ℕ → ℕ → SizeKind
   -- the size word is stored
   store_size : SizeKind
   -- the growth of the fork by the frame's block is in the log, by a record that ends at a position
   enter_extension : ℕ → ℕ → SizeKind
-  -- the cut of the fork to a number of blocks is, likewise
+  -- the cut of the fork to a number of blocks is in the log, by a record that ends at a position
   enter_cut : ℕ → ℕ → SizeKind
 
--- A fork's number, and no right of the view on its size
-pub record IsFree (s : State) (v : View) (fork : ℕ) : Type 0 where
+-- The number is a fork's; nobody has the exclusive right, and the view no right on its size
+pub record CanTakeSize (s : State) (v : View) (fork : ℕ) : Type 0 where
   pub is_fork : s.is_fork fork ≡ true
   pub unheld : (size_hold v fork).right ≡ size_right.Unheld
   pub free : (s.size fork).exclusive ≡ false
 
--- neither a sharer nor an exclusive right
-pub record CanExclude (s : State) (v : View) (fork : ℕ) : Type 0 where
-  pub free : IsFree s v fork
+-- nobody has a right on the size, and forks may grow and shrink
+pub record CanExcludeSize (s : State) (v : View) (fork : ℕ) : Type 0 where
+  pub free : CanTakeSize s v fork
   pub alone : (s.size fork).sharers ≡ 0
   pub allowed : s.resizes ≡ true
 
--- the pin of the frame remembers a tag of the fork, of a block below the size that the view has found
+-- the frame's pin remembers a tag of the fork, of a block below the size that the view found
 pub record SeesBlock (s : State) (v : View) (fork f : ℕ) : Type 0 where
   pub inside : f < s.frames
   pub tag : ℕ
@@ -62,11 +63,12 @@ abbrev pub MaySee : Option ℕ → State → View → ℕ → Type 0
 MaySee None s v fork = Unit {0}
 MaySee (Some f) s v fork = SeesBlock s v fork f
 
-pub record CanUnshare (seen : Option ℕ) (s : State) (v : View) (fork : ℕ) : Type 0 where
+pub record CanUnshareSize (seen : Option ℕ) (s : State) (v : View) (fork : ℕ) : Type 0 where
   pub right : (size_hold v fork).right ≡ size_right.Shared
   pub sees : MaySee seen s v fork
 
--- the word has the fork's size by the log; no frame of the view is noted for the fork's growth; a cut's record is flushed, as far as the view knows, or the view has seen the log down
+-- The word is the fork's size by the log. The view notes no new block of the fork. If it made a
+-- cut, the record is flushed as far as it knows, or it has seen the log down
 pub record CanUnexclude (s : State) (v : View) (fork : ℕ) : Type 0 where
   pub right : (size_hold v fork).right ≡ size_right.Exclusive
   pub stored : (s.size fork).blocks ≡ (s.size fork).logged
@@ -78,7 +80,8 @@ pub record MayResize (s : State) (v : View) (fork : ℕ) : Type 0 where
   pub right : (size_hold v fork).right ≡ size_right.Exclusive
   pub unmade : (size_hold v fork).made ≡ None
 
--- the new size is below the size, and the same for all frames; the frame's tag word is loaded, and isn't of a block that the cut takes away
+-- The new size is below the size, and the same for all frames. The frame's tag word is loaded,
+-- and isn't of a block that the cut takes away
 pub record CanPass (f n : ℕ) (s : State) (v : View) (fork : ℕ) : Type 0 where
   pub may : MayResize s v fork
   pub inside : f < s.frames
@@ -90,7 +93,7 @@ pub record CanStoreSize (s : State) (v : View) (fork : ℕ) : Type 0 where
   pub right : (size_hold v fork).right ≡ size_right.Exclusive
   pub made : (size_hold v fork).made ≢ None
 
--- the frame of the new block is valid and dirty; the view notes it, and its pin remembers the tag
+-- the frame has a new block, is valid and dirty; the view notes it, and its pin remembers the tag
 pub record CanEnterExtension (f : ℕ) (s : State) (v : View) (fork : ℕ) : Type 0 where
   pub may : MayResize s v fork
   pub inside : f < s.frames
@@ -108,9 +111,9 @@ pub record CanEnterCut (n : ℕ) (s : State) (v : View) (fork : ℕ) : Type 0 wh
 
 abbrev pub SizeAllowed : SizeKind → State → View → ℕ → Type 0
 SizeAllowed load_size s v fork = Unit {0}
-SizeAllowed share_size s v fork = IsFree s v fork
-SizeAllowed exclude_size s v fork = CanExclude s v fork
-SizeAllowed (unshare_size seen) s v fork = CanUnshare seen s v fork
+SizeAllowed share_size s v fork = CanTakeSize s v fork
+SizeAllowed exclude_size s v fork = CanExcludeSize s v fork
+SizeAllowed (unshare_size seen) s v fork = CanUnshareSize seen s v fork
 SizeAllowed unexclude_size s v fork = CanUnexclude s v fork
 SizeAllowed (pass_frame f n) s v fork = CanPass f n s v fork
 SizeAllowed store_size s v fork = CanStoreSize s v fork
@@ -129,7 +132,7 @@ size_after store_size w = record w { blocks = w.logged }
 size_after (enter_extension f end) w = record w { logged = w.logged + 1 }
 size_after (enter_cut n end) w = record w { logged = n }
 
--- What a kind makes of what the view has of it, where the fork has this size
+-- What a kind makes of the view's hold, if this is the fork's size
 abbrev pub size_hold_after : SizeKind → ℕ → SizeWord → SizeHold → SizeHold
 size_hold_after load_size fork w h = h
 size_hold_after share_size fork w h = record no_size { fork = fork; right = size_right.Shared; blocks = w.blocks }
@@ -142,11 +145,11 @@ size_hold_after (enter_extension f end) fork w h = record h { fork = fork; made 
 size_hold_after (enter_cut n end) fork w h = record h { fork = fork; made = Some (record { blocks = n; end = end; cut = true }) }
 
 -- what the view has of the sizes of all forks
-abbrev pub sizes_after : SizeKind → ℕ → SizeWord → View → List SizeHold
-sizes_after load_size fork w v = v.sizes
-sizes_after (unshare_size seen) fork w v = without_size fork v.sizes
-sizes_after unexclude_size fork w v = without_size fork v.sizes
-sizes_after k fork w v = size_hold_after k fork w (size_hold v fork) ∷ without_size fork v.sizes
+abbrev pub size_holds_after : SizeKind → ℕ → SizeWord → View → List SizeHold
+size_holds_after load_size fork w v = v.sizes
+size_holds_after (unshare_size seen) fork w v = without_size fork v.sizes
+size_holds_after unexclude_size fork w v = without_size fork v.sizes
+size_holds_after k fork w v = size_hold_after k fork w (size_hold v fork) ∷ without_size fork v.sizes
 
 -- under an exclusive content lock the growth is an entry that was made
 abbrev pub entered_under : Content → Bool → Bool
@@ -176,6 +179,11 @@ sizes_seen exclude_size fork s = seen.Size fork (s.size fork).blocks ∷ []
 sizes_seen (pass_frame f n) fork s = seen.Tag f (s.frame f).tag ∷ []
 sizes_seen _ fork s = []
 
+-- the blocks that were seen in frames: the one that is passed is seen to have its tag, and no other
+abbrev pub residents_sized : SizeKind → State → List Resident → List Resident
+residents_sized (pass_frame f n) s rs = seen_gone (λ (r : Resident). not (nat_eq r.tag (s.frame f).tag)) f rs
+residents_sized _ s rs = rs
+
 -- how many steps other than loads a kind is
 abbrev pub size_steps : SizeKind → ℕ
 size_steps load_size = 0
@@ -186,9 +194,10 @@ size_steps _ = 1
 abbrev pub view_sized : SizeKind → ℕ → State → View → View
 view_sized k fork s v = record v {
   links = links_after k v;
-  sizes = sizes_after k fork (s.size fork) v;
+  sizes = size_holds_after k fork (s.size fork) v;
   loads = v.loads ++ map (load_of v) (sizes_seen k fork s);
   steps = v.steps + size_steps k;
+  residents = residents_sized k s v.residents;
 }
 
 -- the state after a step of the kind k at the fork by backend i, whose view is v
@@ -198,7 +207,8 @@ state_sized k s i fork v = record s {
   views = slice_set s.views i (view_sized k fork s v);
 }
 
--- what is summed over the views of a fork's size: the shared rights, the exclusive ones, and those whose change isn't in the size word yet
+-- What is summed over the views' holds of a size: shared rights, exclusive ones, and changes that
+-- aren't in the size word yet
 pub data SizeTally : Type 0 where
   sharers : SizeTally
   excluders : SizeTally
@@ -241,7 +251,7 @@ pub record SizeLaw (w : SizeWord) (t : SizeTally → ℕ) : Type 0 where
 
 -- What holds of a fork's size and of what a view has of it
 pub record SizeHoldLaw (w : SizeWord) (h : SizeHold) : Type 0 where
-  -- only an exclusive right has to do with changes
+  -- without the exclusive right no cut is noted, and no change
   pub resting : h.right ≢ size_right.Exclusive → (h.cut_to ≡ None) × (h.made ≡ None)
   pub unmade : h.made ≡ None → h.stored ≡ false
   -- under a right the word stays as it was found, until it is stored
@@ -256,11 +266,12 @@ pub record SizeHoldLaw (w : SizeWord) (h : SizeHold) : Type 0 where
 abbrev pub size_part : Part size_shape
 size_part = record { column = λ _ w t. SizeLaw w t; cell = λ _ w _ h. SizeHoldLaw w h }
 
--- a view notes the frame's block as one by which the fork is to grow
+-- a view notes that the frame has a new block
 abbrev pub IsNoted : State → ℕ → Type 0
 IsNoted s f = (i : ℕ) × (v : View) × (get_elem? s.views i ≡ some v) × ((link v f).noted ≡ true)
 
--- The tag is of the block at its fork's size, and the view has the exclusive right on that, under which no change was made yet
+-- The tag is of the block at its fork's size. The view has the exclusive right on that, and made
+-- no change under it
 pub record IsAtSize (s : State) (v : View) (tag : ℕ) : Type 0 where
   pub may : MayResize s v (tag_fork tag)
   pub at : tag_block tag ≡ (s.size (tag_fork tag)).logged
@@ -269,7 +280,7 @@ pub record IsAtSize (s : State) (v : View) (tag : ℕ) : Type 0 where
 abbrev pub TagsAreBlocks : State → Type 0
 TagsAreBlocks s = (f : ℕ) → f < s.frames → (s.frame f).tag ≢ no_tag → (is_block s (s.frame f).tag ≡ true) ⊎ IsNoted s f
 
--- a block that a view notes is the one at its fork's size, on which the view has the exclusive right
+-- a new block is at its fork's size, on which the view that notes it has the exclusive right
 abbrev pub NotedAreAtSize : State → Type 0
 NotedAreAtSize s = (i f : ℕ) (v : View) → get_elem? s.views i ≡ some v → f < s.frames → (link v f).noted ≡ true → IsAtSize s v (s.frame f).tag
 

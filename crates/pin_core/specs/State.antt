@@ -50,7 +50,8 @@ pub record Partition : Type 0 where
 
 -- The size of a fork
 pub record SizeWord : Type 0 where
-  -- the word: how many blocks the fork has, how many backends have the shared right on that, and whether one has the exclusive right
+  -- the word: how many blocks the fork has, how many backends have the shared right on that, and
+  -- whether one has the exclusive right
   pub blocks : ℕ
   pub sharers : ℕ
   pub exclusive : Bool
@@ -80,13 +81,15 @@ pub record State : Type 0 where
 abbrev pub no_tag : ℕ
 no_tag = 18446744073709551615
 
--- a tag's fork, and its block there; the tag of a fork's first block
+-- the number of a tag's fork
 unfoldable pub tag_fork : ℕ → ℕ
 tag_fork tag = tag / 4294967296
 
+-- the block's number in its fork
 unfoldable pub tag_block : ℕ → ℕ
 tag_block tag = tag % 4294967296
 
+-- the tag of a fork's first block
 abbrev pub first_block : ℕ → ℕ
 first_block fork = fork * 4294967296
 
@@ -297,7 +300,7 @@ pub record Config : Type 0 where
   pub frames : ℕ
   pub partitions : ℕ
   pub partition_of : ℕ → ℕ
-  -- whether a number is that of a fork of the relations, how many blocks each fork has, and whether forks may grow and shrink
+  -- whether a number is a fork's, how many blocks each fork has, and whether forks grow and shrink
   pub is_fork : ℕ → Bool
   pub sizes : ℕ → ℕ
   pub resizes : Bool

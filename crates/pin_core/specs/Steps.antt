@@ -34,14 +34,16 @@ pub record HasRoom (v : View) (tag : ℕ) : Type 0 where
   pub right : (size_hold v (tag_fork tag)).right ≡ size_right.Shared
   pub below : tag_block tag < (size_hold v (tag_fork tag)).blocks
 
--- and the map lacks the tag, which is a block's; if forks may grow and shrink the view has a right that keeps the block there
+-- The map lacks the tag, which is a block's; if forks may grow and shrink, the view keeps the
+-- fork at a size above it
 pub record MayEnter (s : State) (v : View) (tag : ℕ) : Type 0 where
   pub naming : MayName s v tag
   pub block : is_block s tag ≡ true
   pub room : s.resizes ≡ true → HasRoom v tag
   pub lacking : (s.partition (s.partition_of tag)).map tag ≡ None
 
--- likewise of the block at the size of its fork, on which the view has the exclusive right, with no frame passed for a cut
+-- The map lacks the tag, which is of the block at its fork's size. The view has the exclusive
+-- right on that, and has passed no frame for a cut
 pub record MayEnterNew (s : State) (v : View) (tag : ℕ) : Type 0 where
   pub naming : MayName s v tag
   pub may : MayResize s v (tag_fork tag)
@@ -65,7 +67,8 @@ AllowedAround erase_tag s v f = MayName s v (s.frame f).tag
 AllowedAround (pin_mapped tag ring) s v f = IsMapped s v tag f
 AllowedAround _ s v f = Unit {0}
 
--- What happens: a backend's step at a frame, at a partition's latch, or at the size of a fork, a new backend, or the end of one
+-- What happens: a backend's step at a frame, at a partition's latch,
+-- or at the size of a fork, a new backend, or the end of one
 pub data Event : Type 0 where
   at : ℕ → ℕ → Kind → Event
   turn : ℕ → ℕ → TurnKind → Event
@@ -82,7 +85,8 @@ pub record HoldsNothingAt (l : Link) : Type 0 where
   pub page_home : l.out ≡ None
   pub no_wait : l.waits ≡ None
 
--- The view holds nothing
+-- The view holds nothing.
+-- A backend starts and ends at any time; the first never ends, and one that ends holds nothing.
 pub record HoldsNothing (v : View) : Type 0 where
   pub frames : (f : ℕ) → HoldsNothingAt (link v f)
   pub partitions : (p : ℕ) → (hold v p).held ≡ false
@@ -110,11 +114,13 @@ pub data Step : Event → State → State → Type 0 where
   touches : {s : State} (i f : ℕ) (k : Kind) (v : View) → get_elem? s.views i ≡ some v → v.emptied ≡ false → f < s.frames → Allowed k (s.frame f) (link v f) → AllowedAround k s v f → Step (at i f k) s (state_after k s i f v)
   -- a step of the kind k at the partition p, likewise
   turns : {s : State} (i p : ℕ) (k : TurnKind) (v : View) → get_elem? s.views i ≡ some v → v.emptied ≡ false → p < s.partitions → TurnAllowed k (s.partition p) (hold v p) → Step (turn i p k) s (state_turned k s i p v)
-  -- a step of the kind k at the size of a fork, likewise
+  -- a step of the kind k at the size of a fork by backend i, whose view is v
   sized : {s : State} (i fork : ℕ) (k : SizeKind) (v : View) → get_elem? s.views i ≡ some v → v.emptied ≡ false → SizeAllowed k s v fork → Step (size_at i fork k) s (state_sized k s i fork v)
   -- a new backend starts, with the first one's next number
   splits : {s : State} (v : View) → get_elem? s.views 0 ≡ some v → v.next < s.backends → Step split s (split_state s v)
   -- backend j, which holds nothing, is joined into the first
+  -- its front is taken in, and its checkpoint under its number; its loads, device calls, counts of
+  -- latches and steps, and last ended word aren't
   joins : {s : State} (j : ℕ) (v u : View) → get_elem? s.views 0 ≡ some v → j ≢ 0 → get_elem? s.views j ≡ some u → u.emptied ≡ false → HoldsNothing u → Step (join j) s (joined_state s v j u)
 
 -- the events lead from one state to the other

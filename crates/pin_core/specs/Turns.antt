@@ -56,6 +56,7 @@ pub record CanTakeMap (entries : List MapEntry) (pt : Partition) (h : PartitionH
   pub entries_are : found entries ≡ pt.map
 
 -- once each time that the latch is held, and only where the view has named a pair
+-- (a backend names one pair, under one latch: a second pair could never be settled)
 pub record CanChangeMap (pt : Partition) (h : PartitionHold) : Type 0 where
   pub out : h.out ≢ None
   pub unchanged : h.changed ≡ false

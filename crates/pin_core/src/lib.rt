@@ -1,5 +1,5 @@
-//! Pins, buffer headers, buffer tags, the partitions of the mapping table with their maps, and the sizes of forks, as plain data: what a
-//! step may be, and what every list of steps keeps.
+//! Pins, buffer headers, buffer tags, the partitions of the mapping table with their maps, and the
+//! sizes of forks, as plain data: what a step may be, and what every list of steps keeps.
 //!
 //! Nothing here runs. The types are what a backend knows ([`View`]); the kinds of step, the invariant that they keep
 //! and the lists of steps are in `specs/`, and docs/PROTOCOL.md and docs/INVARIANT.md tell them in words. Begin with
@@ -28,7 +28,7 @@ pub fn all_schedules()
     ensures kept { (es : List Event) (s : State) (t : State) → PinInvariant s → Run es s t → PinInvariant t }
     ensures opens { (config : Config) (page : Page) → CanOpen config → PinInvariant (opening config page) }
     ensures reached { (s : State) → IsReached s → PinInvariant s }
-    // So does what holds of the sizes of forks.
+    // What holds of the sizes of forks is kept too, and holds at the start.
     ensures sizes_kept { (es : List Event) (s : State) (t : State) → PinInvariant s → SizesLaw s → Run es s t → SizesLaw t }
     ensures sizes_open { (config : Config) (page : Page) → SizesLaw (opening config page) }
     ensures sizes_reached { (s : State) → IsReached s → SizesLaw s }

@@ -33,6 +33,8 @@ pub enum LastWrite {
 }
 
 /// What a backend has at one frame.
+/// By its form a view could hold headers, victim pins, I/O rights or unapplied entries at several
+/// frames. The conditions of the kinds allow one of each; no law says so.
 pub struct Link {
     pub role: Role,
     /// The tag that the pin remembers; none where it was not read.
@@ -74,9 +76,10 @@ pub struct Link {
     pub visited: bool,
     /// The frame is one that the backend's checkpoint has still to write.
     pub left_to_write: bool,
-    /// The backend stored the tag of the block at its fork's size, by which the fork is to grow, and the log hasn't the growth yet.
+    /// The backend gave the frame the tag of its fork's next block, a new block, and the log has no
+    /// record of the growth yet.
     pub noted: bool,
-    /// The pin knows its tag, and the backend saw that block below its fork's size.
+    /// The pin knows its tag, and the backend saw that the block is below its fork's size.
     pub inside: bool,
 }
 
@@ -199,7 +202,8 @@ pub enum SizeRight {
     Unheld,
     /// The fork keeps its size.
     Shared,
-    /// The backend alone may change it (as under `LockRelationForExtension`, or `AccessExclusiveLock` for a cut).
+    /// The backend alone may change it (as under `LockRelationForExtension`; for a cut
+    /// `AccessExclusiveLock`).
     Exclusive,
 }
 
@@ -209,7 +213,7 @@ pub struct Resize {
     pub blocks: u64,
     /// Where its record ends.
     pub end: u64,
-    /// The fork lost blocks.
+    /// Whether the fork lost blocks.
     pub cut: bool,
 }
 
@@ -226,11 +230,12 @@ pub struct SizeHold {
     pub passed: [u64; 0],
     /// The change that it made under this right.
     pub made: Option<Resize>,
-    /// The new size is in the fork's size word.
+    /// Whether the size word has the new size.
     pub stored: bool,
 }
 
-/// What decided whether a record has its page whole, or ranges of the page's bytes (`needs_backup` in `XLogRecordAssemble`).
+/// The two positions that decide whether a page is logged whole (`needs_backup` in
+/// `XLogRecordAssemble`).
 pub struct ImageTest {
     /// The redo position, as the backend had loaded it under the log's latch.
     pub redo: u64,
@@ -242,7 +247,7 @@ pub struct ImageTest {
 pub struct WriteRecord {
     /// How many bytes of the log it takes.
     pub size: u64,
-    /// The test that it was chosen by, if it was.
+    /// The two positions, if the backend had both as it made the record.
     pub test: Option<ImageTest>,
 }
 
@@ -259,7 +264,7 @@ pub enum Call {
         tag: u64,
         page: [u8; 0],
         place: u64,
-        /// How it is in the log.
+        /// Its record in the log.
         logged: WriteRecord,
     },
     /// The backend changed how many blocks a fork has.
@@ -269,7 +274,7 @@ pub enum Call {
         blocks: u64,
         place: u64,
     },
-    /// It saw how many a fork has.
+    /// The backend saw how many blocks a fork has.
     Sized {
         backend: u64,
         fork: u64,
@@ -300,12 +305,14 @@ pub enum LoadedWord {
     Flushed {
         flushed: u64,
     },
+    /// The redo position.
     Redo {
         redo: u64,
     },
     Hand {
         hand: u64,
     },
+    /// A counter of reads, writes and evictions.
     Count {
         count: u64,
         value: u64,
@@ -451,7 +458,7 @@ pub struct View {
     pub turns: u64,
     /// How many times it moved the clock's hand on.
     pub ticks: u64,
-    /// How many tags it took from frames.
+    /// How many tags it erased.
     pub cleared: u64,
     /// The loads, in order.
     pub loads: [Load; 0],

@@ -69,6 +69,7 @@ impl fmt::Display for ToolError<'_> {
 
     fn fmt<W: fmt::Write>(&self, f: &mut fmt::Formatter<W>) -> fmt::Result {
         match self {
+            // `recover` isn't named here; the manual page has all commands.
             ToolError::Usage => f.write_str(
                 "usage: scan PATH, dump PATH, rewrite PATH --log FILE, sample SEED BLOCKS",
             ),
@@ -123,6 +124,7 @@ impl<'a> ToolError<'a> {
     }
 
     /// What the end of a listing means to the tool.
+    /// A listing never makes a frame dirty, so write and log faults can't end it.
     pub fn from_listing(error: ListingError) -> ToolError<'a>
         ensures { result ≡ listing_tool_error error }
     {

@@ -13,6 +13,8 @@ use wal_flush::LAST_POSITION;
 #[derive(Clone, Copy, PartialEq, Eq, Debug)]
 pub enum PositionLimit {
     /// A record of each of so many blocks, in a log that begins past the largest position of their pages.
+    /// A block counts, changed or not; so if the pages are known the log doesn't become full on the
+    /// way.
     OfPages { largest: Lsn, blocks: u32 },
     /// A page whose position is past the log's end.
     OfPage { lsn: Lsn, end: Lsn },

@@ -1,4 +1,8 @@
 //! The blocks of a relation that is open are listed by the backends of a buffer manager.
+//!
+//! A listing has a manager of its own. Its catalogue has one relation: tablespace and database 0,
+//! the number in PATH, and blocks in PATH's fork. It has a pass for each backend and one besides,
+//! and a log in memory that begins at 0 with room for its head alone.
 ghost use Rattle.std.specs.Prelude.{◌≡◌, ◌≤◌, ◌%◌, ◌^◌, List, Ok, IfOk, IfErr, OnOk, All, length, map, sum_by, vec_len};
 ghost use Rattle.log_device.specs.Bytes.{Puts};
 ghost use Rattle.segment_store.specs.Contents.{no_marks};

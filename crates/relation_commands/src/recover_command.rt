@@ -46,6 +46,7 @@ fn redo_lanes<L: BlockLane, S: Source>(
         number: relation_number(path).unwrap_or(0),
         fork: Fork::Main,
         // Records name a relation by its numbers, however many blocks it has.
+        // So FILE is the same log in a second recovery, when PATH has grown.
         blocks: 0,
     };
     let Ok(catalog) = relation.catalog(alloc) else {
@@ -58,6 +59,9 @@ fn redo_lanes<L: BlockLane, S: Source>(
 }
 
 /// Redoes a log over the lanes of a relation that is open, and gives both back, however it ends.
+/// If 16 bytes that are no head were read whole, that is the answer (status 10), before anything is
+/// written. A read fault before that is status 4, and no clause can say more: over files nothing is
+/// known of what a failed read would have given.
 fn redo_and_give_back<'a, H: Host>(
     alloc: Global,
     request: &RecoverRequest<'a>,
@@ -140,6 +144,8 @@ fn redo_opened<'a, H: Host>(
 }
 
 /// Opens the relation, then its log, and redoes the log.
+/// So a FILE that is a segment of PATH by a link is known as one, and refused. If neither is there,
+/// the status is 3 for PATH.
 fn redo_relation<'a, H: Host>(
     alloc: Global,
     request: &RecoverRequest<'a>,

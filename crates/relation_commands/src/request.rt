@@ -25,6 +25,8 @@ pub struct RewriteRequest<'a> {
 }
 
 /// A recovery of the relation at a path by the log at another.
+/// The definitions of which pages are meant, and of what stays, are those of a rewrite. So a
+/// recovery is said to have one backend and 128 frames, and is never crowded; it has neither.
 #[derive(Clone, Copy, Debug)]
 pub struct RecoverRequest<'a> {
     pub path: &'a str,

@@ -1,4 +1,8 @@
 //! Rewrites the relation at a path, with a log of its new pages at another.
+//!
+//! FILE is opened once the survey is done and the positions are tested, so neither refusal empties
+//! a file. The text is put after the files are given back, so an output fault leaves the relation
+//! rewritten.
 ghost use Rattle.std.specs.Prelude.{◌≡◌, ◌≢◌, ◌≤◌, ◌<◌, ◌*◌, ◌+◌, ◌%◌, ◌^◌, List, IfErr, IfOk, IfSome, MatchResult, OnOk, length, map, option_map, sum_by};
 ghost use Rattle.std.specs.Option.{option_map_or};
 ghost use Rattle.command_line.specs.Numbers.{HasOptionsInRange};

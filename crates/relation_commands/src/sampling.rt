@@ -1,4 +1,9 @@
 //! A relation that is made from a number is scanned, rewritten and scanned again, in memory.
+//!
+//! A sample has three managers over the same lanes, each closed before the next starts: for a scan,
+//! a rewrite with its checkpoint, and a second scan. Each has a log in memory with room for a
+//! record of each block in the rewrite. The plans of the lanes (`SampleLane`) name no call that
+//! fails, so a sample meets no fault but that of the output. Its lines are put at once.
 ghost use Rattle.std.specs.Prelude.{◌≡◌, ◌≢◌, ◌≤◌, ◌%◌, ◌^◌, List, IfErr, IfOk, OnOk, length, sum_by};
 ghost use Rattle.command_line.specs.Numbers.{HasOptionsInRange};
 ghost use Rattle.log_device.specs.Bytes.{Puts};

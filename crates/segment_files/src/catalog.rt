@@ -1,4 +1,9 @@
 //! The files of a catalogue: how a host is asked for them, and how they are opened.
+//!
+//! No two entries have a file in common. Paths are compared as text before anything is opened: one
+//! that is another's with `.` and digits after it may become a segment of that one. Files that are
+//! there are compared by device and inode. Not compared are segments that come later behind another
+//! name of their directory, and links that other programs make meanwhile.
 ghost use Rattle.std.specs.Prelude.{◌≡◌, ◌+◌, IfOk, OnOk, length};
 ghost use Rattle.std.specs.Bool.{OnFalse};
 ghost use Rattle.std.specs.List.{list_all, list_any};

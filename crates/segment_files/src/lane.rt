@@ -213,6 +213,7 @@ where
 /// missing segments are created. Of each fork of a relation at most one lane at a time may write past
 /// the end. Once a sync has failed, each later one does: what that one was to make durable may be lost
 /// (PostgreSQL panics then, unless `data_sync_retry` is set).
+/// The tool's one relation is a catalogue of one entry.
 #[derive(Drop)]
 pub struct FileLane<'a, R: Files> {
     files: LaneFiles<'a, R>,

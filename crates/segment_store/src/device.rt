@@ -47,6 +47,8 @@ pub trait BlockLane {
 
     /// Writes the page to a block, whether or not the lane has it.
     /// After a failed write the block's contents are unspecified; a block that the lane lacks may be refused: its pages and marks stay.
+    /// Redo may name a block past the relation's end, and a full lane in memory has no room for a
+    /// torn page there. The manager writes only blocks that its lanes have.
     fn write(&mut self, tag: Tag, page: &Page) -> Result<(), Failed>
         ensures written { AfterWrite tag page.now (contents self.old) (failed_writes self.old) (contents self.new) (failed_writes self.new) result }
         ensures unsynced { unsynced self.new ≡ with_mark tag true (unsynced self.old) }

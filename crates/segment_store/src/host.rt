@@ -165,6 +165,8 @@ pub trait Host {
     ghost log_faults_fit: { (host : Self) → log_faults host < 2 ^ 64 };
 
     /// Where the logs are known, so are the bytes of each log that the host opens, also after calls to it.
+    /// This is said of every log of the type, since all that is known of the log that a manager
+    /// gives back is its type.
     ghost logs_told: { (host : Self) (log : Self.Log) → IfSome (logs host) (λ _. IsSome (Self.Log.bytes log)) };
 
     /// Where the logs are known, so are the bytes left of each source that the host opens, also after calls to it.

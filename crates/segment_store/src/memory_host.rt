@@ -307,6 +307,8 @@ fn count_writes(faults: &mut FaultCount, lanes: &[MemLane])
 }
 
 /// A host in memory.
+/// Relations and logs are two maps: the caller has to see that a log's path names no file of a
+/// relation. While a log is open, an empty one is at its path.
 #[derive(Drop)]
 pub struct MemHost {
     files: Vec<MemFile>,

@@ -52,6 +52,8 @@ impl LanePlan {
 }
 
 /// A lane in memory, with places for blocks, of which some may be vacant.
+/// It takes all its memory before it is used, so a write allocates nothing. No read, write or sync
+/// changes which blocks it has room for.
 #[derive(Drop)]
 pub struct MemLane {
     blocks: BTreeMap<Tag, MemBlock>,

@@ -1,4 +1,7 @@
 //! The masks of the flags, by name.
+//!
+//! `Flag` is an enum, and the masks stay in the crate: an argument of a `bitflags` type could be
+//! several flags, or bits without a name.
 
 ghost use Rattle.std.specs.Prelude.{⊤, ◌≡◌, [], ◌∷◌, ◌^◌, codes};
 ghost use Rattle.state_word.specs.Flags.{bit_place};

@@ -1,4 +1,8 @@
 //! What a state word has in it, field by field, and the names of its flags.
+//!
+//! A new flag takes a line in each of `StateWord`, `fields`, `flag_of`, `cleared_fields`, `Flag`,
+//! `bit_place`, `with_flag`, the masks, and the words of 0 in definitions: a definition can't range
+//! over the fields of a record.
 
 /// The fields of a state word, as the contracts read them (`specs/Fields.antt`). The program keeps the
 /// packed number, and makes no value of this type.
@@ -28,6 +32,8 @@ pub struct StateWord {
     /// `BM_PERMANENT`: the relation is a permanent one.
     pub permanent: bool,
     /// The number of the backend that waits, or 0 (a field of this project, not of PostgreSQL).
+    /// It is in the high half of the word, so that `OtherWaiter` can name it; PostgreSQL keeps it
+    /// beside the word, and reports only that there is more than one waiter.
     pub waiter: u32,
 }
 

@@ -18,16 +18,17 @@ has_named relations (Some tag) = has_block relations tag
 unfoldable pub is_block : List RelEntry → ℕ → Bool
 is_block relations word = has_named relations (unpacked_tag word)
 
--- how many blocks the fork of a tag has, and whether there is one
+-- how many blocks the fork of a tag has
 abbrev pub size_named : List RelEntry → Option Tag → ℕ
 size_named relations None = 0
 size_named relations (Some tag) = blocks_at relations tag.rel.0 tag.fork
 
+-- whether the tag's relation is one of these
 abbrev pub is_in : List RelEntry → Option Tag → Bool
 is_in relations None = false
 is_in relations (Some tag) = nat_lt tag.rel.0 (length relations)
 
--- at most so many blocks, by the fork's number: the last block number is the invalid one
+-- a fork's blocks are numbered below the invalid number, whatever a catalogue says
 abbrev pub fewer : ℕ → ℕ
 fewer n = if nat_lt n (2 ^ 32 - 1) then n else 2 ^ 32 - 1
 

@@ -28,6 +28,7 @@ abbrev pub latch_count : ℕ
 latch_count = 145
 
 -- the other words, which follow those of the latches
+-- (`word_place` says where each lies, and one member of the rule shows them all)
 abbrev pub first_word : ℕ → ℕ
 first_word n = 8 * n + latch_count
 

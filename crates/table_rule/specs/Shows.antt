@@ -62,7 +62,8 @@ pub record ShowsLatches (n lanes : ℕ) (words : List ℕ) (s : State) : Type 0 
   pub latch : (x : Turn) → HasTurn lanes x → slice_index words (latch_place n x) ≡ flag_weight (is_taken x s)
   pub word : (w : Word) → HasWord n w → slice_index words (word_place n w) ≡ word_of w s
 
--- What no step changes of a state: what it was opened with
+-- What no step changes of a state: what it was opened with.
+-- One record, so a step keeps all of it by one equation.
 pub record Fixed : Type 0 where
   pub frames : ℕ
   pub backends : ℕ
@@ -240,7 +241,8 @@ module _ {L G : Type 0} where
     pub base : s.base ≡ o.base
     pub partitions : s.partitions ≡ 128
     pub partition_of : s.partition_of ≡ tag_partition
-    -- the blocks are those of the catalogue, and the log names them by it; forks don't grow or shrink on the table
+    -- the blocks are those of the catalogue, and the log names them by it;
+    -- forks don't grow or shrink on the table
     pub is_fork : s.is_fork ≡ is_fork o.catalog.value
     pub sizes : s.sizes ≡ fork_size o.catalog.value
     pub resizes : s.resizes ≡ false

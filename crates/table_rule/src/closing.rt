@@ -1,4 +1,8 @@
 //! What comes back out of a table that is closed.
+//!
+//! The list of lanes has a slot of its own, and comes back with the lanes in it: closing takes no
+//! memory. By then the first backend has taken in all others and holds nothing, so every value is
+//! home.
 ghost use Rattle.std.specs.Prelude.{◌≡◌, ◌≤◌, [], List, Vec, length, vec_capacity};
 ghost use Rattle.std.specs.Global.{Global};
 ghost use Rattle.std.specs.Slots.{IsFull, slots_items};

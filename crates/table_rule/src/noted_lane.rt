@@ -1,4 +1,7 @@
 //! A lane that is out.
+//!
+//! A lane goes out with its number and room for the note of one call, and only the lane with that
+//! number may come back: two unknown lanes with the same counts can't be exchanged.
 ghost use Rattle.std.specs.Prelude.{◌≡◌, Some, OnOk, IfSome, IsSome, MatchResult};
 ghost use Rattle.std.specs.Option.{ForSome};
 ghost use Rattle.table_rule.specs.declared.noted_lane.LaneCall.TheVariants as lane_call;

@@ -1,4 +1,8 @@
 //! The log while it is out.
+//!
+//! The log goes out with its mark and room for one record. If its contents aren't known, a failed
+//! append counts as having added nothing, a failed sync as having made nothing durable. The log end
+//! is stored for the page whose record was appended.
 ghost use Rattle.std.specs.Prelude.{◌≡◌, ◌+◌, ◌≤◌, ◌++◌, length, vec_len, vec_capacity, None, Some, MatchResult};
 ghost use Rattle.byteorder.specs.Endian.{little_bytes};
 ghost use Rattle.history_core.specs.Log.{record_size};

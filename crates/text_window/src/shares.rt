@@ -1,4 +1,9 @@
 //! What workers count.
+//!
+//! Behind the lock nothing is known of passes, or of who claimed a chunk; so numbers go out of the
+//! lock by two ledgers, of which each worker has a share. With all shares back: if as many texts
+//! were delivered as there are chunks, all of them are out; and if none was read past the base, and
+//! that is where the log begins, each is the text of the pages at the opening.
 ghost use Rattle.std.specs.Prelude.{ℕ, ◌+◌};
 
 use std::sync::ledger::{Ledger, Share};

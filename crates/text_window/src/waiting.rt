@@ -1,4 +1,9 @@
 //! Texts that wait for those before them.
+//!
+//! A worker that waits at the window waits for one that reads: the worker of the lowest chunk that
+//! was claimed and not delivered never waits, since its chunk is next and its slot is free. Those
+//! that wait hold no pin, latch or lock. `deliver` also answers `Later` for a chunk that was put
+//! before, or whose slot is full, which can't happen: a chunk is claimed once.
 ghost use Rattle.std.specs.Prelude.{◌≡◌, ◌<◌, ◌↔◌, ◌∷◌, ◌++◌, [], None, Some, true, false, drop, length, replicate, slice_index_or, slice_set, IfOk, IsTrue};
 
 use std::alloc::{AllocError, Global};

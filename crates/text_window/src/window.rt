@@ -1,4 +1,8 @@
 //! The window, which the workers of a job share.
+//!
+//! Output begins with the first chunk, and the window has two slots for each worker, so the memory
+//! that a job takes doesn't grow with the relation. If the reader of the output is slow, all
+//! workers wait for it. A text is one put, under the lock, and a failed put is never tried again.
 ghost use Rattle.std.specs.Prelude.{◌≡◌, ◌+◌, ◌<◌, ◌≤◌, ◌^◌, ◌≢◌, None, Some, true, is_some, max, replicate, IfErr, IfOk, MatchBool};
 ghost use Rattle.log_device.specs.Faults.{Rose};
 ghost use Rattle.text_window.specs.declared.window.Delivery.TheVariants.{Delivered, Later, Stopped};

@@ -13,6 +13,8 @@ use Rattle.history_core.proofs.Crashes.{dirty_have, written_have, crashes_redo}
 use Rattle.history_core.proofs.Counters.{counters_sums}
 use Rattle.history_core.proofs.Residents.{residents_stay, lost_cleared}
 use Rattle.history_core.proofs.Listed.{pins_listed}
+use Rattle.history_core.proofs.Marked.{loads_mark_gone}
+use Rattle.history_core.proofs.Redo.{been_kept}
 use Rattle.pin_core.proofs.SizeSchedules as sized
 use Rattle.page_core.proofs.Histories.{new_blocks}
 use Rattle.history_core.proofs.all_histories.Goals as goal
@@ -167,6 +169,9 @@ returns-clause-residents_stay c = residents_stay
 pub returns-clause-sighted : goal.returns-clause-sighted
 returns-clause-sighted c = pins_listed
 
+pub returns-clause-marked : goal.returns-clause-marked
+returns-clause-marked c = loads_mark_gone
+
 pub returns-clause-size_rights : goal.returns-clause-size_rights
 returns-clause-size_rights c = λ s fork r. sized.rights s.pool.core fork r.invariant.pool.sizes
 
@@ -181,3 +186,27 @@ returns-clause-new_blocks c = λ s r. new_blocks s.pool r.invariant.pool
 
 pub returns-clause-by_log : goal.returns-clause-by_log
 returns-clause-by_log c = λ s r. r.invariant.sizes
+
+pub returns-clause-redo : goal.returns-clause-redo
+returns-clause-redo c = λ s r. record { now = r.redo.highest.reached; stays = λ e t x p been. been_kept x p been; loaded = r.redo.loaded }
+
+pub returns-clause-tested : goal.returns-clause-tested
+returns-clause-tested c = λ s r. r.redo.chosen
+
+pub returns-clause-behind : goal.returns-clause-behind
+returns-clause-behind c = λ s r. r.rest.behind
+
+pub returns-clause-bounded : goal.returns-clause-bounded
+returns-clause-bounded c = λ s r. r.counters.bounded
+
+pub returns-clause-tags : goal.returns-clause-tags
+returns-clause-tags c = λ s r. sized.tag_words s.pool.core r.invariant.pool.sizes
+
+pub returns-clause-others : goal.returns-clause-others
+returns-clause-others c = λ s r. r.invariant.pool.gone
+
+pub returns-clause-noted : goal.returns-clause-noted
+returns-clause-noted c = λ s r. r.invariant.pool.sizes.noted
+
+pub returns-clause-passed : goal.returns-clause-passed
+returns-clause-passed c = λ s r. r.invariant.pool.sizes.passed

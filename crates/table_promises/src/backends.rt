@@ -1,0 +1,50 @@
+//! What a backend counts, and what becomes of it as the backend goes.
+ghost use Rattle.std.specs.Prelude.{◌≡◌, ◌≢◌, [], None, false};
+ghost use Rattle.pin_core.specs.State.{joined_view};
+ghost use Rattle.pin_core.specs.Steps.{HoldsNothing};
+ghost use Rattle.frame_table.specs.Seats.{Fits};
+ghost use Rattle.clock_sweep.specs.FreeFrames.{joined_parts};
+ghost use Rattle.clock_sweep.specs.FreeLists.{IsOfSweep};
+ghost use Rattle.buffer_frames.specs.Tokens.{held_at, tokens_less};
+
+use atomic_table::Seat;
+use buffer_frames::HeldPins;
+use clock_sweep::{QueuePass, Sweep};
+use frame_table::{FrameTable, Pin, Value};
+use log_device::LogDevice;
+use pin_core::View;
+use segment_store::BlockLane;
+
+/// A token that comes back counts no more, and with the last one its pin goes out, to be given up
+/// (`UnpinBuffer`, by `PrivateRefCount`).
+pub fn give_token_back(held: &mut HeldPins, frame: u32) -> Option<Pin>
+    requires pinned { held_at held.old frame ≢ None }
+    ensures tokens { held.new ≡ tokens_less frame held.old }
+{
+    held.take_token(frame)
+}
+
+/// What a backend read and put stays in the history that the table is closed with: the first
+/// backend takes it over.
+pub fn join_seats<L: BlockLane, G: LogDevice>(
+    table: &FrameTable<L, G>,
+    seat: &mut Seat<Value<L, G>, View>,
+    other: Seat<Value<L, G>, View>,
+)
+    requires seat { Fits table.now seat.old × (seat.old.id ≡ 0) }
+    requires other { Fits table.now other × (other.me.1 ≡ []) × (other.me.0.emptied ≡ false) }
+    requires free { HoldsNothing other.me.0 }
+    ensures joined { seat.new.me.0 ≡ joined_view seat.old.me.0 other.me.0 }
+{
+    table.join(seat, other);
+}
+
+/// So does what it took from the free list and pushed there.
+pub fn join_queues(sweep: &Sweep, queue: &mut QueuePass, other: QueuePass)
+    requires queue { IsOfSweep sweep.now queue.old }
+    requires other { IsOfSweep sweep.now other }
+    ensures known { queue.new
+        ≡ record queue.old { known = joined_parts queue.old.known other.known } }
+{
+    sweep.join(queue, other);
+}

@@ -1,0 +1,145 @@
+//! Pins, tags and locks of frames.
+ghost use Rattle.std.specs.Prelude.{◌≡◌, ◌≢◌, ℕ, None, Some, IfNone, false, true};
+ghost use Rattle.std.specs.Bool.{OnTrue};
+ghost use Rattle.state_word.specs.Fields.{fields};
+ghost use Rattle.block_tag.specs.Names.{names_block, packed_tag, partition_number};
+ghost use Rattle.pin_core.specs.declared.view.Content.TheVariants.{Unlocked};
+ghost use Rattle.pin_core.specs.declared.view.Io.TheVariants.{Quiet};
+ghost use Rattle.pin_core.specs.declared.view.Role.TheVariants.{Absent, HandedOut, Victim};
+ghost use Rattle.pin_core.specs.State.{link};
+ghost use Rattle.pin_core.specs.Steps.{HoldsNoHeader};
+ghost use Rattle.table_rule.specs.Blocks.{has_block};
+ghost use Rattle.table_rule.specs.Layout.{tag_partition};
+ghost use Rattle.table_rule.specs.declared.turn.Turn.TheVariants.{Partition};
+ghost use Rattle.frame_table.specs.Content.{CanLock, exclusive_link};
+ghost use Rattle.frame_table.specs.Latches.{MayLeave};
+ghost use Rattle.frame_table.specs.Seats.{CanStep, CanTurn, Finds, HasFlag, HasOnlyPin, HoldsWord, Lacks, MayChange, relations_of};
+
+use atomic_table::Seat;
+use block_tag::Tag;
+use content_locks::exclusive;
+use frame_table::{FrameTable, Pin, Value};
+use log_device::LogDevice;
+use pin_core::View;
+use segment_store::BlockLane;
+use state_word::{Flag, has, pins, usage};
+use std::sync::Wait;
+
+/// The frame that the map gives is pinned under its partition's latch. Once that is left another
+/// backend may give the frame to another block (`BufferAlloc` pins, and then releases the partition
+/// lock).
+pub fn pin_found<L: BlockLane, G: LogDevice, R: Wait>(
+    table: &FrameTable<L, G>,
+    rt: &R,
+    seat: &mut Seat<Value<L, G>, View>,
+    tag: Tag,
+    frame: u32,
+    ring: bool,
+) -> Pin
+    requires seat { CanStep table.now seat.old frame }
+    requires turn { CanTurn table.now seat.old (Partition (partition_number tag)) }
+    requires may { MayLeave (Partition (partition_number tag)) seat.old.me.0 }
+    requires absent { (link seat.old.me.0 frame).role ≡ Absent }
+    requires tag { names_block tag ≡ true }
+    requires finds { Finds seat.old.me.0 (packed_tag tag) frame }
+{
+    table.pin(rt, seat, tag, frame, ring)
+}
+
+/// The frame that a hint names has the block only if its tag, loaded under the pin, says so
+/// (`ReadRecentBuffer` compares the tags, too).
+pub fn is_of_block<L: BlockLane, G: LogDevice>(
+    table: &FrameTable<L, G>,
+    seat: &mut Seat<Value<L, G>, View>,
+    frame: u32,
+    tag: &Tag,
+) -> bool
+    requires seat { CanStep table.now seat.old frame }
+    requires pinned { (link seat.old.me.0 frame).role ≡ HandedOut }
+    ensures tagged { OnTrue result ((link seat.new.me.0 frame).tag ≡ Some (packed_tag tag.now)) }
+{
+    match table.load_tag(seat, frame) {
+        Some(other) => other == *tag,
+        None => false,
+    }
+}
+
+/// A victim loses its block only if its state word, under the header, shows one pin, the backend's
+/// own, and a clean page (`InvalidateVictimBuffer`).
+pub fn reassign<L: BlockLane, G: LogDevice>(
+    table: &FrameTable<L, G>,
+    seat: &mut Seat<Value<L, G>, View>,
+    frame: u32,
+    word: u64,
+) -> bool
+    requires seat { CanStep table.now seat.old frame }
+    requires held { (link seat.old.me.0 frame).header ≡ Some (fields word) }
+    requires settled { (link seat.old.me.0 frame).pending ≡ false }
+    requires victim { (link seat.old.me.0 frame).role ≡ Victim }
+    requires unlocked { (link seat.old.me.0 frame).content ≡ Unlocked }
+    requires quiet { (link seat.old.me.0 frame).io ≡ Quiet }
+    requires remembered { (link seat.old.me.0 frame).tag ≢ None }
+    requires latch { (tag : ℕ) → (link seat.old.me.0 frame).tag ≡ Some tag
+        → MayChange seat.old.me.0 (tag_partition tag) }
+{
+    if pins(word) != 1 || has(word, Flag::Dirty) {
+        return false;
+    }
+    table.store_tag(seat, frame, None);
+    true
+}
+
+/// A victim gets a block only if a second look at the map, under the partition's latch, found no
+/// frame that has it (`BufferAlloc` looks at what `BufTableInsert` answers).
+pub fn insert_new<L: BlockLane, G: LogDevice>(
+    table: &FrameTable<L, G>,
+    seat: &mut Seat<Value<L, G>, View>,
+    frame: u32,
+    tag: Tag,
+    found: Option<u32>,
+) -> bool
+    requires seat { CanStep table.now seat.old frame }
+    requires alone { HasOnlyPin (link seat.old.me.0 frame) }
+    requires tag { names_block tag ≡ true }
+    requires block { has_block (relations_of table.now) tag ≡ true }
+    requires untagged { HoldsWord (HasFlag false) (link seat.old.me.0 frame) }
+    requires latch { MayChange seat.old.me.0 (partition_number tag) }
+    requires lacks { IfNone found (Lacks seat.old.me.0 (packed_tag tag)) }
+{
+    if found.is_some() {
+        return false;
+    }
+    table.store_tag(seat, frame, Some(tag));
+    true
+}
+
+/// A state word is stored only under its header, and made of the word that was found there
+/// (`LockBufHdr`, `UnlockBufHdr`). A word that was only loaded may have changed since.
+pub fn lower_usage<L: BlockLane, G: LogDevice, R: Wait>(
+    table: &FrameTable<L, G>,
+    rt: &R,
+    seat: &mut Seat<Value<L, G>, View>,
+    frame: u32,
+)
+    requires seat { CanStep table.now seat.old frame }
+    requires headless { HoldsNoHeader seat.old.me.0 }
+{
+    let word = table.lock_header(rt, seat, frame);
+    if pins(word) == 0 && usage(word) != 0 {
+        table.lower_usage(seat, frame, word);
+    }
+}
+
+/// A content lock is taken exclusively only if no backend has it (`LWLockAttemptLock`).
+pub fn lock_exclusively<L: BlockLane, G: LogDevice, R: Wait>(
+    table: &FrameTable<L, G>,
+    rt: &R,
+    seat: &mut Seat<Value<L, G>, View>,
+    frame: u32,
+)
+    requires seat { CanStep table.now seat.old frame }
+    requires view { CanLock (link seat.old.me.0 frame) }
+    ensures exclusive { link seat.new.me.0 frame ≡ exclusive_link (link seat.old.me.0 frame) }
+{
+    exclusive(table, rt, seat, frame)
+}

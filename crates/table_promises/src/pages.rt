@@ -1,0 +1,152 @@
+//! Pages, their reads and writes, and what comes before these.
+ghost use Rattle.std.specs.Prelude.{◌≡◌, ◌<◌, IfOk, false, true};
+ghost use Rattle.block_tag.specs.Names.{lane_number, names_block};
+ghost use Rattle.page_layout.specs.Soundness.{is_new_page, is_sound_page};
+ghost use Rattle.pin_core.specs.declared.view.Content.TheVariants as content;
+ghost use Rattle.pin_core.specs.State.{link};
+ghost use Rattle.pin_core.specs.Steps.{HoldsNoHeader};
+ghost use Rattle.page_core.specs.Steps.{HasNoWriteOut, MayWait};
+ghost use Rattle.table_rule.specs.Blocks.{has_block};
+ghost use Rattle.frame_table.specs.Seats.{CanStep, frames_of, lanes_in, relations_of};
+ghost use Rattle.content_locks.specs.Io.{MayEndIo};
+ghost use Rattle.cleanup_lock.specs.Cleanup.{CanLockForCleanup, GrantsCleanup};
+ghost use Rattle.state_word.specs.declared.word.IoEnd.TheVariants.{Bad, WriteOk};
+ghost use Rattle.buffer_frames.specs.Backends.{IsFurnished};
+ghost use Rattle.buffer_frames.specs.Flushing.{FlushAnswer};
+ghost use Rattle.buffer_frames.specs.Keeps.{IsReady};
+ghost use Rattle.buffer_frames.specs.Puts.{PutAnswer};
+ghost use Rattle.buffer_frames.specs.Reads.{met_read_block};
+ghost use Rattle.buffer_frames.specs.Rests.{HasNoLatch, LinksRest, Stands};
+ghost use Rattle.buffer_frames.specs.Tokens.{IsNew, IsPinnedFor};
+
+use access_rings::Ring;
+use atomic_table::Seat;
+use block_tag::Tag;
+use buffer_frames::{
+    Backend, BlockError, FlushedPage, FrameFlushError, HeldPins, PinnedBlock, flush_frame,
+    put_locked, read_block,
+};
+use cleanup_lock::{CleanupError, lock};
+use clock_sweep::Sweep;
+use content_locks::{IoRight, end_io};
+use frame_table::{FrameTable, Value};
+use log_device::LogDevice;
+use page_layout::{Lsn, Page};
+use pin_core::View;
+use segment_store::BlockLane;
+use state_word::IoEnd;
+use std::sync::Wait;
+use wal_flush::InsertError;
+
+/// A cleanup lock is granted for a count of one pin that was seen under the exclusive lock
+/// (`LockBufferForCleanup`).
+pub fn lock_for_cleanup<L: BlockLane, G: LogDevice, R: Wait>(
+    table: &FrameTable<L, G>,
+    rt: &R,
+    seat: &mut Seat<Value<L, G>, View>,
+    frame: u32,
+    tokens: u32,
+    number: u32,
+) -> Result<(), CleanupError>
+    requires seat { CanStep table.now seat.old frame }
+    requires headless { HoldsNoHeader seat.old.me.0 }
+    requires view { CanLockForCleanup (link seat.old.me.0 frame) }
+    requires may { MayWait number seat.old.me.0 }
+    ensures { IfOk result (λ _. GrantsCleanup number frame seat.old.me.0 seat.new.me.0) }
+{
+    lock(table, rt, seat, frame, tokens, number)
+}
+
+/// A put that is Ok has marked the frame dirty, then inserted the page into the log, and then
+/// changed the frame's page ("Write-Ahead Log Coding" in `access/transam/README`).
+pub fn put<L: BlockLane, G: LogDevice, R: Wait>(
+    table: &FrameTable<L, G>,
+    rt: &R,
+    seat: &mut Seat<Value<L, G>, View>,
+    held: &HeldPins,
+    frame: u32,
+    tag: Tag,
+    page: &mut Page,
+) -> Result<Lsn, InsertError>
+    requires stands { Stands table.now seat.old }
+    requires rests { LinksRest held.now seat.old.me.0 }
+    requires pinned { IsPinnedFor tag frame held.now }
+    requires right { (link seat.old.me.0 frame).content ≡ content.Exclusive }
+    requires inside { frame < frames_of table.now }
+    requires tag { names_block tag ≡ true }
+    requires block { has_block (relations_of table.now) tag ≡ true }
+    requires sound { is_sound_page page.old ≡ true }
+    requires used { is_new_page page.old ≡ false }
+    ensures { PutAnswer (relations_of table.now) frame tag page.old
+        seat.old.me.0 seat.new.me.0 result }
+{
+    put_locked(table, rt, seat, held, frame, tag, page)
+}
+
+/// A page goes to its lane only once the log is flushed up to it (`FlushBuffer` calls `XLogFlush`
+/// first).
+pub fn flush<L: BlockLane, G: LogDevice, R: Wait>(
+    table: &FrameTable<L, G>,
+    rt: &R,
+    seat: &mut Seat<Value<L, G>, View>,
+    held: &HeldPins,
+    frame: u32,
+    tag: Tag,
+    page: &mut Page,
+) -> Result<FlushedPage, FrameFlushError>
+    requires stands { Stands table.now seat.old }
+    requires latches { HasNoLatch seat.old.me.0 }
+    requires rests { LinksRest held.now seat.old.me.0 }
+    requires pinned { IsPinnedFor tag frame held.now }
+    requires unlocked { (link seat.old.me.0 frame).content ≡ content.Unlocked }
+    requires inside { frame < frames_of table.now }
+    requires tag { names_block tag ≡ true }
+    requires block { has_block (relations_of table.now) tag ≡ true }
+    ensures { FlushAnswer L.contents table.now (lane_number tag (lanes_in table.now)) tag frame
+        seat.old.me.0 seat.new.me.0 result }
+{
+    flush_frame(table, rt, seat, held, frame, tag, page)
+}
+
+/// A write that failed leaves the frame dirty (`AbortBufferIO`): it doesn't end as one that was
+/// made.
+pub fn end_write<L: BlockLane, G: LogDevice, R: Wait>(
+    table: &FrameTable<L, G>,
+    rt: &R,
+    seat: &mut Seat<Value<L, G>, View>,
+    right: IoRight,
+    written: bool,
+)
+    requires seat { CanStep table.now seat.old right.frame }
+    requires headless { HoldsNoHeader seat.old.me.0 }
+    requires no_write { HasNoWriteOut seat.old.me.0 right.frame }
+    requires done { written ≡ true → MayEndIo WriteOk (link seat.old.me.0 right.frame) }
+    requires failed { MayEndIo Bad (link seat.old.me.0 right.frame) }
+{
+    if written {
+        end_io(table, rt, seat, right, IoEnd::WriteOk);
+        return;
+    }
+    end_io(table, rt, seat, right, IoEnd::Bad);
+}
+
+/// A fault is answered only if one was met (`mdread` reports it).
+pub fn read<L: BlockLane, G: LogDevice, R: Wait>(
+    table: &FrameTable<L, G>,
+    rt: &R,
+    seat: &mut Seat<Value<L, G>, View>,
+    held: &HeldPins,
+    sweep: &Sweep,
+    backend: &mut Backend,
+    tag: &Tag,
+    ring: &mut Option<Ring>,
+) -> Result<PinnedBlock, BlockError>
+    requires ready { IsReady table.now held.now seat.old }
+    requires own { IsFurnished table.now sweep.now backend.old seat.old.me.0 }
+    requires tag { names_block tag.now ≡ true }
+    requires block { has_block (relations_of table.now) tag.now ≡ true }
+    requires new { IsNew tag.now held.now }
+    ensures { seat.new.me.0.met ≡ met_read_block result seat.old.me.0.met }
+{
+    read_block(table, rt, seat, held, sweep, backend, tag, ring)
+}

@@ -1,0 +1,57 @@
+//! The words that no frame has.
+ghost use Rattle.std.specs.Prelude.{◌≡◌, ◌+◌, ◌<◌, ◌≤◌};
+ghost use Rattle.history_core.specs.Balances.{added_to};
+ghost use Rattle.history_core.specs.Words.{counter_count, last_published};
+ghost use Rattle.table_rule.specs.declared.turn.Turn.TheVariants.{Log};
+ghost use Rattle.frame_table.specs.Seats.{CanTurn, IsSeat};
+ghost use Rattle.frame_table.specs.WordSteps.{load_counter, view_of, view_published};
+
+use atomic_table::Seat;
+use frame_table::{EndLoad, FrameTable, Turn, Value};
+use log_device::LogDevice;
+use pin_core::View;
+use segment_store::BlockLane;
+use std::sync::Wait;
+
+/// The redo position is raised under the log's latch, and to the log's end (`CreateCheckPoint`
+/// stores `RedoRecPtr` while it holds all insertion locks).
+pub fn raise_redo<L: BlockLane, G: LogDevice, R: Wait>(
+    table: &FrameTable<L, G>,
+    rt: &R,
+    seat: &mut Seat<Value<L, G>, View>,
+)
+    requires seat { IsSeat table.now seat.old }
+    requires turn { CanTurn table.now seat.old Log }
+{
+    table.take_turn(rt, seat, Turn::Log);
+    let end = table.load_log_end(seat, EndLoad::Plain);
+    table.raise_redo(seat, end);
+}
+
+/// What a backend adds to a counter is added once (`pgstat_count_io_op_n`).
+pub fn add_counter<L: BlockLane, G: LogDevice>(
+    table: &FrameTable<L, G>,
+    seat: &mut Seat<Value<L, G>, View>,
+    number: u32,
+    more: u64,
+)
+    requires seat { IsSeat table.now seat.old }
+    requires below { number < counter_count }
+    requires room { added_to number seat.old.me.0 + more ≤ last_published }
+    ensures { seat.new.me.0 ≡ view_published number more seat.old.me.0 }
+{
+    table.add_counter(seat, number, more);
+}
+
+/// The counter that is answered is the one of that number (`pg_stat_get_io`).
+pub fn load_counter<L: BlockLane, G: LogDevice>(
+    table: &FrameTable<L, G>,
+    seat: &mut Seat<Value<L, G>, View>,
+    number: u32,
+) -> u64
+    requires seat { IsSeat table.now seat.old }
+    requires below { number < counter_count }
+    ensures { seat.new.me.0 ≡ view_of (load_counter number) result seat.old.me.0 }
+{
+    table.load_counter(seat, number)
+}
