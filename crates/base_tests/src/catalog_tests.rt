@@ -1,6 +1,6 @@
 //! Lanes over the files of several relations.
 use crate::checks::{check, check_eq};
-use crate::growth_tests::{had, put_file};
+use crate::growth_tests::{had_all, put_file, put_files};
 use block_tag::{Fork, RelNo, Tag};
 use log_device::Failed;
 use page_layout::Page;
@@ -101,39 +101,49 @@ where
     }
 }
 
-/// What the files have in the end.
-const GROWN: [(&str, [(u8, usize); 2]); 8] = [
-    ("rows", [(1, 8192), (2, 8192)]),
-    ("rows.1", [(3, 8192), (0, 8192)]),
-    ("rows.2", [(0, 8192), (0, 8192)]),
-    ("rows.3", [(5, 8192), (7, 8192)]),
-    ("index", [(4, 8192), (0, 8192)]),
-    ("index.1", [(0, 8192), (0, 8192)]),
-    ("index.2", [(0, 8192), (0, 8192)]),
-    ("index.3", [(0, 8192), (6, 8192)]),
-];
-
-/// Neither is opened as a log, to write one or to read one.
-#[test]
-fn two_relations_grow_apart(rt: HostRuntime) -> Result<(), Fail> {
-    let alloc = rt.alloc();
-    put_file(&rt, "rows", &[(1, 8192), (2, 8192)])?;
-    put_file(&rt, "rows.1", &[(3, 8192)])?;
-    put_file(&rt, "index", &[(4, 8192)])?;
-    let mut host = Box::new(alloc, FileHost::new(&rt, alloc))?;
+/// Grows both on a host. Neither is opened as a log, to write one or to read one.
+fn grow_on(
+    rt: &impl Abort,
+    alloc: Global,
+    host: &mut FileHost<HostRuntime>,
+) -> Result<(), HostError> {
+    let mut page = Page::zeroed(alloc).map_err(|_| HostError::Memory)?;
     let entries = [main_fork(0, "rows"), main_fork(1, "index")];
     let mut opened = host.relations(alloc, &entries, 2, 3)?;
     check_eq!(rt; opened.blocks.as_slice(), [3, 1].as_slice());
     check_eq!(rt; host.log(alloc, "index").err(), Some(LogOpen::Failed));
     check_eq!(rt; host.bytes(alloc, "index").err(), Some(HostError::Failed));
-    let mut page = Page::zeroed(alloc)?;
-    grow_by_one(&rt, &mut page, &mut opened.lanes);
-    read_by_each(&rt, &mut page, &mut opened.lanes);
+    grow_by_one(rt, &mut page, &mut opened.lanes);
+    read_by_each(rt, &mut page, &mut opened.lanes);
     host.give_back(opened.lanes, None, None);
+    Ok(())
+}
+
+/// The files before, and in the end.
+const BEFORE: [(&str, &[(u8, usize)]); 3] = [
+    ("rows", &[(1, 8192), (2, 8192)]),
+    ("rows.1", &[(3, 8192)]),
+    ("index", &[(4, 8192)]),
+];
+
+const GROWN: [(&str, &[(u8, usize)]); 8] = [
+    ("rows", &[(1, 8192), (2, 8192)]),
+    ("rows.1", &[(3, 8192), (0, 8192)]),
+    ("rows.2", &[(0, 16384)]),
+    ("rows.3", &[(5, 8192), (7, 8192)]),
+    ("index", &[(4, 8192), (0, 8192)]),
+    ("index.1", &[(0, 16384)]),
+    ("index.2", &[(0, 16384)]),
+    ("index.3", &[(0, 8192), (6, 8192)]),
+];
+
+#[test]
+fn two_relations_grow_apart(rt: HostRuntime) -> Result<(), Fail> {
+    put_files(&rt, &BEFORE)?;
+    let mut host = Box::new(rt.alloc(), FileHost::new(&rt, rt.alloc()))?;
+    grow_on(&rt, rt.alloc(), &mut host)?;
     check_eq!(rt; (host.read_faults(), host.write_faults()), (7, 0));
-    for (path, runs) in &GROWN {
-        check!(rt; had(&rt, path, runs)?, "{path}");
-    }
+    check!(rt; had_all(&rt, &GROWN)?);
     Ok(())
 }
 

@@ -154,6 +154,35 @@ where
     (synced, syncs.load(Ordering::SeqCst))
 }
 
+/// Syncs each lane three times. What the failed sync was to make durable may be lost, so no later one succeeds.
+fn sync_lanes<R: Files>(rt: &impl Abort, lanes: &mut [FileLane<'_, R>], syncs: &AtomicU32)
+where
+    R::File: FileExt,
+{
+    for lane in lanes {
+        let found = [
+            sync_lane(lane, syncs),
+            sync_lane(lane, syncs),
+            sync_lane(lane, syncs),
+        ];
+        check_eq!(rt; found, [(Ok(()), 2), (Err(Failed), 3), (Err(Failed), 3)]);
+    }
+}
+
+/// The lanes of the relation at a path are synced.
+fn sync_files(
+    rt: &impl Abort,
+    alloc: Global,
+    host: &mut FileHost<CountedFiles<'_>>,
+    path: &str,
+    syncs: &AtomicU32,
+) -> Result<(), Fail> {
+    let mut lanes = host.relation(alloc, path, 2, 1)?.lanes;
+    sync_lanes(rt, &mut lanes, syncs);
+    host.give_back(lanes, None, None);
+    Ok(())
+}
+
 #[test]
 fn a_sync_reaches_each_segment(rt: HostRuntime) -> Result<(), Fail> {
     let segments = ["synced", "synced.1"];
@@ -165,14 +194,7 @@ fn a_sync_reaches_each_segment(rt: HostRuntime) -> Result<(), Fail> {
         failing: 3,
     };
     let mut host = FileHost::new(&files, rt.alloc());
-    let mut lanes = host.relation(rt.alloc(), "synced", 2, 1)?.lanes;
-    for lane in &mut lanes {
-        check_eq!(rt; sync_lane(lane, &syncs), (Ok(()), 2));
-        check_eq!(rt; sync_lane(lane, &syncs), (Err(Failed), 3));
-        // What the failed sync was to make durable may be lost, so no later one succeeds.
-        check_eq!(rt; sync_lane(lane, &syncs), (Err(Failed), 3));
-    }
-    host.give_back(lanes, None, None);
+    sync_files(&rt, rt.alloc(), &mut host, "synced", &syncs)?;
     check_eq!(rt; host.write_faults(), 2);
     remove_segments(&rt, segments)?;
     Ok(())

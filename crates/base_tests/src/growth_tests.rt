@@ -14,11 +14,11 @@ use std::rt::Files;
 use std::test::Fail;
 
 /// Runs of equal bytes, one after another.
-fn runs_of(alloc: Global, runs: &[(u8, usize)]) -> Result<Vec<u8>, AllocError> {
+pub(crate) fn runs_of(alloc: Global, runs: &[(u8, usize)]) -> Result<Vec<u8>, AllocError> {
     let mut bytes = Vec::new(alloc);
     for (byte, count) in runs {
-        let run = vec![in alloc; *byte; *count]?;
-        bytes.extend_from_slice(&run)?;
+        let length = bytes.len().saturating_add(*count);
+        bytes.resize(length, *byte)?;
     }
     Ok(bytes)
 }
@@ -30,7 +30,7 @@ pub(crate) fn put_file(rt: &HostRuntime, path: &str, runs: &[(u8, usize)]) -> Re
 }
 
 /// Whether a file has these bytes. It is removed.
-pub(crate) fn had(rt: &HostRuntime, path: &str, runs: &[(u8, usize)]) -> Result<bool, Fail> {
+fn had(rt: &HostRuntime, path: &str, runs: &[(u8, usize)]) -> Result<bool, Fail> {
     let wanted = runs_of(rt.alloc(), runs)?;
     let found = fs::read(rt, path)?;
     fs::remove_file(rt, path)?;
@@ -38,7 +38,7 @@ pub(crate) fn had(rt: &HostRuntime, path: &str, runs: &[(u8, usize)]) -> Result<
 }
 
 /// Puts files at these paths.
-fn put_files(rt: &HostRuntime, files: &[(&str, &[(u8, usize)])]) -> Result<(), Fail> {
+pub(crate) fn put_files(rt: &HostRuntime, files: &[(&str, &[(u8, usize)])]) -> Result<(), Fail> {
     for (path, runs) in files {
         put_file(rt, path, runs)?;
     }
@@ -46,7 +46,7 @@ fn put_files(rt: &HostRuntime, files: &[(&str, &[(u8, usize)])]) -> Result<(), F
 }
 
 /// Whether each file has these bytes. They are removed.
-fn had_all(rt: &HostRuntime, files: &[(&str, &[(u8, usize)])]) -> Result<bool, Fail> {
+pub(crate) fn had_all(rt: &HostRuntime, files: &[(&str, &[(u8, usize)])]) -> Result<bool, Fail> {
     let mut same = true;
     for (path, runs) in files {
         same = had(rt, path, runs)? && same;

@@ -1,5 +1,6 @@
 //! Failures that leave a part, on a host in memory.
 use crate::checks::check_eq;
+use crate::growth_tests::runs_of;
 use block_tag::{Fork, RelNo, Tag};
 use log_device::{Failed, FaultPlan, LogDevice, LogPlan};
 use page_layout::Page;
@@ -42,8 +43,9 @@ fn read_own(lane: &mut MemLane, tag: Tag, page: &mut Page) -> Option<Result<(), 
 /// Two segments of two blocks: one is full, the other has a block and 100 bytes.
 fn two_segments(alloc: Global) -> Result<Vec<Vec<u8>>, AllocError> {
     let mut segments = Vec::new(alloc);
-    segments.push(vec![in alloc; 1u8; 16384]?)?;
-    segments.push(vec![in alloc; 2u8; 8292]?)?;
+    for run in [(1, 16384), (2, 8292)] {
+        segments.push(runs_of(alloc, &[run])?)?;
+    }
     Ok(segments)
 }
 
@@ -132,9 +134,23 @@ fn use_relation(rt: &impl Abort, alloc: Global, host: &mut MemHost) -> Result<()
     Ok(())
 }
 
-/// The bytes at these places, 0 past the end.
+/// The byte at this place, 0 past the end.
+fn byte_at(bytes: &[u8], place: usize) -> u8 {
+    match bytes.get(place) {
+        Some(byte) => *byte,
+        None => 0,
+    }
+}
+
+/// Those at these places.
 fn bytes_at(bytes: &[u8], places: [usize; 4]) -> [u8; 4] {
-    places.map(|place| bytes.get(place).copied().unwrap_or(0))
+    let [first, second, third, fourth] = places;
+    [
+        byte_at(bytes, first),
+        byte_at(bytes, second),
+        byte_at(bytes, third),
+        byte_at(bytes, fourth),
+    ]
 }
 
 /// How long each of two segments is, and its bytes at these places.

@@ -187,6 +187,20 @@ pub fn recover_lanes(
     })
 }
 
+/// Recovers lanes by all of these bytes, of which a call gives so many at most.
+pub fn recover_by_pieces(
+    rt: &impl Abort,
+    alloc: Global,
+    lanes: &mut [KeptLane],
+    bytes: &[u8],
+    most: usize,
+) -> Result<Outcome, Fail>
+    requires { 1 ≤ most }
+{
+    let mut source = source(alloc, bytes, most, 0)?;
+    recover_lanes(rt, alloc, lanes, &mut source)
+}
+
 /// Recovers lanes by all of these bytes.
 pub fn recover_by(
     rt: &impl Abort,
@@ -194,8 +208,15 @@ pub fn recover_by(
     lanes: &mut [KeptLane],
     bytes: &[u8],
 ) -> Result<Outcome, Fail> {
-    let mut source = source(alloc, bytes, usize::MAX, 0)?;
-    recover_lanes(rt, alloc, lanes, &mut source)
+    recover_by_pieces(rt, alloc, lanes, bytes, usize::MAX)
+}
+
+/// The first bytes of a log, so many.
+pub fn first_of(log: &[u8], length: usize) -> Result<&[u8], Fail> {
+    match log.get(..length) {
+        Some(first) => Ok(first),
+        None => Err(Fail::new("the log is short")),
+    }
 }
 
 /// What recovery by so many bytes of the log with three records leaves of lanes as they are before

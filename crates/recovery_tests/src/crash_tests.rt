@@ -1,10 +1,11 @@
 //! Blocks as a crash may leave them, and a recovery that is made again.
 use crate::bench::{
-    BEFORE, Kept, NONE, empty_lanes, lanes_before, outcome_of, put_page, recover_by, tag,
+    BEFORE, Kept, NONE, empty_lanes, first_of, lanes_before, outcome_of, put_page, recover_by, tag,
 };
 use crate::checks::check_eq;
 use crate::kept_lane::KeptLane;
 use crate::log_bytes::{page_bytes, three_records, torn_page};
+use page_layout::Lsn;
 use std::alloc::Global;
 use std::process::Abort;
 use std::test::Fail;
@@ -46,8 +47,16 @@ impl Found {
     }
 }
 
-/// Puts a block into its lane as it was found. This is its page after the log's records; a block
-/// without a record is as it was before.
+/// The bytes of a block as it was found, if it is there. A block without a record is as it was before.
+fn bytes_found((item, lsn): (u8, Lsn), after: Kept, found: Found) -> Option<[u8; 8192]> {
+    let before = page_bytes(item, lsn);
+    if after.lsn == lsn {
+        return Some(before);
+    }
+    found.bytes(before, page_bytes(after.item, after.lsn))
+}
+
+/// Puts a block into its lane as it was found. This is its page after the log's records.
 fn put_found(
     alloc: Global,
     lanes: &mut [KeptLane],
@@ -55,18 +64,13 @@ fn put_found(
     after: Option<Kept>,
     found: Found,
 ) -> Result<(), Fail> {
-    let (item, lsn) = *BEFORE.get(block).ok_or("no block")?;
-    let before = page_bytes(item, lsn);
-    let after = after.ok_or("no page")?;
-    let found = if after.lsn == lsn {
-        Found::Before
-    } else {
-        found
+    let (Some(before), Some(after)) = (BEFORE.get(block), after) else {
+        return Err(Fail::new("no block"));
     };
-    if let Some(bytes) = found.bytes(before, page_bytes(after.item, after.lsn)) {
-        put_page(alloc, lanes, block as u32, &bytes)?;
+    match bytes_found(*before, after, found) {
+        Some(bytes) => put_page(alloc, lanes, block as u32, &bytes),
+        None => Ok(()),
     }
-    Ok(())
 }
 
 /// Recovers three lanes by the log that is left, where the blocks 0 and 1 were found so.
@@ -100,9 +104,7 @@ fn blocks_with_a_record_may_be_anything(rt: HostRuntime) -> Result<(), Fail> {
     let alloc = rt.alloc();
     let log = three_records(alloc)?;
     for case in 0..144 {
-        let left = log
-            .get(..16 + 8224 * (case / 36))
-            .ok_or("the log is short")?;
+        let left = first_of(&log, 16 + 8224 * (case / 36))?;
         let first = Found::of_number(case / 6);
         let second = Found::of_number(case);
         recover_crashed(&rt, alloc, left, first, second)?;
@@ -136,7 +138,7 @@ fn redo_goes_on_and_back(rt: HostRuntime) -> Result<(), Fail> {
     let log = three_records(alloc)?;
     let mut lanes = lanes_before(alloc, 1, 0, NONE)?;
     for length in [16464, 24688, 16464] {
-        let left = log.get(..length).ok_or("the log is short")?;
+        let left = first_of(&log, length)?;
         let found = recover_by(&rt, alloc, &mut lanes, left)?;
         check_eq!(rt; found, outcome_of(length), "{length} bytes");
     }

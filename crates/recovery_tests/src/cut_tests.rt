@@ -1,7 +1,7 @@
 //! A log of three records that is cut at each of its lengths.
 ghost use Rattle.std.specs.Prelude.{◌≤◌};
 
-use crate::bench::{NONE, lanes_before, outcome_of, recover_lanes, source};
+use crate::bench::{NONE, first_of, lanes_before, outcome_of, recover_by_pieces};
 use crate::checks::check_eq;
 use crate::log_bytes::three_records;
 use std::alloc::Global;
@@ -19,10 +19,9 @@ fn recover_cut(
 ) -> Result<(), Fail>
     requires { 1 ≤ most }
 {
-    let bytes = log.get(..length).ok_or("the log is short")?;
-    let mut source = source(alloc, bytes, most, 0)?;
+    let bytes = first_of(log, length)?;
     let mut lanes = lanes_before(alloc, lanes, 0, NONE)?;
-    let found = recover_lanes(rt, alloc, &mut lanes, &mut source)?;
+    let found = recover_by_pieces(rt, alloc, &mut lanes, bytes, most)?;
     check_eq!(rt; found, outcome_of(length), "{length} bytes, {most} a call");
     Ok(())
 }
@@ -50,9 +49,11 @@ fn a_log_is_read_by_seven_bytes(rt: HostRuntime) -> Result<(), Fail> {
 
 /// Whether a head or a record ends within 40 bytes of this length.
 fn is_near_an_end(length: usize) -> bool {
-    [16, 8240, 16464, 24688]
-        .iter()
-        .any(|end| length.abs_diff(*end) <= 40)
+    let mut near = false;
+    for end in [16usize, 8240, 16464, 24688] {
+        near = near || length.abs_diff(end) <= 40;
+    }
+    near
 }
 
 #[test]

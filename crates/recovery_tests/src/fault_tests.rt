@@ -1,11 +1,12 @@
 //! Recoveries of which one call fails, and those that are made after them.
 use crate::bench::{
-    Kept, NONE, Outcome, lanes_before, outcome_of, recover_by, recover_lanes, source, whole_page,
+    NONE, Outcome, lanes_before, outcome_of, recover_by, recover_lanes, source, whole_page,
 };
 use crate::checks::check_eq;
 use crate::kept_lane::{Failing, KeptLane};
 use crate::log_bytes::three_records;
 use log_recovery::RecoverError;
+use page_layout::Lsn;
 use std::alloc::Global;
 use std::process::Abort;
 use std::test::Fail;
@@ -41,30 +42,32 @@ fn a_read_fails(rt: HostRuntime) -> Result<(), Fail> {
     Ok(())
 }
 
-/// Writes that fail, and what the blocks 0 and 1 hold then. Of a torn page the position is new, and
-/// the item that of the page before.
-fn torn() -> [(u32, [Option<Kept>; 2]); 3] {
-    [
-        (1, [whole_page(100, 12320), whole_page(101, 2048)]),
-        (2, [whole_page(1, 12320), whole_page(101, 20544)]),
-        (3, [whole_page(1, 28768), whole_page(2, 20544)]),
-    ]
-}
+/// Writes that fail, and the items and positions of the blocks 0 and 1 then. Of a torn page the position
+/// is new, and the item that of the page before.
+static TORN: [(u32, (u8, Lsn), (u8, Lsn)); 3] = [
+    (1, (100, 12320), (101, 2048)),
+    (2, (1, 12320), (101, 20544)),
+    (3, (1, 28768), (2, 20544)),
+];
 
 #[test]
 fn a_write_fails(rt: HostRuntime) -> Result<(), Fail> {
     let alloc = rt.alloc();
     let log = three_records(alloc)?;
-    for (write, [first, second]) in torn() {
-        let mut lanes = lanes_before(alloc, 1, 0, Failing { write, sync: 0 })?;
+    for (write, first, second) in &TORN {
+        let failing = Failing {
+            write: *write,
+            sync: 0,
+        };
+        let mut lanes = lanes_before(alloc, 1, 0, failing)?;
         let found = recover_by(&rt, alloc, &mut lanes, &log)?;
-        check_eq!(rt;
-            found.answer,
-            Err(RecoverError::WriteFault),
-            "write {write}"
-        );
-        let wanted = [first, second, whole_page(102, 2048)];
-        check_eq!(rt; found.held.pages, wanted, "write {write}");
+        let pages = [
+            whole_page(first.0, first.1),
+            whole_page(second.0, second.1),
+            whole_page(102, 2048),
+        ];
+        let wanted = (Err(RecoverError::WriteFault), pages);
+        check_eq!(rt; (found.answer, found.held.pages), wanted, "write {write}");
         recover_again(&rt, alloc, &mut lanes, &log)?;
     }
     Ok(())

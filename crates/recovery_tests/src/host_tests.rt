@@ -282,14 +282,24 @@ fn remove_files(rt: &HostRuntime) -> Result<(), Fail> {
     Ok(())
 }
 
+/// Writes a file of one block, and a log with a record of the block far past its end.
+fn write_files(rt: &HostRuntime) -> Result<(), Fail> {
+    fs::write(rt, PATH, page_bytes(100, 2048).as_slice())?;
+    let log = log_of(rt.alloc(), &[FAR])?;
+    fs::write(rt, LOG, log.as_slice())?;
+    Ok(())
+}
+
+/// Recovers the file by the log.
+fn recover_file(rt: &HostRuntime) -> Result<Result<Redone, RecoverError>, Fail> {
+    let mut host = Box::new(rt.alloc(), FileHost::new(rt, rt.alloc()))?;
+    recover_relation(rt.alloc(), &mut *host, 131_072)
+}
+
 #[test]
 fn a_file_grows_far(rt: HostRuntime) -> Result<(), Fail> {
-    let alloc = rt.alloc();
-    fs::write(&rt, PATH, page_bytes(100, 2048).as_slice())?;
-    fs::write(&rt, LOG, log_of(alloc, &[FAR])?.as_slice())?;
-    let mut host = Box::new(alloc, FileHost::new(&rt, alloc))?;
-    let answer = recover_relation(alloc, &mut *host, 131_072)?;
-    check_eq!(rt; answer, Ok(redone(1)));
+    write_files(&rt)?;
+    check_eq!(rt; recover_file(&rt)?, Ok(redone(1)));
     check_eq!(rt; read_far(&rt)?, whole_page(1, 12320));
     let length = fs::metadata(&rt, "16384.7")?.len();
     remove_files(&rt)?;

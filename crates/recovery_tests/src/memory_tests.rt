@@ -43,11 +43,30 @@ fn recover_one(
     Ok(answer)
 }
 
-/// The lane's pages of block 0 and of another, and how many writes and syncs failed.
-fn look_at(lane: &MemLane, block: Tag) -> ([Option<Kept>; 2], u64) {
-    let first = lane.page(&tag(0)).map(Kept::of);
-    let second = lane.page(&block).map(Kept::of);
-    ([first, second], lane.write_faults())
+/// What a recovery of the lane answers, the lane's pages of block 0 and of that block then, and how many
+/// writes and syncs failed.
+#[derive(Clone, Copy, PartialEq, Debug)]
+struct Recovered {
+    answer: Result<Redone, RecoverError>,
+    pages: [Option<Kept>; 2],
+    faults: u64,
+}
+
+fn recover_and_look(
+    alloc: Global,
+    lanes: &mut [MemLane; 1],
+    block: Tag,
+) -> Result<Recovered, Fail> {
+    let answer = recover_one(alloc, lanes, block)?;
+    let [lane] = lanes;
+    Ok(Recovered {
+        answer,
+        pages: [
+            lane.page(&tag(0)).map(Kept::of),
+            lane.page(&block).map(Kept::of),
+        ],
+        faults: lane.write_faults(),
+    })
 }
 
 /// The one record was redone.
@@ -72,11 +91,13 @@ fn a_block_with_room_is_taken(rt: HostRuntime) -> Result<(), Fail> {
     let alloc = rt.alloc();
     for block in new_blocks() {
         let mut lanes = [lane_with(alloc, &[block])?];
-        let wanted = ([whole_page(100, 2048), whole_page(7, 12320)], 0);
-        let answer = recover_one(alloc, &mut lanes, block)?;
-        check_eq!(rt; (answer, look_at(&lanes[0], block)), (Ok(REDONE), wanted));
-        let again = recover_one(alloc, &mut lanes, block)?;
-        check_eq!(rt; (again, look_at(&lanes[0], block)), (Ok(REDONE), wanted));
+        let wanted = Recovered {
+            answer: Ok(REDONE),
+            pages: [whole_page(100, 2048), whole_page(7, 12320)],
+            faults: 0,
+        };
+        check_eq!(rt; recover_and_look(alloc, &mut lanes, block)?, wanted);
+        check_eq!(rt; recover_and_look(alloc, &mut lanes, block)?, wanted);
     }
     Ok(())
 }
@@ -87,14 +108,19 @@ fn a_block_without_room_is_refused(rt: HostRuntime) -> Result<(), Fail> {
     let alloc = rt.alloc();
     for block in new_blocks() {
         let mut lanes = [lane_with(alloc, &[tag(6)])?];
-        let answer = recover_one(alloc, &mut lanes, block)?;
-        let wanted = ([whole_page(100, 2048), None], 1);
-        let fault = Err(RecoverError::WriteFault);
-        check_eq!(rt; (answer, look_at(&lanes[0], block)), (fault, wanted));
+        let refused = Recovered {
+            answer: Err(RecoverError::WriteFault),
+            pages: [whole_page(100, 2048), None],
+            faults: 1,
+        };
+        check_eq!(rt; recover_and_look(alloc, &mut lanes, block)?, refused);
         lanes[0].reserve(alloc, block)?;
-        let again = recover_one(alloc, &mut lanes, block)?;
-        let wanted = ([whole_page(100, 2048), whole_page(7, 12320)], 1);
-        check_eq!(rt; (again, look_at(&lanes[0], block)), (Ok(REDONE), wanted));
+        let redone = Recovered {
+            answer: Ok(REDONE),
+            pages: [whole_page(100, 2048), whole_page(7, 12320)],
+            faults: 1,
+        };
+        check_eq!(rt; recover_and_look(alloc, &mut lanes, block)?, redone);
     }
     Ok(())
 }

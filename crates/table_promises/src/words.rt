@@ -1,7 +1,7 @@
 //! The words that no frame has.
 ghost use Rattle.std.specs.Prelude.{◌≡◌, ◌+◌, ◌<◌, ◌≤◌};
 ghost use Rattle.history_core.specs.Balances.{added_to};
-ghost use Rattle.history_core.specs.Words.{counter_count, last_published};
+ghost use Rattle.history_core.specs.Words.{counter_count, most_published};
 ghost use Rattle.table_rule.specs.declared.turn.Turn.TheVariants.{Log};
 ghost use Rattle.frame_table.specs.Seats.{CanTurn, IsSeat};
 ghost use Rattle.frame_table.specs.WordSteps.{load_counter, view_of, view_published};
@@ -37,7 +37,7 @@ pub fn add_counter<L: BlockLane, G: LogDevice>(
 )
     requires seat { IsSeat table.now seat.old }
     requires below { number < counter_count }
-    requires room { added_to number seat.old.me.0 + more ≤ last_published }
+    requires room { added_to number seat.old.me.0 + more ≤ most_published }
     ensures { seat.new.me.0 ≡ view_published number more seat.old.me.0 }
 {
     table.add_counter(seat, number, more);

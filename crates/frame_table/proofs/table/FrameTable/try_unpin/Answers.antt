@@ -11,11 +11,11 @@ use Rattle.frame_table.proofs.table.FrameTable.try_unpin.Goals as goal
 pub returns-then-has-clause-did : goal.returns-then-has-clause-did
 returns-then-has-clause-did g c = again _ still c.look-was.ensures.did
 
-pub unpinned-requires : goal.unpinned-requires
-unpinned-requires g c = some_pins _ _ _ _ c.look-was.ensures.did c.requires.pinned.pinned
+pub unpinned-left-requires : goal.unpinned-left-requires
+unpinned-left-requires g c = some_pins _ _ _ _ c.look-was.ensures.did c.requires.pinned.pinned
 
-pub compare_exchange-requires : goal.compare_exchange-requires
-compare_exchange-requires g c = let live : c.look-was.new.seat.me.0.emptied ≡ false = search rules in let a : MayUnpin (link c.look-was.new.seat.me.0 c.args.frame) = search rules in (
+pub compare_exchange-now-requires : goal.compare_exchange-now-requires
+compare_exchange-now-requires g c = let live : c.look-was.new.seat.me.0.emptied ≡ false = search rules in let a : MayUnpin (link c.look-was.new.seat.me.0 c.args.frame) = search rules in (
   search rules,
   (let e = c.state_place.ensures in omega arith),
   rw c.state_place.ensures (unpins_there _ c.args.self.now.table.shared.key _ _ _ _ _ _ c.requires.seat.inside live a.pinned a.no_content a.no_io a.no_wait (sym c.has.ensures ∙ c.if-has.false) c.unpinned-left.ensures),
