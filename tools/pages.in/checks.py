@@ -51,6 +51,9 @@ def quoted_in(piece):
 
 def with_quotes():
     """The text of the page with each function and type in its blocks of code as the crate has it."""
+    if QUOTING not in FILES:
+        raise SystemExit(f"tools/pages.in/checks.py names {QUOTING}, which isn't there: change that "
+                         "name, and run tools/pages")
     sources = sources_by_key()
 
     def as_in_sources(block):
