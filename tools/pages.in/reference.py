@@ -344,7 +344,9 @@ def c_names_page(crates):
         "# PostgreSQL's names", "",
         "For readers who know `bufmgr.c`: the names of PostgreSQL in our comments, and what of ours they "
         "stand at. Functions come first, from the top of the library down, then files, then kinds of "
-        "step, types and definitions; of each the programs' and the tests' last.", "",
+        "step, types and definitions; of each the programs' and the tests' last. Places in crates of "
+        "promises come after all others. A name that isn't here is in no comment; "
+        "[ARCHITECTURE](../ARCHITECTURE.md#what-postgresql-has-and-this-lacks) says what is lacking.", "",
     ]
     places = places_of_c_names(crates)
     kinds = {"Functions, types and fields": False, "Flags, constants and macros": True}
@@ -359,18 +361,21 @@ def c_names_page(crates):
 
 
 def places_of_c_names(crates):
-    """What each name of PostgreSQL stands at, functions first: our name with its crate, and the
-    file. A name is PostgreSQL's if it stands in backquotes in a comment, and in no code."""
+    """What each name of PostgreSQL stands at, functions first, and crates of promises last: our name
+    with its crate, and the file. A name is PostgreSQL's if it stands in backquotes in a comment, and
+    in no code."""
     ours, places, order = words_of_code(crates), {}, {"fn": 0, "file": 1}
     used = {name for crate in crates.values() for name in crate.uses}
     from_the_top = reversed(list(crates.values()))
     for crate in sorted(from_the_top, key=lambda x: x.name not in used):
+        promises = crate.name.endswith("_promises")
         for item in crate.items + crate.specs:
+            rank = (promises, order.get(item.kind, 2))
             for title, comment in comments_of(item):
                 for name in re.findall(r"`(\w{4,})(?:\(\))?`", comment):
                     if name not in ours:
                         place = (f"`{title}` ({crate.name})", item.path)
-                        places.setdefault(name, {}).setdefault(place, order.get(item.kind, 2))
+                        places.setdefault(name, {}).setdefault(place, rank)
     return {name: sorted(found, key=found.get) for name, found in places.items()}
 
 
