@@ -11,7 +11,8 @@ use page_layout::{Lsn, Page};
 use segment_store::BlockLane;
 use std::sync::Wait;
 
-/// Reads a block and puts a page to it. Whether the read was a hit, and what came of the put; None where the block isn't read, or the page is new or isn't sound.
+/// Reads a block and puts a page to it. Whether the read was a hit, and what came of the put; None
+/// if the block isn't read, or the page is new or isn't sound.
 pub fn read_and_put<L: BlockLane, G: LogDevice, R: Wait>(
     manager: &Manager<L, G>,
     rt: &R,
@@ -55,7 +56,7 @@ pub fn put_once<L: BlockLane, G: LogDevice, R: Wait>(
     Some(end)
 }
 
-/// Flushes a block. None where it isn't read.
+/// Flushes a block. None if it isn't read.
 pub fn flush_once<L: BlockLane, G: LogDevice, R: Wait>(
     manager: &Manager<L, G>,
     rt: &R,

@@ -308,7 +308,8 @@ impl Played {
     }
 }
 
-/// The passes of a manager of so many blocks over these devices do acts in order, and the manager is closed.
+/// The passes of a manager of so many blocks over these devices do acts in order, and the manager
+/// is closed.
 pub fn play<R: Threads + Wait + Sync>(
     rt: &R,
     alloc: Global,

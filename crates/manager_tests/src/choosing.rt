@@ -8,7 +8,8 @@ use manager_bench::reading::read_once;
 use segment_store::BlockLane;
 use std::sync::Wait;
 
-/// Reads the blocks from `from` up to `end`. How many were read into the frame of their own number, and where the clock's hand is then.
+/// Reads the blocks from `from` up to `end`. How many were read into the frame of their own number,
+/// and where the clock's hand is then.
 pub fn read_in_order<L: BlockLane, G: LogDevice, R: Wait>(
     manager: &Manager<L, G>,
     rt: &R,

@@ -94,7 +94,7 @@ pub fn look_for<L: BlockLane, G: LogDevice>(
     pinned
 }
 
-/// Waits for the cleanup lock, once another pass has pinned the block. None where it isn't read.
+/// Waits for the cleanup lock, once another pass has pinned the block. None if it isn't read.
 pub fn wait_beside<L: BlockLane, G: LogDevice, R: Wait>(
     manager: &Manager<L, G>,
     rt: &R,
@@ -114,14 +114,16 @@ pub fn wait_beside<L: BlockLane, G: LogDevice, R: Wait>(
     Some(refused)
 }
 
-/// What a pass saw that asked while another waited: the refusal, and how many pages another pass read meanwhile that weren't their blocks'.
+/// What a pass saw that asked while another waited: the refusal, and how many pages another pass
+/// read meanwhile that weren't their blocks'.
 #[derive(Clone, Copy, PartialEq, Debug)]
 pub struct Asked {
     pub refused: Option<CleanupError>,
     pub wrong: Option<u32>,
 }
 
-/// Pins the block 0 until another pass waits, and while a third one reads all blocks; asks for the cleanup lock too, and releases the block.
+/// Pins the block 0 until another pass waits, and while a third one reads all blocks; asks for the
+/// cleanup lock too, and releases the block.
 fn ask_beside<L: BlockLane, G: LogDevice, R: Wait>(
     manager: &Manager<L, G>,
     rt: &R,
@@ -175,14 +177,15 @@ pub fn wait_and_ask<R: Threads + Wait + Sync>(
     )
 }
 
-/// Why a pass doesn't get the cleanup lock of the block 0: while another one pins it, and while that shares its content lock.
+/// Why a pass doesn't get the cleanup lock of the block 0: while another one pins it, and while
+/// that shares its content lock.
 #[derive(Clone, Copy, PartialEq, Debug)]
 pub struct NotAlone {
     pub pinned: Option<TryCleanup>,
     pub shared: Option<TryCleanup>,
 }
 
-/// Tries once. None where it is taken, or the block isn't read.
+/// Tries once. None if it is taken, or the block isn't read.
 fn try_once<L: BlockLane, G: LogDevice, R: Wait>(
     manager: &Manager<L, G>,
     rt: &R,
@@ -201,7 +204,7 @@ fn try_once<L: BlockLane, G: LogDevice, R: Wait>(
     refused
 }
 
-/// Tries twice beside a second pass. None where that doesn't read the block.
+/// Tries twice beside a second pass. None if that doesn't read the block.
 pub fn try_not_alone<L: BlockLane, G: LogDevice, R: Wait>(
     manager: &Manager<L, G>,
     rt: &R,
@@ -225,14 +228,16 @@ pub fn try_not_alone<L: BlockLane, G: LogDevice, R: Wait>(
     Some(NotAlone { pinned, shared })
 }
 
-/// Why a pass doesn't get the cleanup lock of a block of which it has two tokens, and why not once it has one.
+/// Why a pass doesn't get the cleanup lock of a block of which it has two tokens, and why not once
+/// it has one.
 #[derive(Clone, Copy, PartialEq, Debug)]
 pub struct OwnPins {
     pub twice: Option<TryCleanup>,
     pub once: Option<TryCleanup>,
 }
 
-/// Tries with a further token of a block, and gives that back. None where it is taken, or the block isn't read.
+/// Tries with a further token of a block, and gives that back. None if it is taken, or the block
+/// isn't read.
 fn try_with_another<L: BlockLane, G: LogDevice, R: Wait>(
     manager: &Manager<L, G>,
     rt: &R,
@@ -250,7 +255,8 @@ fn try_with_another<L: BlockLane, G: LogDevice, R: Wait>(
     refused
 }
 
-/// Tries with two tokens of a block, and with the one that is left. None where the block isn't read.
+/// Tries with two tokens of a block, and with the one that is left. None if the block isn't
+/// read.
 pub fn try_twice<L: BlockLane, G: LogDevice, R: Wait>(
     manager: &Manager<L, G>,
     rt: &R,
@@ -269,7 +275,7 @@ pub fn try_twice<L: BlockLane, G: LogDevice, R: Wait>(
     Some(OwnPins { twice, once })
 }
 
-/// The same while a second pass pins the block. None where that doesn't read it.
+/// The same while a second pass pins the block. None if that doesn't read it.
 pub fn try_twice_beside<L: BlockLane, G: LogDevice, R: Wait>(
     manager: &Manager<L, G>,
     rt: &R,

@@ -33,7 +33,8 @@ pub fn copy_shared<L: BlockLane, G: LogDevice, R: Wait>(
     Ok(place)
 }
 
-/// Copies the page of each block up to `blocks`, and counts those that aren't the block's. None where there was no memory, or a read was refused.
+/// Copies the page of each block up to `blocks`, and counts those that aren't the block's. None
+/// if there was no memory, or a read was refused.
 pub fn copy_all<L: BlockLane, G: LogDevice, R: Wait>(
     manager: &Manager<L, G>,
     rt: &R,
@@ -73,7 +74,8 @@ pub struct SeenPut {
     pub put: Option<(bool, Result<Lsn, PutError>)>,
 }
 
-/// The first pass pins block 0, and copies its page at this pin before the second one puts `page` to it, and after that.
+/// The first pass pins block 0, and copies its page at this pin before the second one puts `page`
+/// to it, and after that.
 pub fn copy_around_put<L: BlockLane, G: LogDevice, R: Wait>(
     manager: &Manager<L, G>,
     rt: &R,

@@ -25,7 +25,8 @@ pub struct Crowded {
     pub freed: Result<Access, ReadError>,
 }
 
-/// The third pass reads block 16 while the frames are all pinned, eight by the first pass, and after that gave its token of block 0 back.
+/// The third pass reads block 16 while the frames are all pinned, eight by the first pass, and
+/// after that gave its token of block 0 back.
 fn crowd<L: BlockLane, G: LogDevice, R: Wait>(
     manager: &Manager<L, G>,
     rt: &R,
@@ -84,7 +85,8 @@ fn hold_second<L: BlockLane, G: LogDevice, R: Wait>(
     crowded
 }
 
-/// The first pass, which holds block 0, pins the blocks from this one up to 7 before that. None where one of them comes to that block's frame.
+/// The first pass, which holds block 0, pins the blocks from this one up to 7 before that. None
+/// if one of them comes to that block's frame.
 fn hold_first<L: BlockLane, G: LogDevice, R: Wait>(
     manager: &Manager<L, G>,
     rt: &R,
@@ -119,7 +121,8 @@ fn hold_first<L: BlockLane, G: LogDevice, R: Wait>(
     crowded
 }
 
-/// The first pass pins the blocks 0 to 7, and the second one the blocks 8 to 15. The first one then gives block 0 back.
+/// The first pass pins the blocks 0 to 7, and the second one the blocks 8 to 15. The first one then
+/// gives block 0 back.
 pub fn crowd_frames<L: BlockLane, G: LogDevice, R: Wait>(
     manager: &Manager<L, G>,
     rt: &R,

@@ -11,7 +11,8 @@ use manager_bench::reading::{Access, read_once};
 use segment_store::BlockLane;
 use std::sync::Wait;
 
-/// What came of a read, what it saw of the block's hint, and how many latches of partitions the pass had taken by then.
+/// What came of a read, what it saw of the block's hint, and how many latches of partitions the
+/// pass had taken by then.
 #[derive(Clone, Copy, PartialEq, Debug)]
 pub struct Sighted {
     pub access: Access,
@@ -71,7 +72,8 @@ fn hint_of<L: BlockLane, G: LogDevice, R: Wait>(
     pass.hint_seen()
 }
 
-/// What a pass that holds block 0 sees of hints, as it reads block 64, which has the same hint word, block 0 itself, and block 65, which is past the end. None where block 0 isn't read.
+/// What a pass that holds block 0 sees of hints, as it reads block 64, which has the same hint
+/// word, block 0 itself, and block 65, which is past the end. None if block 0 isn't read.
 pub fn hints_beside_own<L: BlockLane, G: LogDevice, R: Wait>(
     manager: &Manager<L, G>,
     rt: &R,

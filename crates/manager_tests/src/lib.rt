@@ -1,5 +1,6 @@
-//! Tests of passes over a small manager: pins, reads, puts, content and cleanup locks, hints, crowded pools. `acts` plays a
-//! list of acts by three passes and says what came of each; the other modules have the acts that take several calls.
+//! Tests of passes over a small manager: pins, reads, puts, content and cleanup locks, hints,
+//! crowded pools. `acts` plays a list of acts by three passes and says what came of each; the other
+//! modules have the acts that take several calls.
 #![tactic(auto)]
 
 #[cfg(test)]

@@ -9,7 +9,7 @@ use manager_bench::reading::{pin, unpin};
 use segment_store::BlockLane;
 use std::sync::Wait;
 
-/// Why the content lock of a block is not taken shared, and why not exclusively; None where it is.
+/// Why the content lock of a block is not taken shared, and why not exclusively; None if it is.
 #[derive(Clone, Copy, PartialEq, Debug)]
 pub struct Refusals {
     pub shared: Option<TryLock>,
@@ -48,7 +48,7 @@ fn exclude_now<L: BlockLane, G: LogDevice>(
     }
 }
 
-/// Tries both. None where the block isn't read.
+/// Tries both. None if the block isn't read.
 pub fn try_both<L: BlockLane, G: LogDevice, R: Wait>(
     manager: &Manager<L, G>,
     rt: &R,

@@ -137,7 +137,8 @@ fn copy_often_twice<R: Threads + Wait + Sync>(
     )
 }
 
-/// How many changes were made, and how many copies of each of two others weren't whole; None where a pass had no memory, or its block wasn't read.
+/// How many changes were made, and how many copies of each of two others weren't whole; None if
+/// a pass had no memory, or its block wasn't read.
 #[derive(Clone, Copy, PartialEq, Debug)]
 pub struct Copied {
     pub changes: Option<u32>,

@@ -121,8 +121,9 @@ fn no_frame_is_left(rt: HostRuntime) -> Result<(), Fail> {
     check_acts(&rt, rt.alloc(), &[Three(All::Crowd)], &wanted)
 }
 
-/// The free list gives the frames in their order, while the clock's hand stays at 0. Then the clock takes the first frame whose usage count it
-/// finds at 0: that of the second block, since the first block was read once more.
+/// The free list gives the frames in their order, while the clock's hand stays at 0. Then the clock
+/// takes the first frame whose usage count it finds at 0: that of the second block, since the first
+/// block was read once more.
 #[test]
 fn fresh_frames_come_before_the_clock(rt: HostRuntime) -> Result<(), Fail> {
     let acts = [
@@ -142,7 +143,8 @@ fn fresh_frames_come_before_the_clock(rt: HostRuntime) -> Result<(), Fail> {
     check_acts(&rt, rt.alloc(), &acts, &wanted)
 }
 
-/// A read that came to this frame, what it saw of the hint, and how many latches its pass had taken by then.
+/// A read that came to this frame, what it saw of the hint, and how many latches its pass had taken
+/// by then.
 fn sighted(frame: u32, hit: bool, hint: HintSeen, turns: u64) -> Answer {
     Answer::Sight(Ok(Sighted {
         access: access(frame, hit),
@@ -151,7 +153,8 @@ fn sighted(frame: u32, hit: bool, hint: HintSeen, turns: u64) -> Answer {
     }))
 }
 
-/// The blocks 0 and 64 have one hint word. It names no frame, then that of the block that was entered, or found by the map, last.
+/// The blocks 0 and 64 have one hint word. It names no frame, then that of the block that was
+/// entered, or found by the map, last.
 #[test]
 fn a_right_hint_takes_no_latch(rt: HostRuntime) -> Result<(), Fail> {
     let acts = [

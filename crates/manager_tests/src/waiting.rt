@@ -18,7 +18,8 @@ type TestManager = Manager<TestLane, TestLog>;
 /// Why the cleanup locks of the blocks 0 and 1 are not taken; None for a block that isn't read.
 pub type Waited = (Option<Option<CleanupError>>, Option<Option<CleanupError>>);
 
-/// Pins a block until another pass waits for it, asks for the cleanup lock too, and releases the block.
+/// Pins a block until another pass waits for it, asks for the cleanup lock too, and releases the
+/// block.
 fn ask_once<L: BlockLane, G: LogDevice, R: Wait>(
     manager: &Manager<L, G>,
     rt: &R,
@@ -93,7 +94,8 @@ fn wait_twice<R: Threads + Wait + Sync>(
     )
 }
 
-/// The first two passes wait for the blocks 0 and 1, which the third one pins and asks for. What the third was refused, and the two.
+/// The first two passes wait for the blocks 0 and 1, which the third one pins and asks for. What
+/// the third was refused, and the two.
 pub fn wait_at_both<R: Threads + Wait + Sync>(
     manager: &TestManager,
     rt: &R,

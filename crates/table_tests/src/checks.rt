@@ -1,5 +1,6 @@
-//! What the tests compare with. A test calls these in place of `assert_eq!` and `assert!`: each of those is proved where it
-//! stands, with all that it may print, and takes the prover a second; a call takes it some hundredths.
+//! What the tests compare with. A test calls these in place of `assert_eq!` and `assert!`: each of
+//! those is proved where it stands, with all that it may print, and takes the prover a second; a
+//! call takes it some hundredths.
 use std::fmt::{Debug, Display};
 use std::process::Abort;
 

@@ -16,7 +16,8 @@ struct Taken {
     squares: u64,
 }
 
-/// Each of 100 chunks once. A chunk that is claimed twice in another's place would change one of the sums.
+/// Each of 100 chunks once. A chunk that is claimed twice in another's place would change one of
+/// the sums.
 const EACH_ONCE: Taken = Taken {
     count: 100,
     sum: 4950,

@@ -26,7 +26,8 @@ fn catalog(alloc: Global) -> Result<Catalog, CatalogError> {
     Catalog::build(alloc, &[entry])
 }
 
-/// A table of 16 frames over one lane and a log that begins at 8, for four backends, whose first one holds nothing.
+/// A table of 16 frames over one lane and a log that begins at 8, for four backends, whose first
+/// one holds nothing.
 pub fn table(alloc: Global) -> Result<(Table, TableSeat), AllocError>
     ensures frames { IfOk result (λ t. frames_of t.0 ≡ 16) }
     ensures backends { IfOk result (λ t. backends_of t.0 ≡ 4) }

@@ -17,7 +17,7 @@ pub struct Freed {
     pub pushed: bool,
 }
 
-/// Chooses a frame and frees it. None where no frame is chosen.
+/// Chooses a frame and frees it. None if no frame is chosen.
 fn free_victim<R: Wait>(
     table: &Table,
     rt: &R,

@@ -23,7 +23,8 @@ const BLOCK: Tag = Tag {
     block: 0,
 };
 
-/// What a read of it saw of its hint, and the frame that it came into; None where the read was refused.
+/// What a read of it saw of its hint, and the frame that it came into; None if the read was
+/// refused.
 #[derive(Clone, Copy, PartialEq, Debug)]
 pub struct Sighted {
     pub hint: HintSeen,

@@ -1,6 +1,6 @@
-//! Tests of what backends share without a manager: a small table, with its pins, the free list, hints, the values in its
-//! slots and the positions of its log; the claims of a job's chunks; and the window of a job's texts. There is nothing in
-//! it to call.
+//! Tests of what backends share without a manager: a small table, with its pins, the free list,
+//! hints, the values in its slots and the positions of its log; the claims of a job's chunks; and
+//! the window of a job's texts. There is nothing in it to call.
 #![tactic(auto)]
 
 #[cfg(test)]

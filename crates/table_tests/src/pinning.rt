@@ -44,7 +44,8 @@ pub fn refusal_beside<R: Wait>(
     refused
 }
 
-/// Why the first backend doesn't pin a frame while a second one has its header. The second one comes and goes.
+/// Why the first backend doesn't pin a frame while a second one has its header. The second one
+/// comes and goes.
 pub fn refusal_of_two<R: Wait>(
     table: &Table,
     rt: &R,

@@ -7,7 +7,8 @@ use frame_table::{Place, Turn, Value};
 use map_partitions::{give_turn, take_turn};
 use std::sync::Wait;
 
-/// How many entries the map of a partition has, and for how many there is room. The map goes out under the partition's latch, and comes back as it was.
+/// How many entries the map of a partition has, and for how many there is room. The map goes out
+/// under the partition's latch, and comes back as it was.
 pub fn count_entries<R: Wait>(
     table: &Table,
     rt: &R,

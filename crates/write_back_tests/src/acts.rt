@@ -52,9 +52,9 @@ pub enum Answer {
     Put(Option<Result<Lsn, PutError>>),
     Read(Result<Access, ReadError>),
     Copy(Result<Copied, ReadError>),
-    /// None where the block isn't read.
+    /// None if the block isn't read.
     Flush(Option<Result<bool, FlushError>>),
-    /// None where the block beside isn't read.
+    /// None if the block beside isn't read.
     Round(Option<Result<Round, FlushError>>),
     Checkpoint(Result<Checkpoint, CheckpointError>),
 }
@@ -80,7 +80,7 @@ impl Tools {
     }
 }
 
-/// Makes a round while another pass pins a block. None where that isn't read.
+/// Makes a round while another pass pins a block. None if that isn't read.
 fn round_beside<L: BlockLane, G: LogDevice, R: Wait>(
     manager: &Manager<L, G>,
     rt: &R,
@@ -199,8 +199,8 @@ impl Played {
     }
 }
 
-/// The passes of a manager of so many frames over these devices do acts in order, the first one by a ring, if any, and the
-/// manager is closed.
+/// The passes of a manager of so many frames over these devices do acts in order, the first one by
+/// a ring, if any, and the manager is closed.
 pub fn play<R: Wait>(
     rt: &R,
     alloc: Global,

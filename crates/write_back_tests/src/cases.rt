@@ -104,7 +104,8 @@ fn play_case<R: Wait>(rt: &R, alloc: Global, case: &Case<'_>) -> Result<Box<Play
     Ok(play(rt, alloc, case.frames, lanes, log, ring, &acts)?)
 }
 
-/// Plays a case, and fails the test unless this comes of it. A put takes a read of the lane and an append.
+/// Plays a case, and fails the test unless this comes of it. A put takes a read of the lane and an
+/// append.
 pub fn check_case<R: Abort + Wait>(
     rt: &R,
     alloc: Global,

@@ -64,7 +64,8 @@ fn in_order(mut numbered: Vec<Numbered>, alloc: Global) -> Result<Vec<TestCall>,
     Ok(calls)
 }
 
-/// Which call of a device fails, counted from 1: a read of a lane; a write of a lane, or an append to a log; or a sync.
+/// Which call of a device fails, counted from 1: a read of a lane; a write of a lane, or an append
+/// to a log; or a sync.
 #[derive(Clone, Copy, PartialEq, Eq)]
 pub enum Failing {
     None,

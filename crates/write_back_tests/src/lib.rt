@@ -1,6 +1,7 @@
-//! Tests of the background writer, the checkpointer and the jobs over a small manager. `acts` plays a list of acts by
-//! three passes and says what came of each, `cases` has such lists as data, `sharing` runs rounds or checkpoints beside
-//! two threads that read and put, and `devices` has lanes and logs that note their calls.
+//! Tests of the background writer, the checkpointer and the jobs over a small manager. `acts` plays
+//! a list of acts by three passes and says what came of each, `cases` has such lists as data,
+//! `sharing` runs rounds or checkpoints beside two threads that read and put, and `devices` has
+//! lanes and logs that note their calls.
 #![tactic(auto)]
 
 #[cfg(test)]

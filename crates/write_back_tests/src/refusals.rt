@@ -13,7 +13,8 @@ use std::process::Abort;
 use std::sync::Wait;
 use std::test::Fail;
 
-/// What the devices hold: the position of the page of block 0 in the lane, and how many bytes the log has.
+/// What the devices hold: the position of the page of block 0 in the lane, and how many bytes the
+/// log has.
 #[derive(Clone, Copy, PartialEq, Debug)]
 struct Stored {
     lsn: Option<Lsn>,

@@ -17,7 +17,8 @@ use std::sync::atomic::{AtomicU64, Ordering};
 use std::test::Fail;
 use std::thread;
 
-/// The header and the line pointers of a page with an item between two dead line pointers: log position 0/16B3740, lower 36, upper 8176, special 8192.
+/// The header and the line pointers of a page with an item between two dead line pointers: log
+/// position 0/16B3740, lower 36, upper 8176, special 8192.
 const DEAD_FRONT: [u8; 36] = [
     0x00, 0x00, 0x00, 0x00, 0x40, 0x37, 0x6b, 0x01, 0x00, 0x00, 0x00, 0x00, 0x24, 0x00, 0xf0, 0x1f,
     0x00, 0x20, 0x04, 0x20, 0x00, 0x00, 0x00, 0x00, 0x00, 0x80, 0x01, 0x00, 0xf0, 0x9f, 0x08, 0x00,

@@ -21,8 +21,8 @@ pub struct Rewritten {
     pub calls: Vec<TestCall>,
 }
 
-/// One pass of a manager of 16 frames rewrites a relation of four blocks, with this work beside it by the other one,
-/// which makes a checkpoint after that.
+/// One pass of a manager of 16 frames rewrites a relation of four blocks, with this work beside it
+/// by the other one, which makes a checkpoint after that.
 pub fn rewrite_then_checkpoint<R, T, B>(
     rt: &R,
     alloc: Global,

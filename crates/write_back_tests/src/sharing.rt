@@ -65,7 +65,8 @@ fn use_once<R: Wait>(
     }
 }
 
-/// Does so with so many blocks, one after another, and counts those with which it went well. None without memory.
+/// Does so with so many blocks, one after another, and counts those with which it went well. None
+/// without memory.
 fn use_often<R: Wait>(
     manager: &TestManager,
     rt: &R,
@@ -119,7 +120,8 @@ fn use_often_twice<R: Threads + Wait + Sync>(
     )
 }
 
-/// Makes a round, which has to look at all 16 frames, or a checkpoint. Where the checkpoint began; None where it was refused.
+/// Makes a round, which has to look at all 16 frames, or a checkpoint. Where the checkpoint began;
+/// None if it was refused.
 fn sync_once<R: Wait>(
     manager: &TestManager,
     rt: &R,
@@ -142,7 +144,7 @@ fn sync_once<R: Wait>(
     }
 }
 
-/// Does so so many times. Where the last checkpoint began; None where one was refused.
+/// Does so so many times. Where the last checkpoint began; None if one was refused.
 fn sync_often<R: Wait>(
     manager: &TestManager,
     rt: &R,
@@ -162,7 +164,8 @@ fn sync_often<R: Wait>(
     Some(upto)
 }
 
-/// What came of the passes: with how many blocks each of two went well, and where the third one's last checkpoint began.
+/// What came of the passes: with how many blocks each of two went well, and where the third one's
+/// last checkpoint began.
 #[derive(Clone, Copy, PartialEq, Debug)]
 pub struct Beside {
     pub used: (Option<u32>, Option<u32>),
@@ -211,7 +214,8 @@ pub struct Ran {
     pub log: ByteLog,
 }
 
-/// Two passes of a manager of 16 frames over these devices use blocks while the third one makes rounds or checkpoints, and the manager is closed.
+/// Two passes of a manager of 16 frames over these devices use blocks while the third one makes
+/// rounds or checkpoints, and the manager is closed.
 pub fn run_beside<R: Threads + Wait + Sync>(
     rt: &R,
     alloc: Global,

@@ -169,7 +169,8 @@ fn a_round_starts_at_the_hand(rt: HostRuntime) -> Result<(), Fail> {
     let case = Case {
         puts: 16,
         acts: &[
-            // The clock passes each frame once. Block 16 takes the frame of block 0, and block 17 that of block 2, as block 1 is used again.
+            // The clock passes each frame once. Block 16 takes the frame of block 0, and block 17
+            // that of block 2, as block 1 is used again.
             Act::Read(16),
             Act::Read(1),
             Act::Read(17),

@@ -1,7 +1,8 @@
 use denote.Exit.{no}
 use denote.Param.Send.{IsSend, param_send, arg_send, mut_send, shr_send}
 use Rattle.backend_pass.proofs.Crossing.{globals_shared, passes_sent}
-use Rattle.manager_tests.proofs.Crossing.{five_sent, managers_shared, numbers_shared}
+use Rattle.manager_bench.proofs.Crossing.{numbers_shared}
+use Rattle.manager_tests.proofs.Crossing.{five_sent, managers_shared}
 use Rattle.manager_tests.proofs.sharing.copy_often_twice.Lts.{arg-0-1}
 use Rattle.manager_tests.proofs.sharing.copy_often_twice.Goals as goal
 
