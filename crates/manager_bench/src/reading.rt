@@ -2,7 +2,7 @@
 ghost use Rattle.std.specs.Prelude.{IfErr, IfOk};
 ghost use Rattle.pin_core.specs.declared.view.Content.TheVariants.{Unlocked};
 ghost use Rattle.backend_pass.specs.Managers.{Belongs};
-ghost use Rattle.manager_bench.specs.Bench.{HasOnly, IsFree, Returns};
+ghost use Rattle.manager_bench.specs.Bench.{HasOnly, IsFree};
 
 use crate::bench::block;
 use access_rings::Ring;
