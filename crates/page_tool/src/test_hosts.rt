@@ -177,9 +177,9 @@ fn source_plan(alloc: Global, failing: Failing) -> Result<SourcePlan, Fail> {
 }
 
 fn empty_logs(alloc: Global, failing: Failing) -> Result<MemLogs, Fail> {
+    let sources = source_plan(alloc, failing)?;
     let calls = [failing.log_openings, failing.appends, failing.log_syncs];
     let [openings, appends, syncs] = plans(alloc, calls)?;
-    let sources = source_plan(alloc, failing)?;
     let calls = LogPlan { appends, syncs };
     Ok(MemLogs::new(alloc, LOG_ROOM, openings, calls, sources))
 }
