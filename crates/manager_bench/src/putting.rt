@@ -1,10 +1,9 @@
 //! Pages that are put, and flushed.
 ghost use Rattle.manager_bench.specs.Bench.{IsFree};
 
-use crate::bench::block;
 use crate::reading::{pin, unpin};
 use access_rings::Ring;
-use backend_pass::{FlushError, Manager, Pass, PutError, ReadError};
+use backend_pass::{FlushError, Manager, Pass, PutError};
 use block_tag::Tag;
 use log_device::LogDevice;
 use page_layout::{Lsn, Page};

@@ -1,19 +1,19 @@
 //! Blocks that are read.
 ghost use Rattle.std.specs.Prelude.{IfErr, IfOk};
 ghost use Rattle.pin_core.specs.declared.view.Content.TheVariants.{Unlocked};
+<<<<<<< HEAD
 ghost use Rattle.backend_pass.specs.Managers.{Belongs};
+=======
+>>>>>>> acd1657f75d9eb5e19aa900f5e1d7a7337d4c0fe
 ghost use Rattle.manager_bench.specs.Bench.{HasOnly, IsFree};
 
-use crate::bench::block;
 use access_rings::Ring;
 use backend_pass::{Manager, Pass, Pinned, ReadError};
 use block_tag::Tag;
 use log_device::LogDevice;
 use page_layout::{Lsn, Page};
 use segment_store::BlockLane;
-use std::alloc::Global;
 use std::sync::Wait;
-use test_devices::one_item;
 
 /// The frame that a block was read into, and whether no lane was read.
 #[derive(Clone, Copy, PartialEq, Debug)]

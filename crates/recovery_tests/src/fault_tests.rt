@@ -1,6 +1,6 @@
 //! Recoveries of which one call fails, and those that are made after them.
 use crate::bench::{
-    NONE, Outcome, lanes_before, outcome_of, recover_by, recover_lanes, source, whole_page,
+    Held, NONE, Outcome, lanes_before, outcome_of, recover_by, recover_lanes, source, whole_page,
 };
 use crate::checks::check_eq;
 use crate::kept_lane::{Failing, KeptLane};
@@ -66,8 +66,11 @@ fn a_write_fails(rt: HostRuntime) -> Result<(), Fail> {
             whole_page(second.0, second.1),
             whole_page(102, 2048),
         ];
-        let wanted = (Err(RecoverError::WriteFault), pages);
-        check_eq!(rt; (found.answer, found.held.pages), wanted, "write {write}");
+        let wanted = Outcome {
+            answer: Err(RecoverError::WriteFault),
+            held: Held { pages, blocks: 3 },
+        };
+        check_eq!(rt; found, wanted, "write {write}");
         recover_again(&rt, alloc, &mut lanes, &log)?;
     }
     Ok(())
