@@ -1,10 +1,6 @@
 //! Blocks that are read.
 ghost use Rattle.std.specs.Prelude.{IfErr, IfOk};
 ghost use Rattle.pin_core.specs.declared.view.Content.TheVariants.{Unlocked};
-<<<<<<< HEAD
-ghost use Rattle.backend_pass.specs.Managers.{Belongs};
-=======
->>>>>>> acd1657f75d9eb5e19aa900f5e1d7a7337d4c0fe
 ghost use Rattle.manager_bench.specs.Bench.{HasOnly, IsFree};
 
 use access_rings::Ring;
