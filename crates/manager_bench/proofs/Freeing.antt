@@ -63,7 +63,7 @@ module _ {L G : Type 0} (contents : L → Option Pages) (m : Manager L G) where
       }
 
   -- a call that keeps what a pass keeps
-  pub number_kept : (i : ℕ) (p q : PassState) → IsNumber contents m i p → Belongs contents m q → KeepsPass p q → IsNumber contents m i q
+  number_kept : (i : ℕ) (p q : PassState) → IsNumber contents m i p → Belongs contents m q → KeepsPass p q → IsNumber contents m i q
   number_kept i p q is b k = record {
     belongs = b;
     number = k.number ∙ is.number;
@@ -73,13 +73,9 @@ module _ {L G : Type 0} (contents : L → Option Pages) (m : Manager L G) where
     part = λ other. ap (λ (x : PassOwn). x.queue.known.parts) k.own ∙ is.part other;
   }
 
-  -- a call that leaves tokens and locks
-  pub still_free : (i : ℕ) (p q : PassState) → IsFree contents m i p → Belongs contents m q → SamePass p q → KeepsLocks p q → q.tokens ≡ p.tokens → IsFree contents m i q
-  still_free i p q free b s locks tokens = record {
-    is = number_kept i p q free.is b s.keeps;
-    spent = tokens ∙ free.spent;
-    unlocked = λ f. locks f ∙ free.unlocked f;
-  }
+  -- a call that leaves tokens and locks as they were
+  pub free_kept : (i : ℕ) (p q : PassState) → IsFree contents m i p → Belongs contents m q → SamePass p q → q.tokens ≡ p.tokens → KeepsLocks p q → IsFree contents m i q
+  free_kept i p q free b s tokens locks = record { is = number_kept i p q free.is b s.keeps; spent = tokens ∙ free.spent; unlocked = λ f. locks f ∙ free.unlocked f }
 
   -- a pin
   pub only_pinned : (pinned : Pinned) (i : ℕ) (p q : PassState) → IsFree contents m i p → Belongs contents m q → SamePass p q → KeepsLocks p q → IsPinnedFor pinned.tag pinned.frame q.tokens → tokens_less pinned.frame q.tokens ≡ p.tokens → HasOnly contents Unlocked pinned m i q

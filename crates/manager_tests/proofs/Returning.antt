@@ -18,7 +18,7 @@ use Rattle.backend_pass.specs.Passes.{KeepsLocks, PassState, SamePass}
 use Rattle.backend_pass.proofs.Keeping.{pass_none}
 use Rattle.backend_pass.proofs.Seated.{same_on}
 use Rattle.manager_bench.specs.Bench.{IsFree}
-use Rattle.manager_bench.proofs.Freeing.{number_kept}
+use Rattle.manager_bench.proofs.Freeing.{free_kept}
 use Rattle.manager_tests.specs.Tokens.{HasToken, Returns, ReturnsWithout}
 
 -- a token less of each of two frames, in either order
@@ -94,7 +94,7 @@ module _ {L G : Type 0} (contents : L → Option Pages) (m : Manager L G) where
 
   -- calls that give back what they took
   pub free_returned : (i : ℕ) (p q : PassState) → IsFree contents m i p → Returns contents m p q → IsFree contents m i q
-  free_returned i p q free r = record { is = number_kept contents m i p q free.is r.belongs r.same.keeps; spent = r.tokens ∙ free.spent; unlocked = λ f. r.locks f ∙ free.unlocked f }
+  free_returned i p q free r = free_kept contents m i p q free r.belongs r.same r.tokens r.locks
 
   -- a token that is given back
   pub without_one : (f : ℕ) (p u q : PassState) → Returns contents m p u → Belongs contents m q → SamePass u q → q.tokens ≡ tokens_less f u.tokens → KeepsLocks u q → ReturnsWithout contents m f p q
