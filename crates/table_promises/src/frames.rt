@@ -70,7 +70,7 @@ pub fn is_of_block<L: BlockLane, G: LogDevice>(
 
 /// A victim loses its block only if its state word, under the header, shows one pin, the backend's
 /// own, and a clean page (`InvalidateVictimBuffer`).
-pub fn reassign<L: BlockLane, G: LogDevice>(
+pub fn take_tag<L: BlockLane, G: LogDevice>(
     table: &FrameTable<L, G>,
     seat: &mut Seat<Value<L, G>, View>,
     frame: u32,
@@ -127,11 +127,14 @@ pub fn lower_usage<L: BlockLane, G: LogDevice, R: Wait>(
 )
     requires seat { CanStep table.now seat.old frame }
     requires headless { HoldsNoHeader seat.old.me.0 }
+    requires settled { (link seat.old.me.0 frame).pending ≡ false }
 {
     let word = table.lock_header(rt, seat, frame);
     if pins(word) == 0 && usage(word) != 0 {
         table.lower_usage(seat, frame, word);
+        return;
     }
+    table.unlock_header(seat, frame);
 }
 
 /// A content lock is taken exclusively only if no backend has it (`LWLockAttemptLock`).

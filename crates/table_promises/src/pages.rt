@@ -109,7 +109,8 @@ pub fn flush<L: BlockLane, G: LogDevice, R: Wait>(
 }
 
 /// A write that failed leaves the frame dirty (`AbortBufferIO`): it doesn't end as one that was
-/// made.
+/// made. Whether it was made is a premise here: a lane notes that at the frame as it comes back
+/// (`FrameTable::lane_back`), and that asks for all that a flush has by then.
 pub fn end_write<L: BlockLane, G: LogDevice, R: Wait>(
     table: &FrameTable<L, G>,
     rt: &R,

@@ -1,5 +1,5 @@
 //! The words that no frame has.
-ghost use Rattle.std.specs.Prelude.{◌≡◌, ◌+◌, ◌<◌, ◌≤◌};
+ghost use Rattle.std.specs.Prelude.{◌≡◌, ◌+◌, ◌<◌, ◌≤◌, None};
 ghost use Rattle.history_core.specs.Balances.{added_to};
 ghost use Rattle.history_core.specs.Words.{counter_count, most_published};
 ghost use Rattle.table_rule.specs.declared.turn.Turn.TheVariants.{Log};
@@ -22,10 +22,12 @@ pub fn raise_redo<L: BlockLane, G: LogDevice, R: Wait>(
 )
     requires seat { IsSeat table.now seat.old }
     requires turn { CanTurn table.now seat.old Log }
+    requires home { (seat.old.me.0.log.out ≡ None) × (seat.old.me.0.log.appended ≡ None) }
 {
     table.take_turn(rt, seat, Turn::Log);
     let end = table.load_log_end(seat, EndLoad::Plain);
     table.raise_redo(seat, end);
+    table.leave_turn(seat, Turn::Log);
 }
 
 /// What a backend adds to a counter is added once (`pgstat_count_io_op_n`).
