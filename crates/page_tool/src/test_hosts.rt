@@ -177,10 +177,12 @@ fn source_plan(alloc: Global, failing: Failing) -> Result<SourcePlan, Fail> {
 }
 
 fn empty_logs(alloc: Global, failing: Failing) -> Result<MemLogs, Fail> {
-    let calls = [failing.log_openings, failing.appends, failing.log_syncs];
-    let [openings, appends, syncs] = plans(alloc, calls)?;
     let sources = source_plan(alloc, failing)?;
-    let calls = LogPlan { appends, syncs };
+    let openings = plan(alloc, failing.log_openings)?;
+    let calls = LogPlan {
+        appends: plan(alloc, failing.appends)?,
+        syncs: plan(alloc, failing.log_syncs)?,
+    };
     Ok(MemLogs::new(alloc, LOG_ROOM, openings, calls, sources))
 }
 

@@ -1,10 +1,11 @@
 //! Pins, tags and locks of frames.
-ghost use Rattle.std.specs.Prelude.{◌≡◌, ◌≢◌, ℕ, None, Some, IfNone, false, true};
+ghost use Rattle.std.specs.Prelude.{◌≡◌, ◌≢◌, ℕ, None, Some, false, true};
 ghost use Rattle.std.specs.Bool.{OnTrue};
 ghost use Rattle.state_word.specs.Fields.{fields};
 ghost use Rattle.block_tag.specs.Names.{names_block, packed_tag, partition_number};
 ghost use Rattle.pin_core.specs.declared.view.Content.TheVariants.{Unlocked};
 ghost use Rattle.pin_core.specs.declared.view.Io.TheVariants.{Quiet};
+ghost use Rattle.pin_core.specs.declared.view.MapChange.TheVariants.{Stable};
 ghost use Rattle.pin_core.specs.declared.view.Role.TheVariants.{Absent, HandedOut, Victim};
 ghost use Rattle.pin_core.specs.State.{link};
 ghost use Rattle.pin_core.specs.Steps.{HoldsNoHeader};
@@ -13,13 +14,16 @@ ghost use Rattle.table_rule.specs.Layout.{tag_partition};
 ghost use Rattle.table_rule.specs.declared.turn.Turn.TheVariants.{Partition};
 ghost use Rattle.frame_table.specs.Content.{CanLock, exclusive_link};
 ghost use Rattle.frame_table.specs.Latches.{MayLeave};
-ghost use Rattle.frame_table.specs.Seats.{CanStep, CanTurn, Finds, HasFlag, HasOnlyPin, HoldsWord, Lacks, MayChange, relations_of};
+ghost use Rattle.frame_table.specs.Seats.{CanStep, CanTurn, Finds, HasFlag, HasOnlyPin, HoldsWord, MayChange, relations_of};
+ghost use Rattle.map_partitions.specs.Partition.{HoldsLatch};
+ghost use Rattle.buffer_frames.specs.Rests.{HasOneLatch};
 
 use atomic_table::Seat;
 use block_tag::Tag;
 use content_locks::exclusive;
 use frame_table::{FrameTable, Pin, Value};
 use log_device::LogDevice;
+use map_partitions::find;
 use pin_core::View;
 use segment_store::BlockLane;
 use state_word::{Flag, has, pins, usage};
@@ -96,21 +100,21 @@ pub fn insert_new<L: BlockLane, G: LogDevice>(
     seat: &mut Seat<Value<L, G>, View>,
     frame: u32,
     tag: Tag,
-    found: Option<u32>,
-) -> bool
+) -> Option<u32>
     requires seat { CanStep table.now seat.old frame }
+    requires turn { CanTurn table.now seat.old (Partition (partition_number tag)) }
     requires alone { HasOnlyPin (link seat.old.me.0 frame) }
+    requires untagged { HoldsWord (HasFlag false) (link seat.old.me.0 frame) }
     requires tag { names_block tag ≡ true }
     requires block { has_block (relations_of table.now) tag ≡ true }
-    requires untagged { HoldsWord (HasFlag false) (link seat.old.me.0 frame) }
-    requires latch { MayChange seat.old.me.0 (partition_number tag) }
-    requires lacks { IfNone found (Lacks seat.old.me.0 (packed_tag tag)) }
+    requires latch { HasOneLatch (partition_number tag) seat.old.me.0 }
+    requires holds { HoldsLatch Stable seat.old.me.0 (partition_number tag) }
 {
-    if found.is_some() {
-        return false;
+    if let Some(other) = find(table, seat, &tag) {
+        return Some(other);
     }
     table.store_tag(seat, frame, Some(tag));
-    true
+    None
 }
 
 /// A state word is stored only under its header, and made of the word that was found there
