@@ -4,7 +4,8 @@
 -- bytes.
 -- A failed append leaves the first bytes of the record, and its backend lists the block and the
 -- page. It is a list, so the joined view needs no law that only one backend can have failed.
-use Rattle.std.specs.Prelude.{◌≡◌, ◌≢◌, ℕ, ◌+◌, ◌<◌, ◌≤◌, Bool, true, false, List, [], ◌∷◌, ◌++◌, length, Option, Some, None, ◌||◌}
+use Rattle.std.specs.Prelude.{◌≡◌, ◌≢◌, ℕ, ◌+◌, ◌<◌, ◌≤◌, Bool, true, false, List, [], ◌∷◌, ◌++◌}
+use Rattle.std.specs.Prelude.{length, Option, Some, None, ◌||◌}
 use Rattle.pin_core.specs.declared.view.LogChange.{LogChange}
 use Rattle.pin_core.specs.declared.view.LogChange.TheVariants as change
 use Rattle.pin_core.specs.declared.view.TakenLog.{TakenLog}
@@ -21,85 +22,130 @@ use Rattle.history_core.specs.State.{Device, last_count}
 use Rattle.history_core.specs.Lanes.{Rises}
 use Rattle.grid.specs.Shape.{Shape, Part}
 
--- a call that fails makes the count of faults rise to the number that is its last field; a sync that fails may make some of the bytes durable, up to the number before that
+-- The kinds of step at the log's latch. A call that fails makes the count of faults rise to the
+-- number that is its last field; a sync that fails may make some of the bytes durable, up to the
+-- number before that
 pub data LogKind : Type 0 where
   -- the latch is taken (`WALWriteLock`)
   take_log : LogKind
-  -- and left
+  -- the latch is left
   leave_log : LogKind
   -- the device goes out to the holder, and this is what it is then
   log_out : TakenLog → LogKind
-  -- the holder appends the bytes of a record, of a changed page of a frame's block; or fails to, and then the device has some of them
+  -- the holder appends the bytes of a record, of a changed page of a frame's block
   append : ℕ → ℕ → Page → List ℕ → LogKind
+  -- the holder fails to append such a record, and the device has some of its bytes
   fail_append : ℕ → ℕ → Page → List ℕ → ℕ → LogKind
-  -- it makes the bytes durable (`XLogFlush`), or fails to
+  -- the holder makes the bytes durable (`XLogFlush`)
   sync_log : LogKind
+  -- the holder fails to make the bytes durable
   fail_sync : ℕ → ℕ → LogKind
   -- the device comes back; the backend counts a fault, or none
   log_back : Bool → LogKind
   -- the holder sees that the log is down
   see_down : LogKind
 
+-- whether a call of the log's device failed
 abbrev pub is_failed : LogChange → Bool
 is_failed change.AppendFailed = true
 is_failed change.SyncFailed = true
 is_failed _ = false
 
+-- A backend may take the log's latch (`WALWriteLock`)
 pub record CanTakeLog (d : Device) (h : LogHold) : Type 0 where
+  -- the log's latch is free
   pub free : d.taken ≡ false
 
--- a record that was appended is part of the log by then
+-- The holder may leave the log's latch; a record that was appended is part of the log by then
 pub record CanLeaveLog (d : Device) (h : LogHold) : Type 0 where
+  -- the backend holds the latch
   pub held : h.held ≡ true
+  -- the device isn't out
   pub home : h.out ≡ None
+  -- a record that was appended is part of the log
   pub entered : h.appended ≡ None
 
+-- The holder of the latch may take the log's device out; what is noted of it is what it is
 pub record CanTakeDevice (taken : TakenLog) (d : Device) (h : LogHold) : Type 0 where
+  -- the backend holds the latch
   pub held : h.held ≡ true
+  -- the device isn't out
   pub home : h.out ≡ None
+  -- the count of faults that is noted is the device's
   pub faults : taken.faults ≡ d.faults
+  -- the number of durable bytes that is noted is the device's
   pub synced : taken.synced ≡ d.synced
+  -- whether the log is down is noted, and the end that it had at the failure
   pub down : taken.down ≡ d.down
+  -- if bytes are noted, they are the device's
   pub bytes : (bytes : List ℕ) → taken.bytes ≡ Some bytes → bytes ≡ d.bytes
 
--- one call each time that the device is out, and none once the log is down
+-- The holder may call the log's device: once each time that it is out, and never once the log is
+-- down
 pub record CanCallLog (d : Device) (h : LogHold) : Type 0 where
+  -- the device is out
   pub out : h.out ≢ None
+  -- the device wasn't called since it went out
   pub once : h.change ≡ change.Untouched
+  -- the log isn't down
   pub up : d.down ≡ None
 
--- one record at a time, and none after a sync under this latch
+-- The holder may append: one record at a time, and none after a sync under this latch
 pub record CanAppend (bytes : List ℕ) (d : Device) (h : LogHold) : Type 0 where
+  -- the device is out, wasn't called since it went out, and the log isn't down
   pub call : CanCallLog d h
+  -- no record is appended that isn't part of the log yet
   pub entered : h.appended ≡ None
+  -- the device wasn't synced under this latch
   pub unsynced : h.synced ≡ false
+  -- the bytes are no more than a record of a page has
   pub short : length bytes ≤ record_size
 
+-- An append may fail
 pub record CanFailAppend (bytes : List ℕ) (n : ℕ) (d : Device) (h : LogHold) : Type 0 where
+  -- the device is out, wasn't called since it went out, and the log isn't down
   pub call : CanCallLog d h
+  -- the count of faults rises to n, or stays at its last value
   pub rises : Rises d.faults n
+  -- no record is appended that isn't part of the log yet
   pub entered : h.appended ≡ None
+  -- the device wasn't synced under this latch
   pub unsynced : h.synced ≡ false
+  -- the bytes are no more than a record of a page has
   pub part : length bytes ≤ record_size
 
--- the bytes that are durable stay so; a record that was appended is part of the log by then
+-- A sync may fail; bytes that are durable stay so, and a record that was appended is part of the
+-- log by then
 pub record CanFailSync (synced n : ℕ) (d : Device) (h : LogHold) : Type 0 where
+  -- the device is out, wasn't called since it went out, and the log isn't down
   pub call : CanCallLog d h
+  -- the count of faults rises to n, or stays at its last value
   pub rises : Rises d.faults n
+  -- a record that was appended is part of the log
   pub entered : h.appended ≡ None
+  -- what was durable stays durable
   pub later : d.synced ≤ synced
+  -- no more bytes are durable than there are
   pub within : synced ≤ length d.bytes
 
--- a fault is counted only for a call that failed, and is where the count rose
+-- The holder may return the device: a fault is counted only if the call failed, and always if the
+-- count rose
 pub record CanReturnLog (noted : Bool) (d : Device) (h : LogHold) : Type 0 where
+  -- the device is out
   pub out : h.out ≢ None
+  -- if a fault is counted, the call failed
   pub failed : noted ≡ true → is_failed h.change ≡ true
+  -- if the device's count rose, a fault is counted
   pub rose : (taken : TakenLog) → h.out ≡ Some taken → taken.faults < d.faults → noted ≡ true
 
+-- The holder of the latch may see that the log is down
 pub record CanSeeDown (d : Device) (h : LogHold) : Type 0 where
+  -- the backend holds the latch
   pub held : h.held ≡ true
+  -- the log is down
   pub down : d.down ≢ None
 
+-- What each kind asks of the device, and of what the view has of the latch
 abbrev pub LogAllowed : LogKind → Device → LogHold → Type 0
 LogAllowed take_log d h = CanTakeLog d h
 LogAllowed leave_log d h = CanLeaveLog d h
@@ -111,12 +157,16 @@ LogAllowed (fail_sync synced n) d h = CanFailSync synced n d h
 LogAllowed (log_back noted) d h = CanReturnLog noted d h
 LogAllowed see_down d h = CanSeeDown d h
 
--- What a kind makes of the device, where the log's end is `end`
+-- What a kind makes of the device; the log's end is `end`
 abbrev pub device_after : LogKind → ℕ → Device → Device
 device_after take_log end d = record d { taken = true }
 device_after leave_log end d = record d { taken = false }
 device_after (append f tag p bytes) end d = record d { bytes = d.bytes ++ bytes }
-device_after (fail_append f tag p bytes n) end d = record d { bytes = d.bytes ++ bytes; faults = n; down = Some end }
+device_after (fail_append f tag p bytes n) end d = record d {
+  bytes = d.bytes ++ bytes;
+  faults = n;
+  down = Some end;
+}
 device_after sync_log end d = record d { synced = length d.bytes }
 device_after (fail_sync synced n) end d = record d { synced = synced; faults = n; down = Some end }
 device_after _ end d = d
@@ -126,13 +176,17 @@ abbrev pub log_hold_after : LogKind → LogHold → LogHold
 log_hold_after take_log h = record h { held = true }
 log_hold_after leave_log h = record h { held = false; synced = false; end = None; redo = None }
 log_hold_after (log_out taken) h = record h { out = Some taken }
-log_hold_after (append f tag p bytes) h = record h { change = change.Appended f tag p; appended = Some bytes }
+log_hold_after (append f tag p bytes) h = record h {
+  change = change.Appended f tag p;
+  appended = Some bytes;
+}
 log_hold_after (fail_append f tag p bytes n) h = record h { change = change.AppendFailed }
 log_hold_after sync_log h = record h { change = change.Synced; synced = true }
 log_hold_after (fail_sync synced n) h = record h { change = change.SyncFailed; appended = None }
 log_hold_after (log_back noted) h = record h { out = None; change = change.Untouched }
 log_hold_after see_down h = h
 
+-- the device call that a kind is
 abbrev pub log_calls_by : LogKind → List DeviceCall
 log_calls_by (append f tag p bytes) = LogAppend true ∷ []
 log_calls_by (fail_append f tag p bytes n) = LogAppend false ∷ []
@@ -140,16 +194,17 @@ log_calls_by sync_log = LogSync true ∷ []
 log_calls_by (fail_sync synced n) = LogSync false ∷ []
 log_calls_by _ = []
 
+-- the fault that a kind counts
 abbrev pub log_met_by : LogKind → FailedCalls
 log_met_by (log_back true) = record { reads = 0; writes = 0; logs = 1 }
 log_met_by _ = record { reads = 0; writes = 0; logs = 0 }
 
--- it lists a record that it failed to append
+-- the records that a backend failed to append, after a kind: one that fails is added
 abbrev pub torn_by : LogKind → List TornRecord → List TornRecord
 torn_by (fail_append f tag p bytes n) xs = xs ++ record { tag = tag; page = p } ∷ []
 torn_by _ xs = xs
 
--- the holder's own failure shows it that the log is down
+-- whether a kind shows the holder that the log is down: its own call fails, or it looks
 abbrev pub sees_down : LogKind → Bool
 sees_down (fail_append f tag p bytes n) = true
 sees_down (fail_sync synced n) = true
@@ -167,74 +222,107 @@ view_logged k v = record v {
   steps = v.steps + 1;
 }
 
--- What is known of the log: its bytes, its end, and how many calls of its device had failed at the start
+-- What is known of the log: its bytes, its end, and how many calls of its device had failed at the
+-- start
 pub record Written : Type 0 where
+  -- the bytes of the log
   pub bytes : List ℕ
+  -- the log's end
   pub end : ℕ
+  -- how many calls of the log's device had failed at the start
   pub faults : ℕ
 
 -- a count rose: it is greater now, or at its last value
 abbrev pub HasRisen : ℕ → ℕ → Type 0
 HasRisen before now = now ≢ last_count → before < now
 
+-- What is summed over the views of the log's latch
 pub data LogTally : Type 0 where
   -- the views whose record is appended and not part of the log yet
   appenders : LogTally
-  -- the others that hold the latch
+  -- the other views that hold the latch
   holders : LogTally
 
--- the weight of the latch's holder, if it has no such record
+-- 1 for a holder of the latch with no record appended that isn't part of the log yet, else 0
 abbrev pub resting_weight : Option (List ℕ) → Bool → ℕ
 resting_weight None held = flag_weight held
 resting_weight (Some bytes) held = 0
 
+-- what a view adds to each sum
 abbrev pub log_weigh : LogTally → LogHold → ℕ
 log_weigh holders h = resting_weight h.appended h.held
 log_weigh appenders h = some_weight h.appended
 
 -- the grid of views and of the log's one device; a view's own part is whether it saw the log down
 abbrev pub log_shape : Shape
-log_shape = record { Column = Device; Link = LogHold; View = View; Tally = LogTally; Block = Written; Own = Bool; weigh = log_weigh; link = λ v _. v.log; own = λ v. v.saw_down; spot = λ _. 0 }
+log_shape = record {
+  Column = Device;
+  Link = LogHold;
+  View = View;
+  Tally = LogTally;
+  Block = Written;
+  Own = Bool;
+  weigh = log_weigh;
+  link = λ v _. v.log;
+  own = λ v. v.saw_down;
+  spot = λ _. 0;
+}
 
--- after the log's bytes the device has nothing, or at most a record
+-- After the log's bytes the device has at most as many as a record of a page
 pub record IsLeft (w : Written) (d : Device) : Type 0 where
+  -- what a failed call left
   pub rest : List ℕ
+  -- the device has the log's bytes and then what a failed call left
   pub is_bytes : d.bytes ≡ w.bytes ++ rest
+  -- what a failed call left is no more than a record of a page
   pub short : length rest ≤ record_size
 
 -- What holds of the device
 pub record DeviceLaw (w : Written) (d : Device) (t : LogTally → ℕ) : Type 0 where
-  -- the latch is taken exactly where one view holds it
+  -- one view holds the latch if it is taken, and none if it isn't
   pub taken : flag_weight d.taken ≡ t holders + t appenders
-  -- the device holds the log's bytes, but for a record that is appended and not part of the log yet, and for what a failure left
+  -- the device holds the log's bytes, unless a record is appended that isn't part of the log yet,
+  -- or the log is down
   pub bytes : t appenders ≡ 0 → d.down ≡ None → d.bytes ≡ w.bytes
   -- a log that is down has the end that it had at the failure
   pub down : (p : ℕ) → d.down ≡ Some p → p ≡ w.end
+  -- the device of a log that is down has the log's bytes, and at most a record more
   pub left : d.down ≢ None → IsLeft w d
-  -- and its count of faults rose since the start
+  -- if the log is down, its count of faults rose since the start
   pub rose : d.down ≢ None → HasRisen w.faults d.faults
+  -- the count of faults is at least what it was at the start
   pub least : w.faults ≤ d.faults
+  -- no more bytes are durable than there are
   pub synced : d.synced ≤ length d.bytes
 
--- What holds where a view appended a record that is not part of the log yet
+-- What holds after a view appended a record that isn't part of the log yet
 pub record AppendedLog (w : Written) (d : Device) (bytes : List ℕ) : Type 0 where
+  -- the log isn't down
   pub up : d.down ≡ None
+  -- the device has the log's bytes and then the record's
   pub is_bytes : d.bytes ≡ w.bytes ++ bytes
+  -- the bytes are no more than a record of a page has
   pub short : length bytes ≤ record_size
 
 -- What holds of the device and of what a view has of its latch
 pub record LogLink (w : Written) (d : Device) (saw_down : Bool) (h : LogHold) : Type 0 where
-  -- a view without the latch has neither the device nor a record nor a sync, nor the redo position
-  pub resting : h.held ≡ false → (h.out ≡ None) × (h.appended ≡ None) × (h.synced ≡ false) × (h.redo ≡ None)
-  -- the log's end that the holder has loaded or stored under the latch is the log's end
+  -- a view without the latch has neither the device, nor an appended record, nor a sync, nor the
+  -- redo position
+  pub resting : h.held ≡ false
+      → (h.out ≡ None) × (h.appended ≡ None) × (h.synced ≡ false) × (h.redo ≡ None)
+  -- a log end that a view keeps as loaded or stored under the latch is the log's end, and the view
+  -- holds the latch
   pub end : (e : ℕ) → h.end ≡ Some e → (h.held ≡ true) × (e ≡ w.end)
   -- a call is noted only while the device is out
   pub home : h.out ≡ None → h.change ≡ change.Untouched
+  -- after a record that isn't part of the log yet the device has the log's bytes and that record's,
+  -- and isn't down
   pub appended : (bytes : List ℕ) → h.appended ≡ Some bytes → AppendedLog w d bytes
   -- after a sync under this latch all bytes are durable
   pub synced : h.synced ≡ true → d.synced ≡ length d.bytes
-  -- a log that a view saw down is down
+  -- if a view saw the log down, it is down
   pub saw : saw_down ≡ true → d.down ≢ None
 
+-- the law of the log's device, in this grid
 abbrev pub log_part : Part log_shape
 log_part = record { column = DeviceLaw; cell = LogLink }
