@@ -51,7 +51,7 @@ is_failed change.AppendFailed = true
 is_failed change.SyncFailed = true
 is_failed _ = false
 
--- A backend may take the log's latch (`WALWriteLock`)
+-- A backend may take the log's latch
 pub record CanTakeLog (d : Device) (h : LogHold) : Type 0 where
   -- the log's latch is free
   pub free : d.taken ≡ false
@@ -240,7 +240,8 @@ HasRisen before now = now ≢ last_count → before < now
 pub data LogTally : Type 0 where
   -- the views whose record is appended and not part of the log yet
   appenders : LogTally
-  -- the other views that hold the latch
+  -- the views that hold the latch, without those whose record is appended and not part of the log
+  -- yet
   holders : LogTally
 
 -- 1 for a holder of the latch with no record appended that isn't part of the log yet, else 0
@@ -268,7 +269,7 @@ log_shape = record {
   spot = λ _. 0;
 }
 
--- After the log's bytes the device has at most as many as a record of a page
+-- The device has the log's bytes, and after them no more than a record of a page has
 pub record IsLeft (w : Written) (d : Device) : Type 0 where
   -- what a failed call left
   pub rest : List ℕ

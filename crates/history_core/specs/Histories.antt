@@ -49,7 +49,7 @@ pub record IsReached (s : State) : Type 0 where
   pub page : Page
   -- the events since the start
   pub events : List Event
-  -- these events lead from the start of that pool to the state
+  -- the events lead from the start of the pool to the state
   pub run : Run events (opening config store page) s
 
 -- each call of a backend, of a page or of a fork's size, stands at its place in one history, that
@@ -125,7 +125,7 @@ pub record HasKeptFlushed (views : List View) (i n : ℕ) (v : View) : Type 0 wh
   pub view : View
   -- view i is among these
   pub there : get_elem? views i ≡ some view
-  -- view i keeps the same flushed position with the lane as v
+  -- view i keeps the flushed position with the lane that v keeps
   pub flushed : (lane_hold view n).flushed ≡ (lane_hold v n).flushed
 
 -- a backend keeps the same flushed position with a lane, unless the event takes the lane out for it

@@ -35,9 +35,9 @@ pub record CallsLaw (known : ℕ → Bool) (origin : ℕ → Option Page) (sizes
   pub own : (k : ℕ) (c : Call) → get_elem? v.calls k ≡ some c → HasNumber v (backend_of c)
   -- no call has a place past the front
   pub fronted : (k : ℕ) (c : Call) → get_elem? v.calls k ≡ some c → place_of c ≤ v.front
-  -- the front is at least the log's base
+  -- the front of a view that isn't emptied is at least the log's base
   pub from_base : v.emptied ≡ false → log.base ≤ v.front
-  -- if the front isn't the log's base, some call has that place
+  -- if the front of a view that isn't emptied isn't the log's base, some call has that place
   pub reached : v.emptied ≡ false → v.front ≢ log.base → HasPlace v.calls v.front
   -- the front is at most the log's end
   pub within : v.front ≤ log_end log

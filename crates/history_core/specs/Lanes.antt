@@ -125,8 +125,8 @@ pub record CanReadBlock (tag : ℕ) (page : Page) (ln : Lane) (h : LaneHold) : T
 
 -- A fault is counted only for a call that failed. It is counted for each write or sync that failed,
 -- even if the count stands at its last value, and whenever a count rose.
--- A read's at the count's last value may be counted or not, since the backend can't see the count
--- rise. Contracts don't say by how much a count rises.
+-- A read that failed at the count's last value may be counted or not, since the backend can't see
+-- the count rise. Contracts don't say by how much a count rises.
 pub record CountsFault (noted : Bool) (taken : TakenLane) (ln : Lane)
     (change : LaneChange) : Type 0 where
   -- if a fault is counted, the call failed
