@@ -1,4 +1,5 @@
--- A miss and a read, for the definitions to be seen at work: a backend gives a frame to a block, reads the block from its lane into it, copies the page under the shared lock and gives the read its place.
+-- An example, a miss and a read: a backend gives a frame to a block, reads the block from its lane
+-- into it, copies the page under the shared content lock and gives the read its place.
 use Rattle.std.specs.Prelude.{◌≡◌, ℕ, Bool, false, List, [], ◌∷◌, ◌++◌, Some}
 use mathlib.Core.Option.{some}
 use lib.ListN.{get_elem?}
@@ -21,27 +22,31 @@ use Rattle.history_core.specs.Sample.{sample_config, sample_store, sample_lane}
 abbrev pub start_with : Bool → State
 start_with may = opening sample_config (record sample_store { origin = λ _. Some example_page; ranges = may }) []
 
+-- the start of the example: no entry may be made of ranges
 abbrev pub miss_start : State
 miss_start = start_with false
 
--- a step of backend i at the one frame
+-- a step of backend i at the one frame, of the kinds of `pin_core`
 abbrev pub pool_by : ℕ → pins.Kind → Event
 pool_by i k = steps.pool (page_steps.pins_and_maps (pin_steps.at i 0 k))
 
+-- a step of backend i at the one frame, of the kinds of `page_core`
 abbrev pub page_by : ℕ → Kind → Event
 page_by i k = steps.pool (page_steps.at i 0 k)
 
--- a step of the first backend, at the one frame or the one latch of a partition
+-- a step of the first backend at the one frame, of the kinds of `pin_core`
 abbrev pub pool : pins.Kind → Event
 pool k = pool_by 0 k
 
+-- a step of the first backend at the latch of the one partition
 abbrev pub turn : TurnKind → Event
 turn k = steps.pool (page_steps.pins_and_maps (pin_steps.turn 0 0 k))
 
+-- a step of the first backend at the one frame, of the kinds of `page_core`
 abbrev pub page : Kind → Event
 page k = page_by 0 k
 
--- the frame is given the block 7, under the latch of its partition
+-- the frame is given to the block 7, under the latch of its partition
 abbrev pub miss : List Event
 miss = turn take_turn ∷ pool pins.lock_header ∷ pool pins.pin_victim ∷ pool pins.lock_header ∷ pool (pins.store_tag 7) ∷ pool pins.assign ∷ turn (map_out []) ∷ turn change_map ∷ turn (map_back (sample_entry ∷ [])) ∷ turn leave_turn ∷ []
 
@@ -57,10 +62,13 @@ fill = begin_input ++ steps.lane 0 0 take_lane ∷ steps.lane 0 0 (lane_out samp
 abbrev pub copy : List Event
 copy = page share ∷ page take_copy ∷ page page_out ∷ page page_back ∷ page leave_copy ∷ steps.read 0 0 ∷ []
 
--- the frame holds the block's page, and the backend's one call is the read of it, at the log's base
+-- After the read: the frame holds the block's page, and the backend's one call is the read of it
 pub record HasRead (t : State) : Type 0 where
+  -- the frame holds the block's page
   pub held : (t.pool.core.frame 0).page ≡ example_page
+  -- the backend's one call is the read of the page, at the log's base, which is its front
   pub called : (v : View) × (get_elem? t.pool.core.views 0 ≡ some v) × (v.calls ≡ Read 0 7 example_page 0 ∷ []) × (v.front ≡ 0)
 
+-- the steps of the miss and the read lead from the start to such a state
 abbrev pub MissRuns : Type 0
 MissRuns = (t : State) × Run (miss ++ fill ++ copy) miss_start t × HasRead t

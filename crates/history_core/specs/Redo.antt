@@ -30,14 +30,21 @@ StartsAtBase s = (tag : ℕ) (p : Page) → s.known tag ≡ true → s.origin ta
 abbrev pub HasWholePage : List Entry → ℕ → Type 0
 HasWholePage es tag = (k : ℕ) × (e : Entry) × (p : Page) × (get_elem? es k ≡ some e) × (e.change ≡ image tag p)
 
--- Before the entry k an entry has the whole page of the block, which starts at r or after it
+-- Before the entry k there is an entry of the block's whole page that starts at r or after it
 pub record FollowsImage (es : List Entry) (tag r k : ℕ) : Type 0 where
+  -- the number of the whole page's entry
   pub index : ℕ
+  -- the whole page's entry
   pub entry : Entry
+  -- the whole page
   pub page : Page
+  -- the log has the entry at this number
   pub there : get_elem? es index ≡ some entry
+  -- the entry is the block's whole page
   pub is : entry.change ≡ image tag page
+  -- the entry starts at r or after it
   pub from : r ≤ entry.start
+  -- the entry comes before the entry k
   pub before : index < k
 
 -- What redo needs of the next entry: before ranges the log has a whole page of their block, if at
@@ -48,13 +55,17 @@ CanFollow s (image t q) = Unit {0}
 CanFollow s (ranges t spans) = StartsAtBase s → s.known t ≡ true → HasWholePage s.log.entries t
 CanFollow s (resize fork old new) = ⊥
 
--- The redo position is the base, or the largest to which a view raised it
+-- The redo position is the log's base, or the largest to which a view raised it
 pub record IsHighestRaised (base redo : ℕ) (views : List View) : Type 0 where
+  -- the redo position is the log's base or after it
   pub from : base ≤ redo
+  -- no view raised the redo position beyond where it stands
   pub above : (r : ℕ) → IsRaised views r → r ≤ redo
+  -- the redo position is the log's base, or a view raised it there
   pub reached : (redo ≡ base) ⊎ IsRaised views redo
 
--- the redo position by which a write's record was tested had stood, before the record was made
+-- if a write's record was tested, the redo position of the test had stood, at the record's start or
+-- before it
 abbrev pub ChosenBy : State → Call → Type 0
 ChosenBy s (Read backend tag page place) = Unit {0}
 ChosenBy s (Size backend fork blocks place) = Unit {0}
@@ -67,19 +78,26 @@ ChosenBy s (Write backend tag page place logged) = (t : ImageTest) → logged.te
 abbrev pub RangesFollowImages : State → Type 0
 RangesFollowImages s = StartsAtBase s → (tag r k : ℕ) (e : Entry) (spans : List Span) → HasBeenRedo s r → get_elem? s.log.entries k ≡ some e → e.change ≡ ranges tag spans → s.known tag ≡ true → r ≤ e.start → FollowsImage s.log.entries tag r k
 
--- the redo position by which a write's record was tested had stood before the record was made
+-- each write's record that was tested, was tested by a redo position that had stood before the
+-- record
 abbrev pub TestsStood : State → Type 0
 TestsStood s = (i k : ℕ) (v : View) (c : Call) → get_elem? s.pool.core.views i ≡ some v → get_elem? v.calls k ≡ some c → ChosenBy s c
 
+-- The law of the redo position
 pub record RedoLaw (s : State) : Type 0 where
-  -- the redo position that a backend has loaded under the log's latch is the one that stands
+  -- a redo position that a backend has loaded under the log's latch, and not raised since, is the
+  -- one that stands
   pub loaded : (i : ℕ) (v : View) (r : ℕ) → get_elem? s.pool.core.views i ≡ some v → v.log.redo ≡ Some r → r ≡ s.redo
-  -- it is between the base and the log's end, and the views fix it
+  -- the redo position is the log's end or before it
   pub within : s.redo ≤ s.end
+  -- the redo position is the log's base, or the largest to which a view raised it
   pub highest : IsHighestRaised s.log.base s.redo s.pool.core.views
-  -- no entry lies across a redo position
+  -- no entry lies across a position where the redo position has stood
   pub between : (r : ℕ) → HasBeenRedo s r → (k : ℕ) (e : Entry) → get_elem? s.log.entries k ≡ some e → (end_of e ≤ r) ⊎ (r ≤ e.start)
-  -- an entry of ranges that starts at one or after it follows an image of its block that does too
+  -- an entry of ranges that starts where the redo position has stood, or after it, follows a whole
+  -- page of its block that does too, if at the start no sound page was past the log's base and the
+  -- contents of the block's lane are known
   pub follows : RangesFollowImages s
-  -- each write's test was of one
+  -- each write's record that was tested, was tested by a redo position that had stood before the
+  -- record
   pub chosen : TestsStood s

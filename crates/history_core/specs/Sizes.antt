@@ -10,7 +10,7 @@ FitsSizes (image tag page) sizes = tag_block tag < sizes (tag_fork tag)
 FitsSizes (ranges tag spans) sizes = tag_block tag < sizes (tag_fork tag)
 FitsSizes (resize fork old new) sizes = (old ≡ sizes fork) × ((new ≡ old + 1) ⊎ (new < old))
 
--- each entry does so after those before it
+-- each entry's change fits the sizes that the entries before it leave
 unfoldable pub AreSized : List Entry → (ℕ → ℕ) → Type 0
 AreSized [] sizes = Unit {0}
 AreSized (e ∷ es) sizes = FitsSizes e.change sizes × AreSized es (resized_fork e.change sizes)
@@ -19,7 +19,8 @@ AreSized (e ∷ es) sizes = FitsSizes e.change sizes × AreSized es (resized_for
 abbrev pub AreThere : (ℕ → Option Page) → (ℕ → ℕ) → Type 0
 AreThere pages sizes = (tag : ℕ) → is_some (pages tag) ≡ nat_lt (tag_block tag) (sizes (tag_fork tag))
 
--- After entries that fit the sizes, a block is there exactly below its fork's size, if it was so before; and after the entries up to any position of a log
+-- After entries that fit the sizes, a block is there exactly below its fork's size, if it was so
+-- before; and so it is after the entries up to any position of a log
 abbrev pub BlocksThere : Type 0
 BlocksThere = (opened : ℕ → Option Page) (sizes : ℕ → ℕ) → AreThere opened sizes
     → ((es : List Entry) → AreSized es sizes → AreThere (cell opened es) (sizes_after es sizes))

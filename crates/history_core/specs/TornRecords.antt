@@ -7,7 +7,7 @@ use Rattle.pin_core.specs.declared.view.View.{View}
 use Rattle.pin_core.specs.State.{Page}
 use Rattle.history_core.specs.Log.{Change, image, ranges, resize}
 
--- the change is of the block of the tag, and an image is the page
+-- the change is of the block of the tag, and if it is a whole page, that is the page
 abbrev pub IsOfPage : Change → ℕ → Page → Type 0
 IsOfPage (image t q) tag page = (t ≡ tag) × (q ≡ page)
 IsOfPage (ranges t spans) tag page = t ≡ tag

@@ -7,13 +7,19 @@ use Rattle.pin_core.specs.declared.view.View.{View}
 use Rattle.history_core.specs.Balances.{added_to}
 use Rattle.history_core.specs.State.{State, next_hand}
 
--- the log's end, the position up to which the log is flushed, the redo position (`RedoRecPtr`), the clock's hand (`nextVictimBuffer`), the counters (`pg_stat_io`) and the hint words by their numbers
+-- The words that no frame and no latch has
 pub data Word : Type 0 where
+  -- the log's end
   end_word : Word
+  -- the position up to which the log is flushed
   flushed_word : Word
+  -- the redo position (`RedoRecPtr`)
   redo_word : Word
+  -- the clock's hand (`nextVictimBuffer`)
   hand_word : Word
+  -- the counter of this number (`pg_stat_io`)
   counter_word : ℕ → Word
+  -- the hint word of this number
   hint_word : ℕ → Word
 
 -- how many counters there are: hits, reads, writes, evictions and reuses, each without a ring and
@@ -29,7 +35,7 @@ most_published = 281474976710655
 abbrev pub hint_count : ℕ → ℕ
 hint_count n = 4 * n
 
--- whether they are one word
+-- whether the two are one word
 abbrev pub is_word : Word → Word → Bool
 is_word end_word end_word = true
 is_word flushed_word flushed_word = true
@@ -41,16 +47,24 @@ is_word _ _ = false
 
 -- The numbers that the words have
 pub record Words : Type 0 where
+  -- the log's end
   pub end : ℕ
+  -- the flushed position
   pub flushed : ℕ
+  -- the redo position
   pub redo : ℕ
+  -- the clock's hand
   pub hand : ℕ
+  -- the counters, by their numbers
   pub counter : ℕ → ℕ
+  -- the hint words, by their numbers
   pub hint : ℕ → ℕ
 
+-- the numbers that the words of a state have
 abbrev pub words_of : State → Words
 words_of s = record { end = s.end; flushed = s.flushed; redo = s.redo; hand = s.hand; counter = s.counter; hint = s.hint }
 
+-- the number that a word has among these
 abbrev pub word_in : Word → Words → ℕ
 word_in end_word w = w.end
 word_in flushed_word w = w.flushed
@@ -59,28 +73,35 @@ word_in hand_word w = w.hand
 word_in (counter_word number) w = w.counter number
 word_in (hint_word number) w = w.hint number
 
--- the number that a word has
+-- the number that a word has in a state
 abbrev pub word_of : Word → State → ℕ
 word_of w s = word_in w (words_of s)
 
+-- The kinds of step at these words
 pub data WordKind : Type 0 where
-  -- the log's end is loaded; so it is as a checkpoint begins (`CreateCheckPoint`)
+  -- the log's end is loaded
   load_end : WordKind
+  -- the log's end is loaded as a checkpoint begins (`CreateCheckPoint`)
   begin_checkpoint : WordKind
-  -- the flushed position is loaded, and raised to the log's end
+  -- the flushed position is loaded
   load_flushed : WordKind
+  -- the flushed position is raised to the log's end
   raise_flushed : WordKind
-  -- the redo position is loaded, and raised to the log's end
+  -- the redo position is loaded
   load_redo : WordKind
+  -- the redo position is raised to the log's end
   raise_redo : WordKind
-  -- the clock's hand is loaded, and moves on (`ClockSweepTick`)
+  -- the clock's hand is loaded
   load_hand : WordKind
+  -- the clock's hand moves on (`ClockSweepTick`)
   add_hand : WordKind
-  -- the counter of this number is loaded, and rises by so much
+  -- the counter of this number is loaded
   load_counter : ℕ → WordKind
+  -- the counter of this number rises by so much
   add_counter : ℕ → ℕ → WordKind
-  -- the hint word of this number is loaded, and gets a value
+  -- the hint word of this number is loaded
   load_hint : ℕ → WordKind
+  -- the hint word of this number gets a value
   store_hint : ℕ → ℕ → WordKind
 
 -- the word that a kind is at
@@ -122,6 +143,6 @@ number_after (add_counter number more) s = s.counter number + more
 number_after (store_hint number value) s = value
 number_after k s = word_of (word_at k) s
 
--- the number that each word has where one of them has become `number`
+-- the number that each word has once one of them has become `number`
 abbrev pub word_set : Word → ℕ → State → Word → ℕ
 word_set at number s w = if is_word w at then number else word_of w s
