@@ -1,7 +1,9 @@
 -- The write-ahead log, the pages of blocks that follow from it, and what backends read and wrote.
 -- An image is always allowed, ranges only if `ranges` says so; a table's log has images alone.
 -- Ranges change the page that was copied under the content lock. No step enters a size yet.
-use Rattle.std.specs.Prelude.{◌≡◌, ◌≢◌, ◌⊎◌, ℕ, ◌+◌, ◌-◌, ◌*◌, ◌/◌, ◌%◌, ◌<◌, ◌≤◌, Bool, true, false, ◌&&◌, List, [], ◌∷◌, ◌++◌, length, take, drop, replicate, nat_eq, nat_le, nat_lt, Option, Some, None, option_map, if◌then◌else◌}
+use Rattle.std.specs.Prelude.{◌≡◌, ◌≢◌, ◌⊎◌, ℕ, ◌+◌, ◌-◌, ◌*◌, ◌/◌, ◌%◌, ◌<◌, ◌≤◌, Bool, true}
+use Rattle.std.specs.Prelude.{false, ◌&&◌, List, [], ◌∷◌, ◌++◌, length, take, drop, replicate}
+use Rattle.std.specs.Prelude.{nat_eq, nat_le, nat_lt, Option, Some, None, option_map, if◌then◌else◌}
 use mathlib.Core.Option.{some}
 use lib.ListN.{get_elem?}
 use Rattle.byteorder.specs.Endian.{little_bytes}
@@ -106,7 +108,8 @@ pub record IsImage (end : ℕ) (page : Page) : Type 0 where
 -- one before it ends or after that, and the last ends within the page
 unfoldable pub StandApart : ℕ → List Span → Type 0
 StandApart from [] = from ≤ 8192
-StandApart from (s ∷ ss) = (from ≤ s.place) × (0 < length s.bytes) × StandApart (s.place + length s.bytes) ss
+StandApart from (s ∷ ss) = (from ≤ s.place) × (0 < length s.bytes)
+    × StandApart (s.place + length s.bytes) ss
 
 -- From 1 to 16 spans, none of which touches a page's position in the log, its first 8 bytes, in a
 -- record that is shorter than that of a page
@@ -179,15 +182,23 @@ span_bytes (s ∷ ss) = s.bytes ++ span_bytes ss
 
 -- how many spans there are, where they stand, and their bytes, with zeros up to the record's end
 abbrev pub ranges_bytes : List Span → List ℕ
-ranges_bytes spans = little_bytes 4 (length spans) ++ (span_places spans ++ (span_bytes spans ++ replicate (rounded (36 + spans_size spans) - (36 + spans_size spans)) 0))
+ranges_bytes spans = little_bytes 4 (length spans)
+    ++ (span_places spans
+    ++ (span_bytes spans
+    ++ replicate (rounded (36 + spans_size spans) - (36 + spans_size spans)) 0))
 
 -- the bytes of an entry's record: its kind, its block, its start, and what it changes. A resize
 -- names the fork, as in the names of its blocks, with the new size in place of the block; the old
 -- size comes last, padded with zeros. `names` is how the log names a block, in 20 bytes
 abbrev pub change_bytes : (ℕ → List ℕ) → ℕ → Change → List ℕ
-change_bytes names start (image tag page) = little_bytes 4 1 ++ (names tag ++ (little_bytes 8 start ++ page))
-change_bytes names start (ranges tag spans) = little_bytes 4 3 ++ (names tag ++ (little_bytes 8 start ++ ranges_bytes spans))
-change_bytes names start (resize fork old new) = little_bytes 4 2 ++ (take 16 (names (first_block fork)) ++ (little_bytes 4 new ++ (little_bytes 8 start ++ (little_bytes 4 old ++ little_bytes 4 0))))
+change_bytes names start (image tag page) = little_bytes 4 1
+    ++ (names tag ++ (little_bytes 8 start ++ page))
+change_bytes names start (ranges tag spans) = little_bytes 4 3
+    ++ (names tag ++ (little_bytes 8 start ++ ranges_bytes spans))
+change_bytes names start (resize fork old new) = little_bytes 4 2
+    ++ (take 16 (names (first_block fork))
+    ++ (little_bytes 4 new
+    ++ (little_bytes 8 start ++ (little_bytes 4 old ++ little_bytes 4 0))))
 
 -- the bytes of an entry's record
 abbrev pub record_bytes : (ℕ → List ℕ) → Entry → List ℕ
@@ -218,19 +229,26 @@ cut p (e ∷ es) = if nat_le (end_of e) p then e ∷ cut p es else cut p es
 -- the page with the bytes of spans replaced
 unfoldable pub with_spans : List Span → Page → Page
 with_spans [] p = p
-with_spans (s ∷ ss) p = with_spans ss (take s.place p ++ (s.bytes ++ drop (s.place + length s.bytes) p))
+with_spans (s ∷ ss) p =
+    with_spans ss (take s.place p ++ (s.bytes ++ drop (s.place + length s.bytes) p))
 
 -- the page of block n of a fork that gets another size: none if the block is cut away, a page of
 -- zeros if it is the block that is added, else as it was
 abbrev pub resized : ℕ → ℕ → ℕ → Option Page → Option Page
-resized old new n p = if nat_lt new old && nat_le new n then None else if nat_eq new (old + 1) && nat_eq n old then Some zero_page else p
+resized old new n p = if nat_lt new old && nat_le new n then None
+    else if nat_eq new (old + 1) && nat_eq n old then Some zero_page
+    else p
 
 -- the page of a block after a change whose entry ends at `end`, if it was p before; none if the
 -- block isn't there
 unfoldable pub changed_page : Change → ℕ → ℕ → Option Page → Option Page
 changed_page (image t q) end tag p = if nat_eq tag t then Some q else p
-changed_page (ranges t spans) end tag p = if nat_eq tag t then option_map (λ (q : Page). with_lsn end (with_spans spans q)) p else p
-changed_page (resize fork old new) end tag p = if nat_eq (tag_fork tag) fork then resized old new (tag_block tag) p else p
+changed_page (ranges t spans) end tag p = if nat_eq tag t
+    then option_map (λ (q : Page). with_lsn end (with_spans spans q)) p
+    else p
+changed_page (resize fork old new) end tag p = if nat_eq (tag_fork tag) fork
+    then resized old new (tag_block tag) p
+    else p
 
 -- the page of a block after entries, which are done one after the other, if it was p before
 unfoldable pub page_after : ℕ → List Entry → Option Page → Option Page
@@ -279,7 +297,8 @@ pub record HasImage (end : ℕ) (page : Option Page) : Type 0 where
 -- A read is legal with the log if its place is between the log's base and end, and its page is the
 -- block's page after the entries up to there, as far as the contents of the block's lane are known
 -- (`known`)
-pub record IsLegalRead (known : ℕ → Bool) (origin : ℕ → Option Page) (log : Log) (tag : ℕ) (page : Page) (place : ℕ) : Type 0 where
+pub record IsLegalRead (known : ℕ → Bool) (origin : ℕ → Option Page) (log : Log) (tag : ℕ)
+    (page : Page) (place : ℕ) : Type 0 where
   -- the read's place is the log's base or after it
   pub based : log.base ≤ place
   -- the read's place is the log's end or before it
@@ -296,7 +315,8 @@ image_record = record { size = record_size; test = None }
 -- entry's record is, and which two positions it was tested by, if any. Its page is the entry's
 -- image, if the entry has one, and the block's page after the entries up to there, if the contents
 -- of the block's lane are known
-pub record IsLegalWrite (known : ℕ → Bool) (origin : ℕ → Option Page) (log : Log) (backend tag : ℕ) (page : Page) (place : ℕ) (logged : WriteRecord) : Type 0 where
+pub record IsLegalWrite (known : ℕ → Bool) (origin : ℕ → Option Page) (log : Log) (backend tag : ℕ)
+    (page : Page) (place : ℕ) (logged : WriteRecord) : Type 0 where
   -- the number of the write's entry
   pub index : ℕ
   -- the write's entry
@@ -313,10 +333,13 @@ pub record IsLegalWrite (known : ℕ → Bool) (origin : ℕ → Option Page) (l
   pub sized : change_size entry.change ≡ logged.size
   -- if the write was tested, and the contents of the block's lane are known, the position that was
   -- tested is that of the block's page before the entry
-  pub tested : (t : ImageTest) → logged.test ≡ Some t → known tag ≡ true → (q : Page) × (cell origin (cut entry.start log.entries) tag ≡ Some q) × (lsn_of q ≡ t.before)
+  pub tested : (t : ImageTest) → logged.test ≡ Some t → known tag ≡ true
+      → (q : Page) × (cell origin (cut entry.start log.entries) tag ≡ Some q)
+      × (lsn_of q ≡ t.before)
   -- a record shorter than that of a whole page was chosen by a test: the page's position was past
   -- the redo position
-  pub past : logged.size < record_size → (t : ImageTest) × (logged.test ≡ Some t) × (t.redo < t.before)
+  pub past : logged.size < record_size
+      → (t : ImageTest) × (logged.test ≡ Some t) × (t.redo < t.before)
   -- if the contents of the block's lane are known, the write's page is the block's page after the
   -- entries up to the write's place
   pub writes : known tag ≡ true → cell origin (cut place log.entries) tag ≡ Some page
@@ -351,10 +374,14 @@ pub record IsLegalSized (sizes : ℕ → ℕ) (log : Log) (fork blocks place : �
 
 -- the call is legal with the log
 abbrev pub IsLegal : (ℕ → Bool) → (ℕ → Option Page) → (ℕ → ℕ) → Log → Call → Type 0
-IsLegal known origin sizes log (Read backend tag page place) = IsLegalRead known origin log tag page place
-IsLegal known origin sizes log (Write backend tag page place logged) = IsLegalWrite known origin log backend tag page place logged
-IsLegal known origin sizes log (Size backend fork blocks place) = IsLegalSize log backend fork blocks place
-IsLegal known origin sizes log (Sized backend fork blocks place) = IsLegalSized sizes log fork blocks place
+IsLegal known origin sizes log (Read backend tag page place) =
+    IsLegalRead known origin log tag page place
+IsLegal known origin sizes log (Write backend tag page place logged) =
+    IsLegalWrite known origin log backend tag page place logged
+IsLegal known origin sizes log (Size backend fork blocks place) =
+    IsLegalSize log backend fork blocks place
+IsLegal known origin sizes log (Sized backend fork blocks place) =
+    IsLegalSized sizes log fork blocks place
 
 -- the place of a call in the log
 abbrev pub place_of : Call → ℕ
@@ -413,4 +440,6 @@ pub record IsFront (base : ℕ) (calls : List Call) (front : ℕ) : Type 0 where
 
 -- the places of each backend's calls never fall
 abbrev pub AreInOrder : List Call → Type 0
-AreInOrder calls = (j k : ℕ) (c d : Call) → j < k → get_elem? calls j ≡ some c → get_elem? calls k ≡ some d → backend_of c ≡ backend_of d → place_of c ≤ place_of d
+AreInOrder calls = (j k : ℕ) (c d : Call) → j < k → get_elem? calls j ≡ some c
+    → get_elem? calls k ≡ some d → backend_of c ≡ backend_of d
+    → place_of c ≤ place_of d

@@ -18,4 +18,6 @@ pub record IsAsTaken (taken : TakenLog) (d : Device) : Type 0 where
 
 -- until its holder makes a call, a log's device that is out is as it was when it went out
 abbrev pub OutingsLaw : State → Type 0
-OutingsLaw s = (i : ℕ) (v : View) (taken : TakenLog) → get_elem? s.pool.core.views i ≡ some v → v.log.out ≡ Some taken → v.log.change ≡ Untouched → IsAsTaken taken s.device
+OutingsLaw s = (i : ℕ) (v : View) (taken : TakenLog) → get_elem? s.pool.core.views i ≡ some v
+    → v.log.out ≡ Some taken → v.log.change ≡ Untouched
+    → IsAsTaken taken s.device

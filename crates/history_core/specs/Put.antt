@@ -1,6 +1,7 @@
 -- An example, a put and a flush: a backend changes the page of a frame, whatever sound page of 8192
 -- bytes it puts there, makes the log durable, and writes the page to its lane.
-use Rattle.std.specs.Prelude.{◌≡◌, ℕ, true, false, List, [], ◌∷◌, ◌++◌, length, replicate, Some, None}
+use Rattle.std.specs.Prelude.{◌≡◌, ℕ, true, false, List, [], ◌∷◌, ◌++◌, length, replicate, Some}
+use Rattle.std.specs.Prelude.{None}
 use mathlib.Core.Option.{some}
 use lib.ListN.{get_elem?}
 use Rattle.state_word.specs.declared.word.IoEnd.TheVariants.{WriteOk}
@@ -11,8 +12,11 @@ use Rattle.pin_core.specs.declared.view.TakenLog.{TakenLog}
 use Rattle.pin_core.specs.declared.view.View.{View}
 use Rattle.pin_core.specs.State.{Page}
 use Rattle.pin_core.specs.Kinds as pins
-use Rattle.page_core.specs.Kinds.{share, unshare, exclude, unexclude, mark_dirty, page_out, overwrite_logged, page_back, start_output, clear_just_dirtied, note_write, end_io}
-use Rattle.history_core.specs.Log.{Entry, image, record_size, head_bytes, record_bytes, image_record, log_bytes}
+use Rattle.page_core.specs.Kinds.{share, unshare, exclude, unexclude, mark_dirty, page_out}
+use Rattle.page_core.specs.Kinds.{overwrite_logged, page_back, start_output, clear_just_dirtied}
+use Rattle.page_core.specs.Kinds.{note_write, end_io}
+use Rattle.history_core.specs.Log.{Entry, image, record_size, head_bytes, record_bytes}
+use Rattle.history_core.specs.Log.{image_record, log_bytes}
 use Rattle.history_core.specs.State.{State, stored}
 use Rattle.history_core.specs.Lanes.{take_lane, leave_lane, lane_out, write_block, lane_back}
 use Rattle.history_core.specs.Device.{take_log, leave_log, log_out, append, sync_log, log_back}
@@ -35,7 +39,8 @@ pub record IsPut (p : Page) : Type 0 where
 
 -- a page that may be put: by its header an empty one, with this position
 abbrev pub some_page : Page
-some_page = (0 ∷ 0 ∷ 0 ∷ 0 ∷ 32 ∷ 32 ∷ 0 ∷ 0 ∷ 0 ∷ 0 ∷ 0 ∷ 0 ∷ 24 ∷ 0 ∷ 0 ∷ 32 ∷ 0 ∷ 32 ∷ 4 ∷ 32 ∷ 0 ∷ 0 ∷ 0 ∷ 0 ∷ []) ++ replicate 8168 0
+some_page = (0 ∷ 0 ∷ 0 ∷ 0 ∷ 32 ∷ 32 ∷ 0 ∷ 0 ∷ 0 ∷ 0 ∷ 0 ∷ 0 ∷ 24 ∷ 0 ∷ 0 ∷ 32 ∷ 0 ∷ 32 ∷ 4 ∷ 32 ∷ 0
+    ∷ 0 ∷ 0 ∷ 0 ∷ []) ++ replicate 8168 0
 
 -- the page's entry, the first of the log
 abbrev pub put_entry : Page → Entry
@@ -47,20 +52,33 @@ put_bytes p = record_bytes sample_store.names (put_entry p)
 
 -- the log's device with these bytes
 abbrev pub log_with : Page → TakenLog
-log_with p = record { bytes = Some (head_bytes 0 ++ put_bytes p); synced = 0; faults = 0; calls = 0; down = None }
+log_with p = record {
+  bytes = Some (head_bytes 0 ++ put_bytes p);
+  synced = 0;
+  faults = 0;
+  calls = 0;
+  down = None;
+}
 
 -- under the exclusive content lock the page is marked dirty, its record is appended to the log and
 -- made an entry, and the page is put into the frame
 abbrev pub change : Page → List Event
-change p = page exclude ∷ page mark_dirty ∷ log 0 take_log ∷ log 0 (log_out sample_log) ∷ log 0 (append 0 7 p (put_bytes p)) ∷ log 0 (log_back false) ∷ enter 0 0 p (image 7 p) ∷ log 0 leave_log ∷ page page_out ∷ page overwrite_logged ∷ page page_back ∷ page unexclude ∷ []
+change p = page exclude ∷ page mark_dirty ∷ log 0 take_log ∷ log 0 (log_out sample_log)
+    ∷ log 0 (append 0 7 p (put_bytes p)) ∷ log 0 (log_back false) ∷ enter 0 0 p (image 7 p)
+    ∷ log 0 leave_log ∷ page page_out ∷ page overwrite_logged ∷ page page_back ∷ page unexclude ∷ []
 
 -- the log is made durable, and the flushed position is raised and loaded
 abbrev pub flush : Page → List Event
-flush p = log 0 take_log ∷ log 0 (log_out (log_with p)) ∷ log 0 sync_log ∷ log 0 (log_back false) ∷ word 0 raise_flushed ∷ log 0 leave_log ∷ word 0 load_flushed ∷ []
+flush p = log 0 take_log ∷ log 0 (log_out (log_with p)) ∷ log 0 sync_log ∷ log 0 (log_back false)
+    ∷ word 0 raise_flushed ∷ log 0 leave_log ∷ word 0 load_flushed ∷ []
 
 -- under the shared content lock and the output right backend i writes the page to the block's lane
 abbrev pub write_out : ℕ → Page → List Event
-write_out i p = page_by i share ∷ pool_by i pins.lock_header ∷ page_by i start_output ∷ pool_by i pins.lock_header ∷ page_by i clear_just_dirtied ∷ lane i 0 take_lane ∷ lane i 0 (lane_out sample_lane) ∷ write i 0 0 (write_block 0 7 p) ∷ note i 0 0 (lane_back false) (note_write true) ∷ lane i 0 leave_lane ∷ pool_by i pins.lock_header ∷ page_by i (end_io WriteOk) ∷ page_by i unshare ∷ []
+write_out i p = page_by i share ∷ pool_by i pins.lock_header ∷ page_by i start_output
+    ∷ pool_by i pins.lock_header ∷ page_by i clear_just_dirtied ∷ lane i 0 take_lane
+    ∷ lane i 0 (lane_out sample_lane) ∷ write i 0 0 (write_block 0 7 p)
+    ∷ note i 0 0 (lane_back false) (note_write true) ∷ lane i 0 leave_lane
+    ∷ pool_by i pins.lock_header ∷ page_by i (end_io WriteOk) ∷ page_by i unshare ∷ []
 
 -- After the write of the page to its lane
 pub record HasPut (p : Page) (t : State) : Type 0 where
@@ -79,9 +97,13 @@ pub record HasPut (p : Page) (t : State) : Type 0 where
   -- the flushed position is where the entry ends
   pub flushed : t.flushed ≡ record_size
   -- the backend's one call is the write of the page, at the entry's end, which is its front
-  pub called : (v : View) × (get_elem? t.pool.core.views 0 ≡ some v) × (v.calls ≡ Write 0 7 p record_size image_record ∷ []) × (v.front ≡ record_size)
+  pub called : (v : View) × (get_elem? t.pool.core.views 0 ≡ some v)
+      × (v.calls ≡ Write 0 7 p record_size image_record ∷ []) × (v.front ≡ record_size)
 
 -- there is a page that may be put, and for each such page the steps lead from the start to the
 -- state after its write
 abbrev pub PutRuns : Type 0
-PutRuns = IsPut some_page × ((p : Page) → IsPut p → (t : State) × Run (miss ++ fill ++ change p ++ flush p ++ write_out 0 p) miss_start t × HasPut p t)
+PutRuns = IsPut some_page
+    × ((p : Page) → IsPut p
+    → (t : State) × Run (miss ++ fill ++ change p ++ flush p ++ write_out 0 p) miss_start t
+    × HasPut p t)

@@ -9,8 +9,10 @@ use Rattle.page_layout.specs.Soundness.{is_new_page, is_sound_page}
 use Rattle.pin_core.specs.declared.view.Call.TheVariants.{Write}
 use Rattle.pin_core.specs.declared.view.View.{View}
 use Rattle.pin_core.specs.State.{Page}
-use Rattle.page_core.specs.Kinds.{exclude, unexclude, mark_dirty, page_out, overwrite_logged, page_back}
-use Rattle.history_core.specs.Log.{Entry, Span, Change, ranges, record_size, record_bytes, with_spans, log_bytes, cell}
+use Rattle.page_core.specs.Kinds.{exclude, unexclude, mark_dirty, page_out, overwrite_logged}
+use Rattle.page_core.specs.Kinds.{page_back}
+use Rattle.history_core.specs.Log.{Entry, Span, Change, ranges, record_size, record_bytes}
+use Rattle.history_core.specs.Log.{with_spans, log_bytes, cell}
 use Rattle.history_core.specs.State.{State}
 use Rattle.history_core.specs.Device.{take_log, leave_log, log_out, append, log_back}
 use Rattle.history_core.specs.Steps.{Event, log, enter, word, Run}
@@ -57,7 +59,10 @@ bytes_record = record_bytes sample_store.names bytes_entry
 -- redo position is loaded, and the record of the four bytes is appended and made an entry; then the
 -- new page is put into the frame
 abbrev pub edit : Page → Page → List Event
-edit p q = page exclude ∷ page page_out ∷ page page_back ∷ page mark_dirty ∷ log 0 take_log ∷ word 0 load_redo ∷ log 0 (log_out (log_with p)) ∷ log 0 (append 0 7 q bytes_record) ∷ log 0 (log_back false) ∷ enter 0 0 q bytes_change ∷ log 0 leave_log ∷ page page_out ∷ page overwrite_logged ∷ page page_back ∷ page unexclude ∷ []
+edit p q = page exclude ∷ page page_out ∷ page page_back ∷ page mark_dirty ∷ log 0 take_log
+    ∷ word 0 load_redo ∷ log 0 (log_out (log_with p)) ∷ log 0 (append 0 7 q bytes_record)
+    ∷ log 0 (log_back false) ∷ enter 0 0 q bytes_change ∷ log 0 leave_log ∷ page page_out
+    ∷ page overwrite_logged ∷ page page_back ∷ page unexclude ∷ []
 
 -- under the log's latch the log's end is loaded, and the redo position is raised to it
 abbrev pub move_redo : List Event
@@ -81,11 +86,16 @@ pub record HasEdited (p q : Page) (t : State) : Type 0 where
   -- redo position was 0, and the page's own 8224; the backend raised the redo position once, to
   -- 8272
   pub called : (v : View) × (get_elem? t.pool.core.views 0 ≡ some v)
-      × (get_elem? v.calls 1 ≡ some (Write 0 7 q 8272 (record { size = 48; test = Some (record { redo = 0; before = 8224 }) })))
+      × (get_elem? v.calls 1 ≡ some (Write 0 7 q 8272 (record {
+        size = 48;
+        test = Some (record { redo = 0; before = 8224 });
+      })))
       × (v.redo_raised ≡ 8272 ∷ [])
 
 -- there are such pages p and q, and for each such pair the steps lead from the start to the state
 -- after them
 abbrev pub RangesRuns : Type 0
 RangesRuns = IsPut some_page × IsEdited some_page edited_page
-    × ((p q : Page) → IsPut p → IsEdited p q → (t : State) × Run (miss ++ fill ++ change p ++ edit p q ++ move_redo) (start_with true) t × HasEdited p q t)
+    × ((p q : Page) → IsPut p → IsEdited p q
+    → (t : State) × Run (miss ++ fill ++ change p ++ edit p q ++ move_redo) (start_with true) t
+    × HasEdited p q t)

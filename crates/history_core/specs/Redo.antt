@@ -15,7 +15,8 @@ use Rattle.history_core.specs.State.{State}
 
 -- some view raised the redo position to this one
 abbrev pub IsRaised : List View → ℕ → Type 0
-IsRaised views r = (i k : ℕ) × (v : View) × (get_elem? views i ≡ some v) × (get_elem? v.redo_raised k ≡ some r)
+IsRaised views r = (i k : ℕ) × (v : View) × (get_elem? views i ≡ some v)
+    × (get_elem? v.redo_raised k ≡ some r)
 
 -- the redo position stood there: where the log begins, or where a view raised it to
 abbrev pub HasBeenRedo : State → ℕ → Type 0
@@ -24,11 +25,14 @@ HasBeenRedo s r = (r ≡ s.log.base) ⊎ IsRaised s.pool.core.views r
 -- at the start no sound page had a position past the log's base, as far as the lanes' contents
 -- are known
 abbrev pub StartsAtBase : State → Type 0
-StartsAtBase s = (tag : ℕ) (p : Page) → s.known tag ≡ true → s.origin tag ≡ Some p → is_sound_page p ≡ true → lsn_of p ≤ s.log.base
+StartsAtBase s = (tag : ℕ) (p : Page) → s.known tag ≡ true → s.origin tag ≡ Some p
+    → is_sound_page p ≡ true
+    → lsn_of p ≤ s.log.base
 
 -- one of the entries has the whole page of the block
 abbrev pub HasWholePage : List Entry → ℕ → Type 0
-HasWholePage es tag = (k : ℕ) × (e : Entry) × (p : Page) × (get_elem? es k ≡ some e) × (e.change ≡ image tag p)
+HasWholePage es tag = (k : ℕ) × (e : Entry) × (p : Page) × (get_elem? es k ≡ some e)
+    × (e.change ≡ image tag p)
 
 -- Before the entry k there is an entry of the block's whole page that starts at r or after it
 pub record FollowsImage (es : List Entry) (tag r k : ℕ) : Type 0 where
@@ -70,30 +74,39 @@ abbrev pub ChosenBy : State → Call → Type 0
 ChosenBy s (Read backend tag page place) = Unit {0}
 ChosenBy s (Size backend fork blocks place) = Unit {0}
 ChosenBy s (Sized backend fork blocks place) = Unit {0}
-ChosenBy s (Write backend tag page place logged) = (t : ImageTest) → logged.test ≡ Some t → HasBeenRedo s t.redo × (t.redo + logged.size ≤ place)
+ChosenBy s (Write backend tag page place logged) = (t : ImageTest) → logged.test ≡ Some t
+    → HasBeenRedo s t.redo × (t.redo + logged.size ≤ place)
 
 -- full page writes: if at the start no sound page had a position past the log's base, each entry
 -- of ranges that starts at a redo position or after it follows an entry of its block's whole page
 -- that does too, if the contents of the block's lane are known
 abbrev pub RangesFollowImages : State → Type 0
-RangesFollowImages s = StartsAtBase s → (tag r k : ℕ) (e : Entry) (spans : List Span) → HasBeenRedo s r → get_elem? s.log.entries k ≡ some e → e.change ≡ ranges tag spans → s.known tag ≡ true → r ≤ e.start → FollowsImage s.log.entries tag r k
+RangesFollowImages s = StartsAtBase s → (tag r k : ℕ) (e : Entry) (spans : List Span)
+    → HasBeenRedo s r → get_elem? s.log.entries k ≡ some e → e.change ≡ ranges tag spans
+    → s.known tag ≡ true → r ≤ e.start
+    → FollowsImage s.log.entries tag r k
 
 -- each write's record that was tested, was tested by a redo position that had stood before the
 -- record
 abbrev pub TestsStood : State → Type 0
-TestsStood s = (i k : ℕ) (v : View) (c : Call) → get_elem? s.pool.core.views i ≡ some v → get_elem? v.calls k ≡ some c → ChosenBy s c
+TestsStood s = (i k : ℕ) (v : View) (c : Call) → get_elem? s.pool.core.views i ≡ some v
+    → get_elem? v.calls k ≡ some c
+    → ChosenBy s c
 
 -- The law of the redo position
 pub record RedoLaw (s : State) : Type 0 where
   -- a redo position that a backend has loaded under the log's latch, and not raised since, is the
   -- one that stands
-  pub loaded : (i : ℕ) (v : View) (r : ℕ) → get_elem? s.pool.core.views i ≡ some v → v.log.redo ≡ Some r → r ≡ s.redo
+  pub loaded : (i : ℕ) (v : View) (r : ℕ) → get_elem? s.pool.core.views i ≡ some v
+      → v.log.redo ≡ Some r
+      → r ≡ s.redo
   -- the redo position is the log's end or before it
   pub within : s.redo ≤ s.end
   -- the redo position is the log's base, or the largest to which a view raised it
   pub highest : IsHighestRaised s.log.base s.redo s.pool.core.views
   -- no entry lies across a position where the redo position has stood
-  pub between : (r : ℕ) → HasBeenRedo s r → (k : ℕ) (e : Entry) → get_elem? s.log.entries k ≡ some e → (end_of e ≤ r) ⊎ (r ≤ e.start)
+  pub between : (r : ℕ) → HasBeenRedo s r → (k : ℕ) (e : Entry) → get_elem? s.log.entries k ≡ some e
+      → (end_of e ≤ r) ⊎ (r ≤ e.start)
   -- an entry of ranges that starts where the redo position has stood, or after it, follows a whole
   -- page of its block that does too, if at the start no sound page was past the log's base and the
   -- contents of the block's lane are known

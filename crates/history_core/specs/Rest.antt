@@ -4,7 +4,8 @@ use Rattle.std.specs.Prelude.{◌≡◌, ◌≢◌, ℕ, ◌≤◌, Bool, List, 
 use mathlib.Core.Option.{some}
 use lib.ListN.{get_elem?}
 use Rattle.pin_core.specs.declared.view.View.{View}
-use Rattle.history_core.specs.Log.{Entry, IsChange, MayMake, end_of, record_size, record_bytes, log_bytes}
+use Rattle.history_core.specs.Log.{Entry, IsChange, MayMake, end_of, record_size, record_bytes}
+use Rattle.history_core.specs.Log.{log_bytes}
 use Rattle.history_core.specs.State.{State}
 use Rattle.history_core.specs.Redo.{CanFollow}
 use Rattle.history_core.specs.TornRecords.{NotesTorn}
@@ -16,7 +17,8 @@ NoneAppended s = (i : ℕ) (v : View) → get_elem? s.pool.core.views i ≡ some
 -- The bytes are the first of the record of an entry that starts at the position `end`: none, some
 -- or all of them. `ranges` says whether the entry may be of ranges, and `names` is how the log
 -- names a block
-pub record BeginsRecord (ranges : Bool) (names : ℕ → List ℕ) (end : ℕ) (bytes : List ℕ) : Type 0 where
+pub record BeginsRecord (ranges : Bool) (names : ℕ → List ℕ) (end : ℕ)
+    (bytes : List ℕ) : Type 0 where
   -- the entry whose record the bytes begin
   pub entry : Entry
   -- the entry starts at the position `end`
@@ -43,7 +45,8 @@ pub record HasRest (s : State) : Type 0 where
   -- redo can do the entry that the rest begins, after those of the log
   pub follows : (some : rest ≢ []) → CanFollow s (begins some).entry.change
   -- once the log is down, a rest begins a record that a backend failed to append
-  pub torn : (some : rest ≢ []) → s.device.down ≢ None → NotesTorn s.pool.core.views (begins some).entry.change
+  pub torn : (some : rest ≢ []) → s.device.down ≢ None
+      → NotesTorn s.pool.core.views (begins some).entry.change
   -- the rest is no longer than the record of a page
   pub short : length rest ≤ record_size
 

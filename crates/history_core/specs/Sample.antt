@@ -13,7 +13,17 @@ use Rattle.history_core.specs.Words.{load_end, load_flushed, raise_flushed}
 
 -- one frame, one partition, one lane, and room for two backends
 abbrev pub sample_config : Config
-sample_config = record { frames = 1; partitions = 1; partition_of = λ _. 0; is_fork = λ _. true; sizes = λ _. 8; resizes = false; lanes = 1; backends = 2; base = 0 }
+sample_config = record {
+  frames = 1;
+  partitions = 1;
+  partition_of = λ _. 0;
+  is_fork = λ _. true;
+  sizes = λ _. 8;
+  resizes = false;
+  lanes = 1;
+  backends = 2;
+  base = 0;
+}
 
 -- the page that the lane holds for each block: three bytes
 abbrev pub short_page : Page
@@ -48,11 +58,13 @@ sample_log = record { bytes = Some (head_bytes 0); synced = 0; faults = 0; calls
 
 -- the block 7 is read from the lane
 abbrev pub read_lane : List Event
-read_lane = lane 0 0 take_lane ∷ lane 0 0 (lane_out sample_lane) ∷ lane 0 0 (read_block 7 short_page) ∷ lane 0 0 (lane_back false) ∷ lane 0 0 leave_lane ∷ []
+read_lane = lane 0 0 take_lane ∷ lane 0 0 (lane_out sample_lane)
+    ∷ lane 0 0 (read_block 7 short_page) ∷ lane 0 0 (lane_back false) ∷ lane 0 0 leave_lane ∷ []
 
 -- the log is made durable, and the flushed position is raised; then it and the log's end are loaded
 abbrev pub flush_log : List Event
-flush_log = log 0 take_log ∷ log 0 (log_out sample_log) ∷ log 0 sync_log ∷ log 0 (log_back false) ∷ word 0 raise_flushed ∷ log 0 leave_log ∷ word 0 load_flushed ∷ word 0 load_end ∷ []
+flush_log = log 0 take_log ∷ log 0 (log_out sample_log) ∷ log 0 sync_log ∷ log 0 (log_back false)
+    ∷ word 0 raise_flushed ∷ log 0 leave_log ∷ word 0 load_flushed ∷ word 0 load_end ∷ []
 
 -- After that both latches are free, and the log's head is durable
 pub record HeadFlushed (t : State) : Type 0 where
@@ -67,4 +79,5 @@ pub record HeadFlushed (t : State) : Type 0 where
 
 -- a buffer pool can be opened so, and the steps lead from its start to such a state
 abbrev pub SampleRuns : Type 0
-SampleRuns = CanOpen sample_config × CanStore sample_config sample_store × ((m : State) × (t : State) × Run read_lane sample_start m × Run flush_log m t × HeadFlushed t)
+SampleRuns = CanOpen sample_config × CanStore sample_config sample_store
+    × ((m : State) × (t : State) × Run read_lane sample_start m × Run flush_log m t × HeadFlushed t)

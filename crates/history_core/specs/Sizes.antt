@@ -1,7 +1,9 @@
 -- How many blocks each fork has after entries, and which blocks are there by that.
-use Rattle.std.specs.Prelude.{◌≡◌, ◌⊎◌, ℕ, ◌+◌, ◌<◌, List, [], ◌∷◌, Option, is_some, nat_eq, nat_lt, if◌then◌else◌}
+use Rattle.std.specs.Prelude.{◌≡◌, ◌⊎◌, ℕ, ◌+◌, ◌<◌, List, [], ◌∷◌, Option, is_some, nat_eq, nat_lt}
+use Rattle.std.specs.Prelude.{if◌then◌else◌}
 use Rattle.pin_core.specs.State.{Page}
-use Rattle.history_core.specs.Log.{resized_fork, sizes_after, Change, image, ranges, resize, Entry, Log, LogLaw, cell, cut}
+use Rattle.history_core.specs.Log.{resized_fork, sizes_after, Change, image, ranges, resize, Entry}
+use Rattle.history_core.specs.Log.{Log, LogLaw, cell, cut}
 use Rattle.pin_core.specs.State.{tag_fork, tag_block}
 
 -- A change is of a block that is there; or it adds one block to a fork, or cuts some away
@@ -17,11 +19,14 @@ AreSized (e ∷ es) sizes = FitsSizes e.change sizes × AreSized es (resized_for
 
 -- A block is there exactly below its fork's size
 abbrev pub AreThere : (ℕ → Option Page) → (ℕ → ℕ) → Type 0
-AreThere pages sizes = (tag : ℕ) → is_some (pages tag) ≡ nat_lt (tag_block tag) (sizes (tag_fork tag))
+AreThere pages sizes = (tag : ℕ)
+    → is_some (pages tag) ≡ nat_lt (tag_block tag) (sizes (tag_fork tag))
 
 -- After entries that fit the sizes, a block is there exactly below its fork's size, if it was so
 -- before; and so it is after the entries up to any position of a log
 abbrev pub BlocksThere : Type 0
 BlocksThere = (opened : ℕ → Option Page) (sizes : ℕ → ℕ) → AreThere opened sizes
     → ((es : List Entry) → AreSized es sizes → AreThere (cell opened es) (sizes_after es sizes))
-    × ((log : Log) → LogLaw log → AreSized log.entries sizes → (place : ℕ) → AreThere (cell opened (cut place log.entries)) (sizes_after (cut place log.entries) sizes))
+    × ((log : Log) → LogLaw log → AreSized log.entries sizes → (place : ℕ)
+    → AreThere (cell opened (cut place log.entries))
+    (sizes_after (cut place log.entries) sizes))

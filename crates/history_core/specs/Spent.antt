@@ -8,4 +8,5 @@ use Rattle.history_core.specs.State.{State}
 
 -- an emptied view has nothing: no call, no fault counted, no latch, lock or right
 abbrev pub SpentLaw : State → Type 0
-SpentLaw s = (i : ℕ) (v : View) → get_elem? s.pool.core.views i ≡ some v → v.emptied ≡ true → v ≡ emptied_view
+SpentLaw s = (i : ℕ) (v : View) → get_elem? s.pool.core.views i ≡ some v → v.emptied ≡ true
+    → v ≡ emptied_view

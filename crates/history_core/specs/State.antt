@@ -2,7 +2,8 @@
 -- From outside come the numbers of partitions and lanes, the functions from tags to them, the forks
 -- and their sizes, and how the log names a block. The table has 128 partitions, the hash of
 -- `block_tag`, and the forks and names of its catalogue.
-use Rattle.std.specs.Prelude.{◌≡◌, ℕ, ◌+◌, ◌<◌, ◌≤◌, Bool, true, false, List, [], length, nat_eq, Option, None, if◌then◌else◌}
+use Rattle.std.specs.Prelude.{◌≡◌, ℕ, ◌+◌, ◌<◌, ◌≤◌, Bool, true, false, List, [], length, nat_eq}
+use Rattle.std.specs.Prelude.{Option, None, if◌then◌else◌}
 use Rattle.std.specs.Option.{is_some}
 use Rattle.pin_core.specs.State.{Page, Config, is_below}
 use Rattle.page_core.specs.State as page
@@ -166,7 +167,8 @@ pub record CanStore (c : Config) (store : Store) : Type 0 where
   -- no more bytes of the log's head are durable than it has
   pub synced : store.head_synced ≤ length (head_bytes c.base)
   -- a lane whose contents are known holds each of its blocks of the relations, and maybe others
-  pub there : (tag : ℕ) → is_below c.sizes tag ≡ true → store.known (store.lane_of tag) ≡ true → is_some (store.origin tag) ≡ true
+  pub there : (tag : ℕ) → is_below c.sizes tag ≡ true → store.known (store.lane_of tag) ≡ true
+      → is_some (store.origin tag) ≡ true
 
 -- the lane n at the start, over a log that begins at `base`: no block's last write has failed
 abbrev pub fresh_lane : ℕ → Store → ℕ → Lane
@@ -186,7 +188,13 @@ fresh_lane base store n = record {
 
 -- the log's device at the start: it has the head of a log that begins at `base`
 abbrev pub fresh_device : ℕ → Store → Device
-fresh_device base store = record { taken = false; bytes = head_bytes base; synced = store.head_synced; faults = store.log_faults; down = None }
+fresh_device base store = record {
+  taken = false;
+  bytes = head_bytes base;
+  synced = store.head_synced;
+  faults = store.log_faults;
+  down = None;
+}
 
 -- whether the contents of a block's lane are known at the start
 abbrev pub is_known : Store → ℕ → Bool

@@ -1,5 +1,6 @@
 -- One step, and lists of steps.
-use Rattle.std.specs.Prelude.{◌≡◌, ◌≢◌, ℕ, ◌+◌, ◌<◌, ◌≤◌, true, false, List, [], ◌∷◌, ◌++◌, length, map, max, Bool, Option, Some, slice_set, None, if◌then◌else◌}
+use Rattle.std.specs.Prelude.{◌≡◌, ◌≢◌, ℕ, ◌+◌, ◌<◌, ◌≤◌, true, false, List, [], ◌∷◌, ◌++◌, length}
+use Rattle.std.specs.Prelude.{map, max, Bool, Option, Some, slice_set, None, if◌then◌else◌}
 use mathlib.Core.Option.{some}
 use lib.ListN.{get_elem?}
 use Rattle.page_layout.specs.Fields.{lsn_of, with_lsn}
@@ -28,11 +29,18 @@ use Rattle.page_core.specs.Kinds as pages
 use Rattle.page_core.specs.Kinds.{Kind, note_read, begin_write, note_write, make_entry}
 use Rattle.page_core.specs.Steps as page_steps
 use Rattle.page_core.specs.Steps.{logged_after}
-use Rattle.history_core.specs.Log.{Entry, Span, Change, image, ranges, resize, AreRanges, MayMake, change_size, record_bytes, with_spans}
+use Rattle.history_core.specs.Log.{Entry, Span, Change, image, ranges, resize, AreRanges, MayMake}
+use Rattle.history_core.specs.Log.{change_size, record_bytes, with_spans}
 use Rattle.history_core.specs.State.{State, last_position}
-use Rattle.history_core.specs.Words.{Word, flushed_word, redo_word, hand_word, counter_word, hint_word, word_of, WordKind, load_end, begin_checkpoint, load_flushed, raise_flushed, load_redo, raise_redo, load_hand, add_hand, load_counter, add_counter, load_hint, store_hint, word_at, WordAllowed, number_after, word_set}
-use Rattle.history_core.specs.Lanes.{LaneKind, read_block, fail_read, write_block, fail_write, lane_back, LaneAllowed, lane_after, lane_changed, swept_by}
-use Rattle.history_core.specs.Device.{LogKind, append, fail_append, LogAllowed, device_after, view_logged}
+use Rattle.history_core.specs.Words.{Word, flushed_word, redo_word, hand_word, counter_word}
+use Rattle.history_core.specs.Words.{hint_word, word_of, WordKind, load_end, begin_checkpoint}
+use Rattle.history_core.specs.Words.{load_flushed, raise_flushed, load_redo, raise_redo, load_hand}
+use Rattle.history_core.specs.Words.{add_hand, load_counter, add_counter, load_hint, store_hint}
+use Rattle.history_core.specs.Words.{word_at, WordAllowed, number_after, word_set}
+use Rattle.history_core.specs.Lanes.{LaneKind, read_block, fail_read, write_block, fail_write}
+use Rattle.history_core.specs.Lanes.{lane_back, LaneAllowed, lane_after, lane_changed, swept_by}
+use Rattle.history_core.specs.Device.{LogKind, append, fail_append, LogAllowed, device_after}
+use Rattle.history_core.specs.Device.{view_logged}
 use Rattle.grid.specs.Shape.{put}
 
 -- What happens: a step at pins, maps, content locks and pages, or a backend's step at a lane, at
@@ -93,7 +101,8 @@ pool_after k s i f w = let fr = s.core.frame f in let b = block_of s.logged fr.t
 
 -- what the kind k of `page_core` at the frame f makes of the view
 abbrev pub paged : Kind → page.State → ℕ → View → View
-paged k s f v = let fr = s.core.frame f in pages.view_after k f (block_of s.logged fr.tag) fr (link v f) v
+paged k s f v = let fr = s.core.frame f in
+    pages.view_after k f (block_of s.logged fr.tag) fr (link v f) v
 
 -- what a step of the kind k at the lane n makes of the view w, which was v before
 abbrev pub laned : LaneKind → ℕ → View → View → View
@@ -135,7 +144,8 @@ pub record CanWrite (s : State) (n f tag : ℕ) (p : Page) (h : LaneHold) (l : L
 -- unspecified
 abbrev pub MayWriteLane : LaneKind → State → ℕ → ℕ → LaneHold → Link → Type 0
 MayWriteLane (write_block g tag p) s n f h l = (g ≡ f) × CanWrite s n f tag p h l
-MayWriteLane (fail_write g tag p m) s n f h l = (g ≡ f) × CanWrite s n f tag (s.pool.core.frame f).page h l
+MayWriteLane (fail_write g tag p m) s n f h l = (g ≡ f)
+    × CanWrite s n f tag (s.pool.core.frame f).page h l
 MayWriteLane _ s n f h l = ⊥
 
 -- The page that was read is of the frame's block, which isn't new. The backend has the input right
@@ -153,7 +163,8 @@ pub record CanNoteLaneRead (s : State) (n f : ℕ) (p : Page) (h : LaneHold) (l 
   pub unnoted : l.noted ≡ false
 
 -- The page that was written is the frame's, and the backend has the output right still
-pub record CanNoteLaneWrite (s : State) (n f : ℕ) (p : Page) (h : LaneHold) (l : Link) : Type 0 where
+pub record CanNoteLaneWrite (s : State) (n f : ℕ) (p : Page) (h : LaneHold)
+    (l : Link) : Type 0 where
   -- the page was written to the lane as that of the frame's block
   pub was_written : h.change ≡ lane_change.Written f (s.pool.core.frame f).tag p
   -- the lane is that of the frame's block
@@ -161,7 +172,8 @@ pub record CanNoteLaneWrite (s : State) (n f : ℕ) (p : Page) (h : LaneHold) (l
   -- the page is the frame's
   pub page : (s.pool.core.frame f).page ≡ p
   -- the backend has the output right still
-  pub right : pages.Allowed (note_write true) (block_of s.pool.logged (s.pool.core.frame f).tag) (s.pool.core.frame f) l
+  pub right : pages.Allowed (note_write true) (block_of s.pool.logged (s.pool.core.frame f).tag)
+      (s.pool.core.frame f) l
 
 -- The write that failed was of the frame's block, to this lane, and the backend has the output
 -- right still
@@ -171,7 +183,8 @@ pub record CanNoteFailedWrite (s : State) (n f : ℕ) (h : LaneHold) (l : Link) 
   -- the lane is that of the frame's block
   pub lane : s.lane_of (s.pool.core.frame f).tag ≡ n
   -- the backend has the output right still
-  pub right : pages.Allowed (note_write false) (block_of s.pool.logged (s.pool.core.frame f).tag) (s.pool.core.frame f) l
+  pub right : pages.Allowed (note_write false) (block_of s.pool.logged (s.pool.core.frame f).tag)
+      (s.pool.core.frame f) l
 
 -- what is noted at the frame f as the lane n comes back
 abbrev pub Notes : Kind → State → ℕ → ℕ → LaneHold → Link → Type 0
@@ -183,7 +196,8 @@ Notes _ s n f h l = ⊥
 -- each block's page after the log, as far as it is known. A read from a lane whose contents aren't
 -- known may give any page: then what was known of the block's page is forgotten
 abbrev pub logged_noting : Kind → State → ℕ → ℕ → Option Page
-logged_noting (note_read p) s f = let tag = (s.pool.core.frame f).tag in if s.known tag then s.pool.logged else put s.pool.logged tag None
+logged_noting (note_read p) s f = let tag = (s.pool.core.frame f).tag in
+    if s.known tag then s.pool.logged else put s.pool.logged tag None
 logged_noting _ s f = s.pool.logged
 
 -- the buffer pool, with what is known of the blocks' pages as a lane comes back
@@ -241,7 +255,8 @@ pub record CanLog (s : State) (f tag : ℕ) (p : Page) (c : Change) (v : View) :
   -- the tag is the frame's
   pub tagged : (s.pool.core.frame f).tag ≡ tag
   -- the backend may make an entry of the page at the frame
-  pub right : pages.Allowed (make_entry p) (block_of s.pool.logged (s.pool.core.frame f).tag) (s.pool.core.frame f) (link v f)
+  pub right : pages.Allowed (make_entry p) (block_of s.pool.logged (s.pool.core.frame f).tag)
+      (s.pool.core.frame f) (link v f)
   -- nothing that the backend has elsewhere forbids the entry
   pub around : page_steps.AllowedAround (make_entry p) s.pool v f
   -- the page has 8192 bytes
@@ -268,8 +283,10 @@ pub record AppendsFirst (s : State) (c : Change) (v : View) (bytes : List ℕ) :
 -- what is appended is the record of the entry that the backend would make of the page now; an
 -- append that fails leaves the first bytes of it
 abbrev pub AppendsRecord : LogKind → State → View → Type 0
-AppendsRecord (append f tag p bytes) s v = (c : Change) × CanLog s f tag p c v × (bytes ≡ record_bytes s.names (new_entry s v.number c))
-AppendsRecord (fail_append f tag p bytes n) s v = (c : Change) × CanLog s f tag p c v × AppendsFirst s c v bytes
+AppendsRecord (append f tag p bytes) s v = (c : Change) × CanLog s f tag p c v
+    × (bytes ≡ record_bytes s.names (new_entry s v.number c))
+AppendsRecord (fail_append f tag p bytes n) s v = (c : Change) × CanLog s f tag p c v
+    × AppendsFirst s c v bytes
 AppendsRecord _ s v = Unit {0}
 
 -- The page is a whole page that the content lock lets the backend enter, and has the position of
@@ -277,7 +294,8 @@ AppendsRecord _ s v = Unit {0}
 -- appended
 pub record CanEnter (s : State) (f : ℕ) (p : Page) (c : Change) (v : View) : Type 0 where
   -- the backend may make an entry of the page at the frame
-  pub right : pages.Allowed (make_entry p) (block_of s.pool.logged (s.pool.core.frame f).tag) (s.pool.core.frame f) (link v f)
+  pub right : pages.Allowed (make_entry p) (block_of s.pool.logged (s.pool.core.frame f).tag)
+      (s.pool.core.frame f) (link v f)
   -- nothing that the backend has elsewhere forbids the entry
   pub around : page_steps.AllowedAround (make_entry p) s.pool v f
   -- the page has 8192 bytes
@@ -326,7 +344,12 @@ logged_as c redo before = record { size = change_size c; test = test_of redo bef
 -- a view that has written the page p of the block of a tag, and had copied the page `before`, if
 -- any; its record is part of the log now
 abbrev pub has_written : Change → Option Page → ℕ → ℕ → Page → View → View
-has_written c before end tag p v = record v { calls = v.calls ++ Write v.number tag p end (logged_as c v.log.redo before) ∷ []; front = end; end_seen = max v.end_seen end; log = record v.log { appended = None; end = Some end } }
+has_written c before end tag p v = record v {
+  calls = v.calls ++ Write v.number tag p end (logged_as c v.log.redo before) ∷ [];
+  front = end;
+  end_seen = max v.end_seen end;
+  log = record v.log { appended = None; end = Some end };
+}
 
 -- a checkpoint that begins has visited no frame, and none is left for it to write
 abbrev pub unmarked : Link → Link
@@ -334,11 +357,21 @@ unmarked l = record l { visited = false; left_to_write = false }
 
 -- a view that has read the page p of the block of a tag: the place of the read is `end`
 abbrev pub has_read : ℕ → ℕ → Page → View → View
-has_read end tag p v = record v { calls = v.calls ++ Read v.number tag p end ∷ []; front = end; end_seen = max v.end_seen end; place_loads = v.place_loads + 1 }
+has_read end tag p v = record v {
+  calls = v.calls ++ Read v.number tag p end ∷ [];
+  front = end;
+  end_seen = max v.end_seen end;
+  place_loads = v.place_loads + 1;
+}
 
 -- a view that has seen how many blocks a fork has: the place of that is `end`
 abbrev pub has_seen_size : ℕ → ℕ → ℕ → View → View
-has_seen_size end fork blocks v = record v { calls = v.calls ++ Sized v.number fork blocks end ∷ []; front = end; end_seen = max v.end_seen end; place_loads = v.place_loads + 1 }
+has_seen_size end fork blocks v = record v {
+  calls = v.calls ++ Sized v.number fork blocks end ∷ [];
+  front = end;
+  end_seen = max v.end_seen end;
+  place_loads = v.place_loads + 1;
+}
 
 -- what a kind of load sees that finds the number `found` in its word; none for a kind that is no
 -- load
@@ -415,7 +448,8 @@ ticks_by _ n = n
 -- what a kind makes of the view's list of stores of hint words: what was found in the word, and
 -- what was left there
 abbrev pub hints_by : WordKind → ℕ → List HintStore → List HintStore
-hints_by (store_hint number value) found hs = hs ++ record { number = number; found = found; left = value } ∷ []
+hints_by (store_hint number value) found hs = hs
+    ++ record { number = number; found = found; left = value } ∷ []
 hints_by _ found hs = hs
 
 -- what a kind makes of the view's list of additions to counters
@@ -456,7 +490,14 @@ has_raised end v = view_after_word raise_flushed end end v
 -- The state in which backend i has the view w, and the word has the number, unless it is the log's
 -- end, which no kind changes
 abbrev pub state_set : Word → ℕ → State → ℕ → View → State
-state_set at number s i w = record s { pool = aside s.pool i w; flushed = word_set at number s flushed_word; redo = word_set at number s redo_word; hand = word_set at number s hand_word; counter = λ j. word_set at number s (counter_word j); hint = λ j. word_set at number s (hint_word j) }
+state_set at number s i w = record s {
+  pool = aside s.pool i w;
+  flushed = word_set at number s flushed_word;
+  redo = word_set at number s redo_word;
+  hand = word_set at number s hand_word;
+  counter = λ j. word_set at number s (counter_word j);
+  hint = λ j. word_set at number s (hint_word j);
+}
 
 -- the state after a step of the kind k at its word by backend i, whose view is v
 abbrev pub state_after_word : WordKind → State → ℕ → View → State
@@ -465,34 +506,72 @@ state_after_word k s i v = state_set (word_at k) (number_after k s) s i (after_w
 -- An event leads from one state to another
 pub data Step : Event → State → State → Type 0 where
   -- a step of `page_core`
-  pools : {s : State} {e : page_steps.Event} {pool' : page.State} → page_steps.Step e s.pool pool' → PoolAllowed e → Step (pool e) s (record s { pool = pool' })
+  pools : {s : State} {e : page_steps.Event} {pool' : page.State} → page_steps.Step e s.pool pool'
+      → PoolAllowed e
+      → Step (pool e) s (record s { pool = pool' })
   -- a step at the lane n by backend i, whose view is v
-  lanes : {s : State} (i n : ℕ) (k : LaneKind) (v : View) → get_elem? s.pool.core.views i ≡ some v → v.emptied ≡ false → n < s.lanes → LaneAllowed k (s.lane n) (lane_hold v n) → LaneAlone k s n (lane_hold v n)
-      → Step (lane i n k) s (record s { pool = aside s.pool i (stepped (laned k n v v)); lane = put s.lane n (lane_after k (s.lane n)) })
+  lanes : {s : State} (i n : ℕ) (k : LaneKind) (v : View) → get_elem? s.pool.core.views i ≡ some v
+      → v.emptied ≡ false → n < s.lanes → LaneAllowed k (s.lane n) (lane_hold v n)
+      → LaneAlone k s n (lane_hold v n)
+      → Step (lane i n k) s (record s {
+        pool = aside s.pool i (stepped (laned k n v v));
+        lane = put s.lane n (lane_after k (s.lane n));
+      })
   -- a write of the page of the frame f to the lane n by backend i, whose view is v
-  writes : {s : State} (i n f : ℕ) (k : LaneKind) (v : View) → get_elem? s.pool.core.views i ≡ some v → v.emptied ≡ false → n < s.lanes → f < s.pool.core.frames → LaneAllowed k (s.lane n) (lane_hold v n) → MayWriteLane k s n f (lane_hold v n) (link v f)
-      → Step (write i n f k) s (record s { pool = pool_after begin_write s.pool i f (laned k n v (paged begin_write s.pool f v)); lane = put s.lane n (lane_after k (s.lane n)) })
+  writes : {s : State} (i n f : ℕ) (k : LaneKind) (v : View)
+      → get_elem? s.pool.core.views i ≡ some v → v.emptied ≡ false → n < s.lanes
+      → f < s.pool.core.frames → LaneAllowed k (s.lane n) (lane_hold v n)
+      → MayWriteLane k s n f (lane_hold v n) (link v f)
+      → Step (write i n f k) s (record s {
+        pool = pool_after begin_write s.pool i f (laned k n v (paged begin_write s.pool f v));
+        lane = put s.lane n (lane_after k (s.lane n));
+      })
   -- the lane n comes back from backend i, whose view is v, and what was read or written is noted at
   -- the frame f
-  notes : {s : State} (i n f : ℕ) (noted : Bool) (k : Kind) (v : View) → get_elem? s.pool.core.views i ≡ some v → v.emptied ≡ false → n < s.lanes → f < s.pool.core.frames → LaneAllowed (lane_back noted) (s.lane n) (lane_hold v n) → Notes k s n f (lane_hold v n) (link v f)
-      → Step (note i n f (lane_back noted) k) s (record s { pool = pool_after k (pool_noting k s f) i f (laned (lane_back noted) n v (paged k (pool_noting k s f) f v)); lane = put s.lane n (lane_after (lane_back noted) (s.lane n)) })
+  notes : {s : State} (i n f : ℕ) (noted : Bool) (k : Kind) (v : View)
+      → get_elem? s.pool.core.views i ≡ some v → v.emptied ≡ false → n < s.lanes
+      → f < s.pool.core.frames → LaneAllowed (lane_back noted) (s.lane n) (lane_hold v n)
+      → Notes k s n f (lane_hold v n) (link v f)
+      → Step (note i n f (lane_back noted) k) s (record s {
+        pool = pool_after k (pool_noting k s f) i f
+            (laned (lane_back noted) n v (paged k (pool_noting k s f) f v));
+        lane = put s.lane n (lane_after (lane_back noted) (s.lane n));
+      })
   -- a step at the log by backend i, whose view is v
-  logs : {s : State} (i : ℕ) (k : LogKind) (v : View) → get_elem? s.pool.core.views i ≡ some v → v.emptied ≡ false → LogAllowed k s.device v.log → AppendsRecord k s v → Step (log i k) s (record s { pool = aside s.pool i (view_logged k v); device = device_after k s.end s.device })
+  logs : {s : State} (i : ℕ) (k : LogKind) (v : View) → get_elem? s.pool.core.views i ≡ some v
+      → v.emptied ≡ false → LogAllowed k s.device v.log → AppendsRecord k s v
+      → Step (log i k) s (record s {
+        pool = aside s.pool i (view_logged k v);
+        device = device_after k s.end s.device;
+      })
   -- backend i, whose view is v, makes an entry of the page p of the frame f
-  enters : {s : State} (i f : ℕ) (p : Page) (c : Change) (v : View) → get_elem? s.pool.core.views i ≡ some v → v.emptied ≡ false → f < s.pool.core.frames → CanEnter s f p c v
-      → Step (enter i f p c) s (let tag = (s.pool.core.frame f).tag in let end = s.end + change_size c in record s {
-        pool = pool_after (make_entry p) s.pool i f (has_written c (link v f).copied end tag p (paged (make_entry p) s.pool f v));
+  enters : {s : State} (i f : ℕ) (p : Page) (c : Change) (v : View)
+      → get_elem? s.pool.core.views i ≡ some v → v.emptied ≡ false → f < s.pool.core.frames
+      → CanEnter s f p c v
+      → Step (enter i f p c) s (let tag = (s.pool.core.frame f).tag in
+      let end = s.end + change_size c in record s {
+        pool = pool_after (make_entry p) s.pool i f
+            (has_written c (link v f).copied end tag p (paged (make_entry p) s.pool f v));
         log = record s.log { entries = s.log.entries ++ new_entry s v.number c ∷ [] };
         end = end;
       })
   -- backend i, whose view is v, gives the read of the page p its place
-  reads : {s : State} (i f tag : ℕ) (p : Page) (v : View) → get_elem? s.pool.core.views i ≡ some v → v.emptied ≡ false → f < s.pool.core.frames → CanRead tag p (link v f)
-      → Step (read i f) s (record s { pool = aside s.pool i (looked (seen.LogEnd s.end) (has_read s.end tag p v)) })
+  reads : {s : State} (i f tag : ℕ) (p : Page) (v : View) → get_elem? s.pool.core.views i ≡ some v
+      → v.emptied ≡ false → f < s.pool.core.frames → CanRead tag p (link v f)
+      → Step (read i f) s (record s {
+        pool = aside s.pool i (looked (seen.LogEnd s.end) (has_read s.end tag p v));
+      })
   -- backend i, whose view is v, gives the size at which it keeps the fork its place
-  reads_size : {s : State} (i fork : ℕ) (v : View) → get_elem? s.pool.core.views i ≡ some v → v.emptied ≡ false → (size_hold v fork).right ≡ size_right.Shared
-      → Step (read_size i fork) s (record s { pool = aside s.pool i (looked (seen.LogEnd s.end) (has_seen_size s.end fork (size_hold v fork).blocks v)) })
+  reads_size : {s : State} (i fork : ℕ) (v : View) → get_elem? s.pool.core.views i ≡ some v
+      → v.emptied ≡ false → (size_hold v fork).right ≡ size_right.Shared
+      → Step (read_size i fork) s (record s {
+        pool = aside s.pool i
+            (looked (seen.LogEnd s.end) (has_seen_size s.end fork (size_hold v fork).blocks v));
+      })
   -- a step at one of the other words by backend i, whose view is v
-  words : {s : State} (i : ℕ) (k : WordKind) (v : View) → get_elem? s.pool.core.views i ≡ some v → v.emptied ≡ false → WordAllowed k s v → Step (word i k) s (state_after_word k s i v)
+  words : {s : State} (i : ℕ) (k : WordKind) (v : View) → get_elem? s.pool.core.views i ≡ some v
+      → v.emptied ≡ false → WordAllowed k s v
+      → Step (word i k) s (state_after_word k s i v)
 
 -- The events lead from one state to the other
 pub data Run : List Event → State → State → Type 0 where

@@ -13,7 +13,9 @@ pub record IsSwept (s : State) (n upto : ℕ) : Type 0 where
   -- the position is the log's end at most
   pub within : upto ≤ s.end
   -- a sync has covered each entry of the lane's blocks that ends at the position or before it
-  pub covered : (k tag : ℕ) (e : Entry) → IsEntryOf s.log.entries tag k e → s.lane_of tag ≡ n → end_of e ≤ upto → end_of e ≤ synced_upto s tag
+  pub covered : (k tag : ℕ) (e : Entry) → IsEntryOf s.log.entries tag k e → s.lane_of tag ≡ n
+      → end_of e ≤ upto
+      → end_of e ≤ synced_upto s tag
 
 -- the position up to which a backend that was joined into another had swept the lane n
 abbrev pub has_swept : JoinedCheckpoint → ℕ → ℕ
@@ -26,7 +28,8 @@ pub record ViewSwept (s : State) (v : View) : Type 0 where
   pub own : (n : ℕ) → IsSwept s n (lane_hold v n).swept
   -- syncs have covered each lane's entries up to where a backend that was joined into the view had
   -- swept it
-  pub kept : (k n : ℕ) (c : JoinedCheckpoint) → get_elem? v.joined_checkpoints k ≡ some c → IsSwept s n (has_swept c n)
+  pub kept : (k n : ℕ) (c : JoinedCheckpoint) → get_elem? v.joined_checkpoints k ≡ some c
+      → IsSwept s n (has_swept c n)
 
 -- The law of what the lanes' syncs have covered
 pub record SweptLaw (s : State) : Type 0 where

@@ -15,4 +15,5 @@ IsOfPage (resize fork old new) tag page = ⊥
 
 -- a view notes the change's record among those that it failed to append
 abbrev pub NotesTorn : List View → Change → Type 0
-NotesTorn views c = (i k : ℕ) × (v : View) × (x : TornRecord) × (get_elem? views i ≡ some v) × (get_elem? v.torn k ≡ some x) × IsOfPage c x.tag x.page
+NotesTorn views c = (i k : ℕ) × (v : View) × (x : TornRecord) × (get_elem? views i ≡ some v)
+    × (get_elem? v.torn k ≡ some x) × IsOfPage c x.tag x.page

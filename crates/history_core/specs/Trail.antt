@@ -63,12 +63,16 @@ pub record HasSameWords (s t : State) : Type 0 where
 -- made, and nothing else
 pub record MakesListed (s t : State) (v w : View) : Type 0 where
   -- if the view lists no further change, each frame's state word is as it was
-  pub still : w.changes ≡ v.changes → (f : ℕ) → (t.pool.core.frame f).word ≡ (s.pool.core.frame f).word
+  pub still : w.changes ≡ v.changes → (f : ℕ)
+      → (t.pool.core.frame f).word ≡ (s.pool.core.frame f).word
   -- if the view lists one more change, of a frame's word as it was, the frame has the word that was
   -- left
-  pub changed : (f : ℕ) (c : WordChange) → w.changes ≡ v.changes ++ c ∷ [] → c.frame ≡ f → c.found ≡ (s.pool.core.frame f).word → (t.pool.core.frame f).word ≡ c.left
+  pub changed : (f : ℕ) (c : WordChange) → w.changes ≡ v.changes ++ c ∷ [] → c.frame ≡ f
+      → c.found ≡ (s.pool.core.frame f).word
+      → (t.pool.core.frame f).word ≡ c.left
   -- if the view lists one more change, each other frame's state word is as it was
-  pub others : (f : ℕ) (c : WordChange) → w.changes ≡ v.changes ++ c ∷ [] → f ≢ c.frame → (t.pool.core.frame f).word ≡ (s.pool.core.frame f).word
+  pub others : (f : ℕ) (c : WordChange) → w.changes ≡ v.changes ++ c ∷ [] → f ≢ c.frame
+      → (t.pool.core.frame f).word ≡ (s.pool.core.frame f).word
   -- if the view counts no further move of the hand, the hand stands where it stood
   pub unmoved : w.ticks ≡ v.ticks → t.hand ≡ s.hand
   -- if the view counts one more move of the hand, the hand has moved on by one
@@ -80,12 +84,14 @@ pub record MakesListed (s t : State) (v w : View) : Type 0 where
   pub unraised : t.log.base ≡ s.log.base → w.redo_raised ≡ v.redo_raised → t.redo ≡ s.redo
   -- if the logs begin at one place, and the view raised the redo position once more, it is the
   -- larger of what it was and of where the view raised it to
-  pub raised_redo : t.log.base ≡ s.log.base → (r : ℕ) → w.redo_raised ≡ v.redo_raised ++ r ∷ [] → t.redo ≡ max s.redo r
+  pub raised_redo : t.log.base ≡ s.log.base → (r : ℕ) → w.redo_raised ≡ v.redo_raised ++ r ∷ []
+      → t.redo ≡ max s.redo r
   -- if the view lists no further addition, each counter is as it was
   pub unadded : w.published ≡ v.published → (number : ℕ) → t.counter number ≡ s.counter number
   -- if the view lists one more addition, its counter has risen by what was added, and no other has
   -- changed
-  pub added : (p : Published) → w.published ≡ v.published ++ p ∷ [] → (number : ℕ) → t.counter number ≡ put s.counter p.count (s.counter p.count + p.more) number
+  pub added : (p : Published) → w.published ≡ v.published ++ p ∷ [] → (number : ℕ)
+      → t.counter number ≡ put s.counter p.count (s.counter p.count + p.more) number
   -- if the view lists no further store of a hint word, each hint word is as it was
   pub unstored : w.hints ≡ v.hints → (number : ℕ) → t.hint number ≡ s.hint number
   -- if the view lists one more store of a hint word, which found the word's value, the word has the
@@ -96,4 +102,6 @@ pub record MakesListed (s t : State) (v w : View) : Type 0 where
 -- if the views of the two states differ in one view alone, what that one lists more was made, and
 -- nothing else
 abbrev pub ListedIsMade : State → State → Type 0
-ListedIsMade s t = (i : ℕ) (v w : View) → get_elem? s.pool.core.views i ≡ some v → t.pool.core.views ≡ slice_set s.pool.core.views i w → MakesListed s t v w
+ListedIsMade s t = (i : ℕ) (v w : View) → get_elem? s.pool.core.views i ≡ some v
+    → t.pool.core.views ≡ slice_set s.pool.core.views i w
+    → MakesListed s t v w

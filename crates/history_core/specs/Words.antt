@@ -2,7 +2,8 @@
 -- What the kinds here make of view and state is written once, with the kind as a variable, so a new
 -- word costs no law that doesn't speak of it. A read's place adds to the calls, so it is a step of
 -- its own.
-use Rattle.std.specs.Prelude.{◌≡◌, ℕ, ◌+◌, ◌*◌, ◌<◌, ◌≤◌, Bool, true, false, max, nat_eq, Some, if◌then◌else◌}
+use Rattle.std.specs.Prelude.{◌≡◌, ℕ, ◌+◌, ◌*◌, ◌<◌, ◌≤◌, Bool, true, false, max, nat_eq, Some}
+use Rattle.std.specs.Prelude.{if◌then◌else◌}
 use Rattle.pin_core.specs.declared.view.View.{View}
 use Rattle.history_core.specs.Balances.{added_to}
 use Rattle.history_core.specs.State.{State, next_hand}
@@ -62,7 +63,14 @@ pub record Words : Type 0 where
 
 -- the numbers that the words of a state have
 abbrev pub words_of : State → Words
-words_of s = record { end = s.end; flushed = s.flushed; redo = s.redo; hand = s.hand; counter = s.counter; hint = s.hint }
+words_of s = record {
+  end = s.end;
+  flushed = s.flushed;
+  redo = s.redo;
+  hand = s.hand;
+  counter = s.counter;
+  hint = s.hint;
+}
 
 -- the number that a word has among these
 abbrev pub word_in : Word → Words → ℕ
@@ -129,9 +137,11 @@ WordAllowed raise_flushed s v = v.log.synced ≡ true
 WordAllowed load_redo s v = v.log.held ≡ true
 WordAllowed raise_redo s v = v.log.end ≡ Some s.end
 WordAllowed (load_counter number) s v = number < counter_count
-WordAllowed (add_counter number more) s v = (number < counter_count) × (added_to number v + more ≤ most_published)
+WordAllowed (add_counter number more) s v = (number < counter_count)
+    × (added_to number v + more ≤ most_published)
 WordAllowed (load_hint number) s v = number < hint_count s.pool.core.frames
-WordAllowed (store_hint number value) s v = (number < hint_count s.pool.core.frames) × (value ≤ s.pool.core.frames)
+WordAllowed (store_hint number value) s v = (number < hint_count s.pool.core.frames)
+    × (value ≤ s.pool.core.frames)
 WordAllowed _ s v = Unit {0}
 
 -- the number that a kind leaves in its word
