@@ -372,7 +372,7 @@ pub record IsLegalSized (sizes : ℕ → ℕ) (log : Log) (fork blocks place : �
   -- after the entries up to the place the fork has this number of blocks
   pub sees : sizes_after (cut place log.entries) sizes fork ≡ blocks
 
--- the call is legal with the log
+-- a call is legal with the log
 abbrev pub IsLegal : (ℕ → Bool) → (ℕ → Option Page) → (ℕ → ℕ) → Log → Call → Type 0
 IsLegal known origin sizes log (Read backend tag page place) =
     IsLegalRead known origin log tag page place

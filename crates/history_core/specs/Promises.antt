@@ -43,16 +43,16 @@ GrantsAreAlone s = (i f : ℕ) (v : View) (t : State)
 -- The lane of an entry's block, whose tag is this, holds the block's page after the entry or after
 -- a later one
 pub record IsInLane (s : State) (e : Entry) (tag : ℕ) : Type 0 where
-  -- the position up to which the block's entries are in its lane
+  -- the position of the log up to which the block's entries are in its lane
   pub place : ℕ
-  -- the entry ends at that position or before it
+  -- the entry ends at `place` or before it
   pub later : end_of e ≤ place
-  -- the position up to which the lane has the block is flushed
+  -- the log is flushed up to `place`
   pub flushed : place ≤ s.flushed
   -- the entry is durable in the log
   pub durable : head_size + end_of e ≤ s.log.base + s.device.synced
-  -- if the lane's contents are known, the lane holds the block's page after the entries up to that
-  -- position
+  -- if the lane's contents are known, the lane holds the block's page after the entries up to
+  -- `place`
   pub holds : s.known tag ≡ true → stored s tag ≡ cell s.origin (cut place s.log.entries) tag
 
 -- The last write of a block failed, and the block's frame is valid and dirty
@@ -97,8 +97,7 @@ SweepsStore s = (i upto : ℕ) (v : View) → get_elem? s.pool.core.views i ≡ 
     → AreSynced s upto × AreStored s upto
 
 -- What holds at the end of a checkpoint, once it has visited every frame and has none left to
--- write.
--- A checkpoint has no step for its end: the promise holds in the state where it ends.
+-- write. A checkpoint has no step for its end: the promise holds in the state where it ends
 pub record CheckpointsStore (s : State) : Type 0 where
   -- if a view's own checkpoint has visited every frame and has none left to write, each entry up to
   -- where it began is stored

@@ -68,8 +68,8 @@ pub record IsHighestRaised (base redo : ℕ) (views : List View) : Type 0 where
   -- the redo position is the log's base, or a view raised it there
   pub reached : (redo ≡ base) ⊎ IsRaised views redo
 
--- if a write's record was tested, the redo position of the test had stood, at the record's start or
--- before it
+-- if a write's record was tested, the redo position of the test had stood, and is at the record's
+-- start or before it
 abbrev pub ChosenBy : State → Call → Type 0
 ChosenBy s (Read backend tag page place) = Unit {0}
 ChosenBy s (Size backend fork blocks place) = Unit {0}
@@ -86,8 +86,8 @@ RangesFollowImages s = StartsAtBase s → (tag r k : ℕ) (e : Entry) (spans : L
     → s.known tag ≡ true → r ≤ e.start
     → FollowsImage s.log.entries tag r k
 
--- each write's record that was tested, was tested by a redo position that had stood before the
--- record
+-- if a write's record was tested, the redo position of the test had stood before the record was
+-- made
 abbrev pub TestsStood : State → Type 0
 TestsStood s = (i k : ℕ) (v : View) (c : Call) → get_elem? s.pool.core.views i ≡ some v
     → get_elem? v.calls k ≡ some c
@@ -111,6 +111,6 @@ pub record RedoLaw (s : State) : Type 0 where
   -- page of its block that does too, if at the start no sound page was past the log's base and the
   -- contents of the block's lane are known
   pub follows : RangesFollowImages s
-  -- each write's record that was tested, was tested by a redo position that had stood before the
-  -- record
+  -- if a write's record was tested, the redo position of the test had stood before the record was
+  -- made
   pub chosen : TestsStood s

@@ -33,8 +33,7 @@ pub record BeginsRecord (ranges : Bool) (names : ℕ → List ℕ) (end : ℕ)
   pub begins : bytes ++ more ≡ record_bytes names entry
 
 -- After the log's bytes the device has nothing, or the first bytes of a record that would be the
--- next.
--- So a crash finds no more than that, and if the record is whole it could have been entered.
+-- next. So a crash finds no more than that, and if the record is whole it could have been entered
 pub record HasRest (s : State) : Type 0 where
   -- what follows the log's bytes
   pub rest : List ℕ

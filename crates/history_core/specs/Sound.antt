@@ -61,18 +61,18 @@ UnsoundStay s = (tag : ℕ) (p : Page) → tag ≢ no_tag → s.known tag ≡ tr
 
 -- A page that isn't sound is the one that the block's lane held at the start
 pub record UnsoundAreFirst (s : State) : Type 0 where
-  -- a block's page after the entries up to a place, if it isn't sound, is that of the start, if the
+  -- an unsound page of a block after the entries up to a place is that of the start, if the
   -- contents of the block's lane are known or no entry may be made of ranges
   pub cells : (tag place : ℕ) (p : Page) → (s.known tag ≡ true) ⊎ (s.ranges ≡ false)
       → cell s.origin (cut place s.log.entries) tag ≡ Some p → is_sound_page p ≡ false
       → s.origin tag ≡ Some p
-  -- a block's page after all entries, if it isn't sound, is that of the start, if the contents of
-  -- the block's lane are known or no entry may be made of ranges
+  -- an unsound page of a block after all entries is that of the start, if the contents of the
+  -- block's lane are known or no entry may be made of ranges
   pub last_cells : (tag : ℕ) (p : Page) → (s.known tag ≡ true) ⊎ (s.ranges ≡ false)
       → cell s.origin s.log.entries tag ≡ Some p → is_sound_page p ≡ false
       → s.origin tag ≡ Some p
-  -- a page that the lane gave under an input right that a backend has still, if it isn't sound, is
-  -- that of the start, if the lane's contents are known
+  -- an unsound page that the lane gave under an input right that a backend has still is that of the
+  -- start, if the lane's contents are known
   pub reads : (i f : ℕ) (v : View) (p : Page) → get_elem? s.pool.core.views i ≡ some v
       → f < s.pool.core.frames → (link v f).read ≡ Some p → is_sound_page p ≡ false
       → s.known (s.pool.core.frame f).tag ≡ true

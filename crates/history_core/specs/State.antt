@@ -60,8 +60,7 @@ pub record Device : Type 0 where
   -- once a call has failed, the log is down for good: this is the log's end as it was then
   pub down : Option ℕ
 
--- the greatest position that a log may reach: 2 to the power 62.
--- So no sum of positions overflows
+-- the greatest position that a log may reach, 2 to the power 62: no sum of positions overflows
 abbrev pub last_position : ℕ
 last_position = 4611686018427387904
 
@@ -79,11 +78,11 @@ pub record State : Type 0 where
   pub known : ℕ → Bool
   -- how many blocks each fork had at the start; no step makes a fork grow or shrink yet
   pub opened_sizes : ℕ → ℕ
-  -- the pages that the lanes held at the start, of blocks below their forks' sizes, if the lane's
+  -- for each block below its fork's size, the page that its lane held at the start, if the lane's
   -- contents are known
   pub origin : ℕ → Option Page
-  -- the pages that the lanes held at the start, below the sizes and past them, if the lane's
-  -- contents are known
+  -- for each block, below the size or past it, the page that its lane held at the start, if the
+  -- lane's contents are known
   pub held : ℕ → Option Page
   -- the blocks that had been written since their lanes' last sync at the start
   pub unsynced_at_start : ℕ → Bool
@@ -91,7 +90,7 @@ pub record State : Type 0 where
   pub log : Log
   -- how the log names a block, by its tag
   pub names : ℕ → List ℕ
-  -- whether entries may be made of ranges; in no table may they yet
+  -- whether entries may be made of ranges; on a table they may not yet
   pub ranges : Bool
   -- the device that holds the log's bytes
   pub device : Device

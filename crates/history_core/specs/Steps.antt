@@ -213,11 +213,11 @@ new_entry s number c = record { start = s.end; backend = number; change = c }
 pub record Replaces (end : ℕ) (spans : List Span) (p : Page) (l : Link) : Type 0 where
   -- the page before the change
   pub before : Page
-  -- the backend copied the page before under the content lock
+  -- the page before the change is the one that the backend copied under the content lock
   pub copied : l.copied ≡ Some before
   -- the spans are such as an entry may have
   pub valid : AreRanges spans
-  -- p is the page before with the spans replaced, and with this position
+  -- p is the page before the change with the spans replaced, and with this position
   pub made : with_lsn end (with_spans spans before) ≡ p
 
 -- The change, whose entry ends at the position `end`, makes the page p of the block of the tag
@@ -235,13 +235,13 @@ pub record IsPastRedo (h : LogHold) (l : Link) : Type 0 where
   pub loaded : h.redo ≡ Some redo
   -- the page before the change
   pub before : Page
-  -- the backend copied the page before under the content lock
+  -- the page before the change is the one that the backend copied under the content lock
   pub copied : l.copied ≡ Some before
-  -- the page's position before is past the redo position
+  -- the position of the page before the change is past the redo position
   pub past : redo < lsn_of before
 
--- what the redo position must be for a change to be logged: ranges, which don't have the whole
--- page, need it before the page's position; a whole page needs nothing
+-- What the redo position must be for a change to be logged. Ranges don't have the whole page, so
+-- the page's position before has to be past it; a whole page needs nothing
 abbrev pub MaySkipImage : Change → LogHold → Link → Type 0
 MaySkipImage (image t q) h l = Unit {0}
 MaySkipImage (ranges t spans) h l = IsPastRedo h l
@@ -261,13 +261,13 @@ pub record CanLog (s : State) (f tag : ℕ) (p : Page) (c : Change) (v : View) :
   pub around : page_steps.AllowedAround (make_entry p) s.pool v f
   -- the page has 8192 bytes
   pub full : length p ≡ 8192
-  -- the page's position in the log (`pd_lsn`) is where its entry ends
+  -- the page's position in the log (`pd_lsn`) is where the entry will end
   pub ends : lsn_of p ≡ s.end + change_size c
   -- the entry's end is at most the last position
   pub room : s.end + change_size c ≤ last_position
   -- the change makes this page of the frame's block
   pub makes : MakesPage c (s.end + change_size c) tag p (link v f)
-  -- if the change is of ranges, the page's position before is past the redo position that the
+  -- if the change is of ranges, the page's position before it is past the redo position that the
   -- backend has loaded under the log's latch
   pub past : MaySkipImage c v.log (link v f)
   -- an entry of this kind may be made
@@ -300,13 +300,13 @@ pub record CanEnter (s : State) (f : ℕ) (p : Page) (c : Change) (v : View) : T
   pub around : page_steps.AllowedAround (make_entry p) s.pool v f
   -- the page has 8192 bytes
   pub full : length p ≡ 8192
-  -- the page's position in the log (`pd_lsn`) is where its entry ends
+  -- the page's position in the log (`pd_lsn`) is where the entry will end
   pub ends : lsn_of p ≡ s.end + change_size c
   -- the entry's end is at most the last position
   pub room : s.end + change_size c ≤ last_position
   -- the change makes this page of the frame's block
   pub makes : MakesPage c (s.end + change_size c) (s.pool.core.frame f).tag p (link v f)
-  -- if the change is of ranges, the page's position before is past the redo position that the
+  -- if the change is of ranges, the page's position before it is past the redo position that the
   -- backend has loaded under the log's latch
   pub past : MaySkipImage c v.log (link v f)
   -- an entry of this kind may be made
@@ -327,7 +327,7 @@ pub record CanRead (tag : ℕ) (p : Page) (l : Link) : Type 0 where
   -- the backend's pin remembers the tag
   pub remembered : l.tag ≡ Some tag
 
--- what the holder of the log's latch has of it once it has loaded the log's end, which it keeps
+-- the hold of the log's latch once the log's end was loaded, which it keeps
 abbrev pub end_loaded : ℕ → LogHold → LogHold
 end_loaded end h = record h { end = if h.held then Some end else h.end }
 
@@ -373,8 +373,8 @@ has_seen_size end fork blocks v = record v {
   place_loads = v.place_loads + 1;
 }
 
--- what a kind of load sees that finds the number `found` in its word; none for a kind that is no
--- load
+-- what a kind sees that loads its word, if it finds the number `found` there; none for the other
+-- kinds
 abbrev pub seen_by : WordKind → ℕ → Option LoadedWord
 seen_by load_end found = Some (seen.LogEnd found)
 seen_by begin_checkpoint found = Some (seen.LogEnd found)
@@ -575,7 +575,7 @@ pub data Step : Event → State → State → Type 0 where
 
 -- The events lead from one state to the other
 pub data Run : List Event → State → State → Type 0 where
-  -- no event leads from a state to itself
+  -- the empty list leads from a state to itself
   rests : {s : State} → Run [] s s
   -- the first event leads to a state from which the others lead on
   goes : {e : Event} {es : List Event} {s t u : State} → Step e s t → Run es t u → Run (e ∷ es) s u

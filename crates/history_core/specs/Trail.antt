@@ -26,12 +26,12 @@ Follows frame views = (g : StateWord → ℕ) (f : ℕ) → Balances (λ (v : Vi
 -- The position is the largest to which a view raised the flushed position; a view that raised it
 -- nowhere keeps the log's base
 pub record IsHighest (flushed : ℕ) (views : List View) : Type 0 where
-  -- no view raised the flushed position beyond it
+  -- no view raised the flushed position beyond this one
   pub above : (i : ℕ) (v : View) → get_elem? views i ≡ some v → v.raised_to ≤ flushed
-  -- some view raised the flushed position to it
+  -- for some view this is the largest position to which it raised the flushed position
   pub reached : (i : ℕ) × (v : View) × (get_elem? views i ≡ some v) × (v.raised_to ≡ flushed)
 
--- What the views fix
+-- What the views fix of the shared words
 pub record TrailLaw (s : State) : Type 0 where
   -- the views' changes of a frame's state word lead from the word at the start to the one that it
   -- has
