@@ -867,6 +867,35 @@ module _ (s : State) (h : HistoryInvariant s) (i f : ℕ) (p : Page) (ch : Chang
         };
       }
 
+-- the invariant doesn't speak of the redo position, the clock's hand, the counters and the hint words
+other_words : (s : State) → HistoryInvariant s → (redo hand : ℕ) (counter hint : ℕ → ℕ) → HistoryInvariant (record s { redo = redo; hand = hand; counter = counter; hint = hint })
+other_words s h redo hand counter hint = record {
+  pool = h.pool;
+  logged = h.logged;
+  sizes = h.sizes;
+  quiet = h.quiet;
+  of_pages = h.of_pages;
+  there = h.there;
+  pages = h.pages;
+  known = h.known;
+  log = h.log;
+  based = h.based;
+  ends = h.ends;
+  limit = h.limit;
+  flushed_from = h.flushed_from;
+  flushed_to = h.flushed_to;
+  named = h.named;
+  durable = h.durable;
+  device = h.device;
+  history = h.history;
+  lanes = h.lanes;
+  wide = h.wide;
+  placed = h.placed;
+  homes = h.homes;
+  unframed = h.unframed;
+  flushed_cells = h.flushed_cells;
+}
+
 -- A kind at a word, by backend i
 module _ (s : State) (h : HistoryInvariant s) (i : ℕ) (v : View) (there : get_elem? s.pool.core.views i ≡ some v) where
   -- the holder of the log's latch keeps the log end that it loads
@@ -912,32 +941,7 @@ module _ (s : State) (h : HistoryInvariant s) (i : ℕ) (v : View) (there : get_
       (blocks_aside s h i v w there refl)
 
   raises_redo_step : HistoryInvariant (state_after_word raise_redo s i v)
-  raises_redo_step = let x = forgets_redo_step in record {
-    pool = x.pool;
-    logged = x.logged;
-    sizes = x.sizes;
-    quiet = x.quiet;
-    of_pages = x.of_pages;
-    there = x.there;
-    pages = x.pages;
-    known = x.known;
-    log = x.log;
-    based = x.based;
-    ends = x.ends;
-    limit = x.limit;
-    flushed_from = x.flushed_from;
-    flushed_to = x.flushed_to;
-    named = x.named;
-    durable = x.durable;
-    device = x.device;
-    history = x.history;
-    lanes = x.lanes;
-    wide = x.wide;
-    placed = x.placed;
-    homes = x.homes;
-    unframed = x.unframed;
-    flushed_cells = x.flushed_cells;
-  }
+  raises_redo_step = let t : State = state_after_word raise_redo s i v in other_words (record s { pool = aside s.pool i (after_word raise_redo s v) }) forgets_redo_step t.redo t.hand t.counter t.hint
 
   words_step : (k : WordKind) → WordAllowed k s v → HistoryInvariant (state_after_word k s i v)
   words_step load_end a = loads_end_step
@@ -947,34 +951,11 @@ module _ (s : State) (h : HistoryInvariant s) (i : ℕ) (v : View) (there : get_
   words_step raise_flushed synced = raises_step s h i v there synced
   words_step load_redo held = loads_redo_step held
   words_step raise_redo ended = raises_redo_step
-  -- no law speaks of the others
-  words_step k a = let w : View = after_word k s v in let x = with_view s h i v w there (record { backend = record { emptied = refl; number = refl; next = refl; links = refl; partitions = refl }; joined = refl; links = refl; partitions = refl; sizes = refl }) refl refl refl
-      (history_same s.known s.origin s.opened_sizes s.log s.flushed s.pool.core.views h.history i v w there (record { calls = refl; front = refl; joined = refl; flushed = refl; emptied = refl; number = refl; kept = refl })) in record {
-        pool = x.pool;
-        logged = x.logged;
-        sizes = x.sizes;
-        quiet = x.quiet;
-        of_pages = x.of_pages;
-        there = x.there;
-        pages = x.pages;
-        known = x.known;
-        log = x.log;
-        based = x.based;
-        ends = x.ends;
-        limit = x.limit;
-        flushed_from = x.flushed_from;
-        flushed_to = x.flushed_to;
-        named = x.named;
-        durable = x.durable;
-        device = x.device;
-        history = x.history;
-        lanes = x.lanes;
-        wide = x.wide;
-        placed = x.placed;
-        homes = x.homes;
-        unframed = x.unframed;
-        flushed_cells = x.flushed_cells;
-      }
+  -- the others leave the flushed position
+  words_step k a = let w : View = after_word k s v in let t : State = state_after_word k s i v in other_words (record s { pool = aside s.pool i w })
+      (with_view s h i v w there (record { backend = record { emptied = refl; number = refl; next = refl; links = refl; partitions = refl }; joined = refl; links = refl; partitions = refl; sizes = refl }) refl refl refl
+      (history_same s.known s.origin s.opened_sizes s.log s.flushed s.pool.core.views h.history i v w there (record { calls = refl; front = refl; joined = refl; flushed = refl; emptied = refl; number = refl; kept = refl })))
+      t.redo t.hand t.counter t.hint
 
 pub step_keeps : {e : Event} {s t : State} → Step e s t → HistoryInvariant s → HistoryInvariant t
 step_keeps (pools {s = s} x a) h = pools_step s h x a
