@@ -16,7 +16,7 @@ use Rattle.page_core.specs.Kinds.{make_entry}
 use Rattle.page_core.proofs.Histories as pages
 use Rattle.page_core.proofs.Histories.{flag_count}
 use Rattle.pin_core.proofs.Sizing.{shared_finds}
-use Rattle.history_core.specs.Log.{sizes_after, Entry, Change, image, ranges, resize, is_image, change_size, changed_page, end_of, cell, cut}
+use Rattle.history_core.specs.Log.{sizes_after, Entry, head_size, Change, image, ranges, resize, is_image, change_size, changed_page, end_of, cell, cut}
 use Rattle.history_core.specs.State.{Lane, State, stored}
 use Rattle.history_core.specs.Lanes as lane_kinds
 use Rattle.history_core.specs.Lanes.{swept_by, LaneKind, LaneAllowed, lane_after, lane_hold_after}
@@ -28,7 +28,7 @@ use Rattle.history_core.specs.Steps.{looked, stepped, laned, lanes, paged, has_r
 use Rattle.history_core.specs.Histories.{IsReached, CallsAreLegal, ReadsAtBase, SyncsMakeDurable, JoinedAreApart, CallsAreOwn, FrontsAreReached, CallsAreInOrder, LoadedIsFlushed, LanesGoOutFlushed, NotedWritesAreDone, holds_log, LogIsHeld, WritesAreEntries, ReadsStand, WritesStand, LogBeforeData, LanesHoldFlushedPages, IsStored, CleanBlocksAreStored, FramesAreSound, FramesHoldCells, LogWords, holds_lane, LanesAreHeld, EntriesAreDurable, DeviceHoldsLog, SizesStand}
 use Rattle.history_core.specs.Redo.{RedoLaw}
 use Rattle.history_core.specs.Rest.{RestLaw}
-use Rattle.history_core.proofs.Logs.{some_size, cell_longer, cell_none, changed_image, cut_none_below, starts_above, end_longer}
+use Rattle.history_core.proofs.Logs.{some_size, cell_longer, cell_none, changed_image, cut_none_below, starts_above, end_longer, bytes_length}
 use Rattle.history_core.proofs.Opening.{opens}
 use Rattle.history_core.proofs.Stepping.{step_keeps, run_keeps, makes_of, makes_whole, page_of, logged_there, cell_now, frame_block}
 use Rattle.grid.proofs.Lists.{set_here, put_at}
@@ -236,7 +236,7 @@ module _ (s : State) (h : HistoryInvariant s) where
   hold_cells f known below tag valid none = let t = (s.pool.core.frame f).tag in let e = logged_there s h t (frame_block s h f below tag.named) known in sym (h.logged t known) ∙ e ∙ ap (λ (q : Page). Some q) (sym (pages.frames_hold s.pool h.pool f (page_of s t) below tag valid none e))
 
   pub words : RedoLaw s → LogWords s
-  words m = record { ends = h.ends; limit = h.limit; flushed_from = h.flushed_from; flushed_to = h.flushed_to; redo_from = m.highest.from; redo_to = m.within }
+  words m = record { ends = h.ends; bytes = bytes_length s.names s.log h.named h.log ∙ ap (λ (n : ℕ). head_size + n) (sym h.ends); limit = h.limit; flushed_from = h.flushed_from; flushed_to = h.flushed_to; redo_from = m.highest.from; redo_to = m.within }
 
   pub held : LanesAreHeld s
   held n below = sym (total-count (λ (v : View). flag_weight (lane_hold v n).held) (holds_lane n) (λ v. flag_cond (lane_hold v n).held) s.pool.core.views) ∙ sym (h.lanes.columns n below).taken ∙ flag_count (s.lane n).taken

@@ -8,7 +8,7 @@ use Rattle.page_core.specs.Steps as page_steps
 use Rattle.history_core.specs.State.{State, Device}
 use Rattle.history_core.specs.Device.{LogKind, take_log, leave_log, log_out, append, fail_append, sync_log, fail_sync, log_back, see_down, LogAllowed, device_after}
 use Rattle.history_core.specs.Steps.{pools, enters, logs, new_entry, words}
-use Rattle.history_core.specs.Words.{flushed_word, WordKind, raise_flushed, word_at, number_after, word_set}
+use Rattle.history_core.specs.Words.{flushed_word, redo_word, WordKind, raise_flushed, raise_redo, word_at, number_after, word_set}
 use Rattle.history_core.specs.Laws.{Laws}
 use Rattle.history_core.specs.Lasting.{IsSameOpening, HasGrown, OpeningStays, LogGrows}
 use Rattle.pin_core.specs.declared.view.LogHold.{LogHold}
@@ -62,16 +62,21 @@ device_grows (log_back noted) end d h low a = device_same d
 device_grows see_down end d h low a = device_same d
 
 -- a step that isn't the log's
-unlogged : {s t : State} → t.log.entries ≡ s.log.entries → t.end ≡ s.end → s.flushed ≤ t.flushed → DeviceGrows s.device t.device → HasGrown s t
-unlogged {s = s} entries end flushed d = record { added = []; entries = entries ∙ sym (append-nil s.log.entries); end = omega arith; flushed = flushed; rest = d.rest; bytes = d.bytes; synced = d.synced; down = d.down }
+unlogged : {s t : State} → t.log.entries ≡ s.log.entries → t.end ≡ s.end → s.flushed ≤ t.flushed → s.redo ≤ t.redo → DeviceGrows s.device t.device → HasGrown s t
+unlogged {s = s} entries end flushed redo d = record { added = []; entries = entries ∙ sym (append-nil s.log.entries); end = omega arith; flushed = flushed; redo = redo; rest = d.rest; bytes = d.bytes; synced = d.synced; down = d.down }
 
 -- a kind at a word raises the flushed position, or leaves it
 flushed_more : (k : WordKind) (s : State) → s.flushed ≤ word_set (word_at k) (number_after k s) s flushed_word
 flushed_more raise_flushed s = omega arith
 flushed_more _ s = omega arith
 
+-- a kind at a word raises the redo position, or leaves it
+redo_more : (k : WordKind) (s : State) → s.redo ≤ word_set (word_at k) (number_after k s) s redo_word
+redo_more raise_redo s = omega arith
+redo_more _ s = omega arith
+
 pub log_grows : (s : State) → Laws s → LogGrows s
-log_grows s l e t (logs i k u there live a record_is) = unlogged refl refl (omega arith) (device_grows k s.end s.device u.log (l.invariant.device.columns 0 (lit< tt)).synced a)
-log_grows s l e t (enters i f p ch u there live inside x) = let d = device_same s.device in record { added = new_entry s u.number ch ∷ []; entries = refl; end = omega arith; flushed = omega arith; rest = d.rest; bytes = d.bytes; synced = d.synced; down = d.down }
-log_grows s l e t (words i k u there live a) = unlogged refl refl (flushed_more k s) (device_same s.device)
-log_grows s l e t _ = unlogged refl refl (omega arith) (device_same s.device)
+log_grows s l e t (logs i k u there live a record_is) = unlogged refl refl (omega arith) (omega arith) (device_grows k s.end s.device u.log (l.invariant.device.columns 0 (lit< tt)).synced a)
+log_grows s l e t (enters i f p ch u there live inside x) = let d = device_same s.device in record { added = new_entry s u.number ch ∷ []; entries = refl; end = omega arith; flushed = omega arith; redo = omega arith; rest = d.rest; bytes = d.bytes; synced = d.synced; down = d.down }
+log_grows s l e t (words i k u there live a) = unlogged refl refl (flushed_more k s) (redo_more k s) (device_same s.device)
+log_grows s l e t _ = unlogged refl refl (omega arith) (omega arith) (device_same s.device)

@@ -237,7 +237,7 @@ pub record SizeStands (s : State) (fork : ℕ) (v w : View) : Type 0 where
   -- the fork has this size after the entries up to the place
   pub sees : sizes_after (cut s.end s.log.entries) s.opened_sizes fork ≡ blocks
   -- the place is at or past those of the backend's earlier calls
-  pub later : (k : ℕ) (c : Call) → get_elem? v.calls k ≡ some c → place_of c ≤ s.end
+  pub later : IsAfterCalls v s.end
   -- the place is at or past the backend's earlier front
   pub above : v.front ≤ s.end
 
@@ -373,6 +373,8 @@ pub record RedoIsListed (s : State) : Type 0 where
 pub record LogWords (s : State) : Type 0 where
   -- the log's end is where its last entry ends, or the base if it has none
   pub ends : s.end ≡ log_end s.log
+  -- the log's bytes, behind its base, are those of its head and of its entries
+  pub bytes : length (log_bytes s.names s.log) + s.log.base ≡ head_size + s.end
   -- the log's end is at most the last position
   pub limit : s.end ≤ last_position
   -- the flushed position is at least the log's base

@@ -51,6 +51,8 @@ pub record HasGrown (s t : State) : Type 0 where
   pub end : s.end ≤ t.end
   -- the flushed position never falls
   pub flushed : s.flushed ≤ t.flushed
+  -- the redo position never falls
+  pub redo : s.redo ≤ t.redo
   -- the bytes that were added
   pub rest : List ℕ
   -- bytes are added at the end of the device
