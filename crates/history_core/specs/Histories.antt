@@ -20,7 +20,7 @@ use Rattle.pin_core.specs.Steps as pin_steps
 use Rattle.page_core.specs.Steps as page_steps
 use Rattle.page_core.specs.Histories.{NoneUnapplied}
 use Rattle.history_core.specs.Log.{sizes_after, Entry, log_end, end_of, cell, cut, head_size}
-use Rattle.history_core.specs.Log.{log_bytes, AreImages, Change, Span, image, ranges, is_image}
+use Rattle.history_core.specs.Log.{log_bytes, AreImages, Change, image, is_image}
 use Rattle.history_core.specs.Log.{change_size, tag_in, IsEntryOf, IsLegal, IsFront, place_of}
 use Rattle.history_core.specs.Log.{backend_of, writes_in, writes_at, AreInOrder}
 use Rattle.history_core.specs.State.{State, Store, CanStore, stored, stored_upto, synced_upto}
