@@ -12,23 +12,27 @@ use Rattle.pin_core.specs.Turns.{turn_shape, turn_part}
 use Rattle.pin_core.specs.Maps.{MapLaw}
 use Rattle.grid.specs.Shape.{total, Part, Grid}
 
--- the frame has a tag: BM_TAG_VALID stands, and the tag word isn't all ones
+-- the frame has a tag: BM_TAG_VALID is set, and the tag word isn't all ones
 pub record HasTag (fr : Frame) : Type 0 where
+  -- BM_TAG_VALID is set
   pub flagged : fr.word.tag_valid ≡ true
+  -- the tag word isn't all ones
   pub named : fr.tag ≢ no_tag
 
--- BM_TAG_VALID stands exactly where the tag word isn't all ones
+-- BM_TAG_VALID is set if and only if the tag word isn't all ones
 pub record TagsAgree (fr : Frame) : Type 0 where
+  -- if BM_TAG_VALID is set, the tag word isn't all ones
   pub flagged : fr.word.tag_valid ≡ true → fr.tag ≢ no_tag
+  -- if BM_TAG_VALID is clear, the tag word is all ones
   pub unflagged : fr.word.tag_valid ≡ false → fr.tag ≡ no_tag
 
 -- What holds of a frame while a view has stored its tag word, and neither assigned nor cleared it yet
 pub record PendingFrame (fr : Frame) : Type 0 where
   -- the frame has one pin
   pub single : fr.word.pins ≡ 1
-  -- where a tag was stored, BM_TAG_VALID is clear
+  -- if a tag was stored, BM_TAG_VALID is clear
   pub entering : fr.tag ≢ no_tag → fr.word.tag_valid ≡ false
-  -- where all ones was stored, BM_TAG_VALID stands
+  -- if all ones was stored, BM_TAG_VALID is set
   pub leaving : fr.tag ≡ no_tag → fr.word.tag_valid ≡ true
   -- a frame that is given a tag isn't dirty
   pub clean : fr.tag ≢ no_tag → fr.word.dirty ≡ false
@@ -37,7 +41,7 @@ pub record PendingFrame (fr : Frame) : Type 0 where
 pub record FrameLaw (fr : Frame) (t : Tally → ℕ) : Type 0 where
   -- the reference count is the number of views that pin the frame
   pub counted : fr.word.pins ≡ t pins
-  -- BM_LOCKED stands exactly where one view holds the header
+  -- BM_LOCKED is set if and only if one view holds the header
   pub locked : flag_weight fr.word.locked ≡ t headers
   -- a frame whose tag word is all ones has at most one pin
   pub untagged_few : fr.tag ≡ no_tag → fr.word.pins ≤ 1
@@ -47,66 +51,74 @@ pub record FrameLaw (fr : Frame) (t : Tally → ℕ) : Type 0 where
   pub usage : fr.word.usage ≤ 5
   -- a dirty frame is valid
   pub dirty : fr.word.dirty ≡ true → fr.word.valid ≡ true
-  -- a valid frame has BM_TAG_VALID
+  -- on a valid frame BM_TAG_VALID is set
   pub valid : fr.word.valid ≡ true → fr.word.tag_valid ≡ true
-  -- BM_TAG_VALID agrees with the tag word, but between a store of the tag word and the frame's being assigned or cleared
+  -- BM_TAG_VALID agrees with the tag word, except between a store of the tag word and the frame's
+  -- being assigned or cleared
   pub tagged : t pendings ≡ 0 → TagsAgree fr
-  -- between the two it has one pin and isn't dirty, and BM_TAG_VALID is as it was before the store
+  -- between a store of the tag word and the frame's being assigned or cleared the frame has one
+  -- pin, BM_TAG_VALID is as before the store, and a frame that is given a tag isn't dirty
   pub pending : 0 < t pendings → PendingFrame fr
-  -- each view that has stored the tag word pins the frame, and holds its header
+  -- each view that has stored the tag word, and neither assigned nor cleared the frame yet, pins it
   pub pending_pins : t pins ≡ t pendings + t settled_pins
+  -- each view that has stored the tag word, and neither assigned nor cleared the frame yet, holds
+  -- its header
   pub pending_headers : t headers ≡ t pendings + t settled_headers
 
 -- What a view that stored the tag word has and knows there, until it has assigned or cleared the frame
 pub record PendingLink (l : Link) : Type 0 where
-  -- it holds the header
+  -- the view holds the buffer header
   pub held : l.header ≢ None
-  -- its pin there is its victim pin
+  -- the view's pin there is its victim pin
   pub victim : l.role ≡ Victim
-  -- it knows neither the tag nor BM_VALID
+  -- the view's pin remembers no tag
   pub unread : l.tag ≡ None
+  -- the view's pin hasn't seen BM_VALID
   pub unseen : l.seen_valid ≡ false
 
 -- What a view has at a frame with a new block that it notes
 pub record NotedLink (fr : Frame) (l : Link) : Type 0 where
   -- the frame's tag word isn't all ones
   pub named : fr.tag ≢ no_tag
-  -- its pin there is its victim pin
+  -- the view's pin there is its victim pin
   pub victim : l.role ≡ Victim
-  -- the pin remembers the tag, once the frame is assigned
+  -- once the frame is assigned, the view's pin remembers the tag
   pub known : l.pending ≡ false → l.tag ≢ None
 
 -- What holds of a frame and of what a view has there
 pub record LinkLaw (fr : Frame) (l : Link) : Type 0 where
-  -- the state word is the word of the view that holds the header
+  -- if the view holds the header, the state word is the word that the view has
   pub header : (w : StateWord) → l.header ≡ Some w → fr.word ≡ w
   -- the frame of a handed-out pin has a tag
   pub handed_out : l.role ≡ HandedOut → HasTag fr
   -- the frame of a pin has the tag that the pin remembers
   pub remembers : (tag : ℕ) → l.tag ≡ Some tag → HasTag fr × (fr.tag ≡ tag)
-  -- it is valid where the pin has seen BM_VALID
+  -- if a pin has seen BM_VALID, the frame is valid
   pub seen : l.seen_valid ≡ true → fr.word.valid ≡ true
-  -- only a pin remembers
+  -- a view without a pin remembers no tag, and hasn't seen BM_VALID
   pub unpinned : l.role ≡ Absent → (l.tag ≡ None) × (l.seen_valid ≡ false)
-  -- a view that has stored the tag word holds the header, and its victim pin knows neither the tag nor BM_VALID
+  -- until it assigns or clears the frame, a view that has stored the tag word holds the header, and
+  -- its victim pin knows neither the tag nor BM_VALID
   pub pending : l.pending ≡ true → PendingLink l
-  -- a view that notes a new block keeps its victim pin there
+  -- a view that notes a new block keeps its victim pin there, which remembers the tag once the
+  -- frame is assigned
   pub noted : l.noted ≡ true → NotedLink fr l
   -- a pin whose block was seen below its fork's size remembers the tag
   pub inside : l.inside ≡ true → l.tag ≢ None
 
+-- what holds of each frame, and of what each view has there
 abbrev pub pin_part : Part frame_shape
 pin_part = record { column = λ _ fr t. FrameLaw fr t; cell = λ _ fr _ l. LinkLaw fr l }
 
 -- What holds of the list of views
 pub record ViewsLaw (frames partitions backends : ℕ) (views : List View) : Type 0 where
-  -- a view has a link for each frame, and a hold for each partition
+  -- a view that isn't emptied has a link for each frame, and a hold for each partition
   pub wide : (i : ℕ) (v : View) → get_elem? views i ≡ some v → v.emptied ≡ false → (length v.links ≡ frames) × (length v.partitions ≡ partitions)
-  -- view i has the number i
+  -- view i has the number i, unless it is emptied
   pub numbered : (i : ℕ) (v : View) → get_elem? views i ≡ some v → v.emptied ≡ false → v.number ≡ i
   -- the first view is never emptied, and has the next number to give
   pub first : (v : View) → get_elem? views 0 ≡ some v → (v.emptied ≡ false) × (v.next ≡ length views)
-  -- no number is given beyond the count of backends
+  -- no more numbers are given than there may be backends
   pub few : length views ≤ backends
 
 -- 1 for a backend that is there, and 0 for what is left of one
@@ -114,21 +126,29 @@ abbrev pub live_weight : Bool → ℕ
 live_weight true = 0
 live_weight false = 1
 
--- the backends that are there, and those that were joined into the first, are as many as numbers were given
+-- the backends that are there, and those that were joined into the first, are as many as the
+-- numbers that were given
 abbrev pub AllAccounted : List View → Type 0
 AllAccounted views = (v : View) → get_elem? views 0 ≡ some v → total (λ (u : View). live_weight u.emptied) views + v.joined ≡ length views
 
--- no two frames have one tag word, with BM_TAG_VALID or without, but for all ones
+-- no two frames have the same tag word, unless it is all ones, with BM_TAG_VALID or without
 abbrev pub TagsApart : ℕ → (ℕ → Frame) → Type 0
 TagsApart frames frame = (f g : ℕ) → f < frames → g < frames → (frame f).tag ≢ no_tag → (frame f).tag ≡ (frame g).tag → f ≡ g
 
 -- What holds of pins, headers, tags and maps
 pub record PinInvariant (s : State) : Type 0 where
+  -- what holds of each frame, and of what each view has there
   pub grid : Grid frame_shape pin_part s.frames s.frame (λ _. tt) s.views
+  -- what holds of each partition of the mapping table, and of what each view has of its latch
   pub turns : Grid turn_shape turn_part s.partitions s.partition (λ _. tt) s.views
+  -- no two frames have the same tag word, unless it is all ones
   pub apart : TagsApart s.frames s.frame
+  -- the maps give exactly the frames of the tags that frames have, but for the pairs in change
   pub maps : MapLaw s.frames s.partition_of (λ p. (s.partition p).map) (λ p. (s.partition p).owed) (λ f. (s.frame f).tag)
   -- each tag has a partition
   pub placed : (tag : ℕ) → s.partition_of tag < s.partitions
+  -- what holds of the list of views: their numbers, and how many there are
   pub views : ViewsLaw s.frames s.partitions s.backends s.views
+  -- the backends that are there, and those that were joined into the first, are as many as the
+  -- numbers that were given
   pub accounted : AllAccounted s.views

@@ -1,4 +1,5 @@
--- The kinds of step at a frame: where each is allowed, and what it makes of the frame and of what the stepping view has there.
+-- The kinds of step at a frame: when each is allowed, and what it makes of the frame and of what
+-- the stepping view has there.
 use Rattle.std.specs.Prelude.{◌≡◌, ◌≢◌, ℕ, ◌+◌, ◌<◌, Bool, true, false, List, [], ◌∷◌, ◌++◌, map, slice_set, Option, Some, None, nat_eq, not, ◌||◌, ◌&&◌, if◌then◌else◌}
 use Rattle.state_word.specs.declared.word.StateWord.{StateWord}
 use Rattle.state_word.specs.Fields.{pinned_fields, unpinned_fields, locked_fields, unlocked_fields, assigned_fields, cleared_fields, usage_down_fields}
@@ -19,18 +20,20 @@ use Rattle.pin_core.specs.declared.view.View.{View}
 use Rattle.pin_core.specs.State.{Frame, Partition, no_tag, is_tag, hold, is_pin}
 use Rattle.grid.specs.Shape.{put}
 
+-- The kinds of step at a frame
 pub data Kind : Type 0 where
   -- a load of the state word (`pg_atomic_read_u32`); a compare-exchange that fails and a header lock that isn't got are such loads
   load_state : Kind
   -- a pin of a frame that has BM_TAG_VALID, for a ring or not (`PinBuffer`)
   pin : Bool → Kind
-  -- a pin of the frame that the map gives for the tag, under the latch of the tag's partition (`BufferAlloc`, where the block is found)
+  -- a pin of the frame that the map gives for the tag, for a ring or not, under the latch of the
+  -- tag's partition (`BufferAlloc`, if the block is found)
   pin_mapped : ℕ → Bool → Kind
-  -- the last pin of the backend is given up (`UnpinBuffer`)
+  -- the backend's pin is given up (`UnpinBuffer`)
   unpin : Kind
   -- the header is locked (`LockBufHdr`)
   lock_header : Kind
-  -- and unlocked, the word as it was (`UnlockBufHdr`)
+  -- the header is unlocked, the word as it was (`UnlockBufHdr`)
   unlock_header : Kind
   -- under the header a frame without a tag is given one (`BufferAlloc`)
   store_tag : ℕ → Kind
@@ -49,14 +52,16 @@ pub data Kind : Type 0 where
   -- a frame whose tag was taken away loses its flags, and its header is unlocked (`InvalidateVictimBuffer`)
   clear : Kind
 
--- a pin sees BM_VALID, but not between a store of the tag word and the frame's being assigned or cleared
+-- whether a pin has seen BM_VALID after a load of the state word: it learns nothing between a store
+-- of the tag word and the frame's being assigned or cleared
 abbrev pub seen_valid_after : Bool → Role → Bool → Bool → Bool
 seen_valid_after true role valid saw = saw
 seen_valid_after false Absent valid saw = saw
 seen_valid_after false HandedOut valid saw = valid || saw
 seen_valid_after false Victim valid saw = valid || saw
 
--- a pin remembers the tag that was loaded, likewise
+-- the tag that a pin remembers after a load of the tag word: it learns nothing between a store of
+-- the tag word and the frame's being assigned or cleared
 abbrev pub tag_after : Bool → Role → ℕ → Option ℕ → Option ℕ
 tag_after true role tag known = known
 tag_after false Absent tag known = known
@@ -68,85 +73,133 @@ abbrev pub wait_after : StateWord → Option ℕ → Option ℕ
 wait_after w None = None
 wait_after w (Some number) = if w.awaited && nat_eq w.waiter number then Some number else None
 
+-- A backend may pin a frame by its state word (`PinBuffer`)
 pub record CanPin (fr : Frame) (l : Link) : Type 0 where
+  -- no backend holds the buffer header (BM_LOCKED is clear)
   pub unlocked : fr.word.locked ≡ false
+  -- the backend has no pin there
   pub absent : l.role ≡ Absent
+  -- BM_TAG_VALID is set
   pub tagged : fr.word.tag_valid ≡ true
 
--- the map gives the frame for the tag, besides (`AllowedAround`)
+-- A backend may pin the frame that the map gives for a tag (`BufferAlloc`). That the map gives it
+-- is asked by `AllowedAround`
 pub record CanPinMapped (fr : Frame) (l : Link) : Type 0 where
+  -- no backend holds the buffer header (BM_LOCKED is clear)
   pub unlocked : fr.word.locked ≡ false
+  -- the backend has no pin there
   pub absent : l.role ≡ Absent
 
+-- A backend may give its pin up (`UnpinBuffer`): it has nothing else at the frame
 pub record CanUnpin (fr : Frame) (l : Link) : Type 0 where
+  -- no backend holds the buffer header (BM_LOCKED is clear)
   pub unlocked : fr.word.locked ≡ false
+  -- the backend pins the frame
   pub pinned : l.role ≢ Absent
+  -- the backend has no content lock there
   pub no_content : l.content ≡ Unlocked
+  -- the backend has no input or output right there
   pub no_io : l.io ≡ Quiet
+  -- the backend doesn't wait there
   pub no_wait : l.waits ≡ None
+  -- the backend notes no new block there
   pub unnoted : l.noted ≡ false
 
--- the view holds no header at all, besides (`AllowedAround`)
+-- A backend may lock the header (`LockBufHdr`). That it holds no other is asked by `AllowedAround`
 pub record CanLockHeader (fr : Frame) (l : Link) : Type 0 where
+  -- no backend holds the buffer header (BM_LOCKED is clear)
   pub unlocked : fr.word.locked ≡ false
 
--- no tag word was stored under it
+-- A backend may unlock the header, the word as it was (`UnlockBufHdr`): it stored no tag word under
+-- it
 pub record CanUnlockHeader (fr : Frame) (l : Link) : Type 0 where
+  -- the backend holds the buffer header, and knows the state word
   pub held : l.header ≡ Some fr.word
+  -- no tag word that the backend stored there is still to be assigned or cleared
   pub settled : l.pending ≡ false
 
 -- The view is alone at the frame with its victim pin, under the header, and does nothing else there
 -- (with a content lock, a page that it had copied would no longer be of the frame's block)
 pub record IsAlone (fr : Frame) (l : Link) : Type 0 where
+  -- the backend holds the buffer header, and knows the state word
   pub held : l.header ≡ Some fr.word
+  -- no tag word that the backend stored there is still to be assigned or cleared
   pub settled : l.pending ≡ false
+  -- the reference count is 1
   pub single : fr.word.pins ≡ 1
+  -- the backend's pin is its victim pin
   pub victim : l.role ≡ Victim
+  -- the backend has no content lock there
   pub no_content : l.content ≡ Unlocked
+  -- the backend has no input or output right there
   pub no_io : l.io ≡ Quiet
 
--- the number is a packed buffer tag; the view has the latch of its partition, whose map lacks it, besides (`AllowedAround`)
+-- A frame without a tag may be given this one (`BufferAlloc`). That the view has the latch of the
+-- tag's partition, whose map lacks the tag, is asked by `AllowedAround`
 pub record CanStoreTag (tag : ℕ) (fr : Frame) (l : Link) : Type 0 where
+  -- the backend's victim pin is the only pin, and the backend does nothing else there
   pub alone : IsAlone fr l
+  -- the new tag word isn't all ones
   pub named : tag ≢ no_tag
+  -- the new tag word is a packed buffer tag
   pub packed : is_tag tag ≡ true
+  -- BM_TAG_VALID is clear
   pub untagged : fr.word.tag_valid ≡ false
 
--- the frame isn't dirty, unless it has a new block that wasn't added after all;
--- the view has the latch of its partition, besides (`AllowedAround`)
+-- A frame's tag may be taken away (`InvalidateVictimBuffer`). That the view has the latch of the
+-- tag's partition is asked by `AllowedAround`
 pub record CanEraseTag (fr : Frame) (l : Link) : Type 0 where
+  -- the backend's victim pin is the only pin, and the backend does nothing else there
   pub alone : IsAlone fr l
+  -- the tag word isn't all ones
   pub named : fr.tag ≢ no_tag
+  -- the frame isn't dirty, unless it has a new block that wasn't added after all
   pub clean : l.noted ≡ false → fr.word.dirty ≡ false
 
--- a pin, or the header
+-- A backend may load the tag word: it has a pin there, or the header
 abbrev pub CanLoadTag : Role → Option StateWord → Type 0
 CanLoadTag Absent header = header ≢ None
 CanLoadTag HandedOut header = Unit {0}
 CanLoadTag Victim header = Unit {0}
 
--- the view has no other victim pin, besides (`AllowedAround`)
+-- A backend may pin the frame that the clock sweep chose (`PinBuffer_Locked`). That it has no other
+-- victim pin is asked by `AllowedAround`
 pub record CanPinVictim (fr : Frame) (l : Link) : Type 0 where
+  -- the backend holds the buffer header, and knows the state word
   pub held : l.header ≡ Some fr.word
+  -- the backend has no pin there
   pub absent : l.role ≡ Absent
+  -- if BM_TAG_VALID is clear, nobody pins the frame
   pub room : fr.word.tag_valid ≡ false → fr.word.pins ≡ 0
 
+-- The clock sweep may lower a usage count (`StrategyGetBuffer`)
 pub record CanLowerUsage (fr : Frame) (l : Link) : Type 0 where
+  -- the backend holds the buffer header, and knows the state word
   pub held : l.header ≡ Some fr.word
+  -- nobody pins the frame
   pub free : fr.word.pins ≡ 0
+  -- the usage count isn't 0 yet
   pub used : 0 < fr.word.usage
 
+-- A frame whose tag word was stored may get BM_TAG_VALID (`BufferAlloc`)
 pub record CanAssign (fr : Frame) (l : Link) : Type 0 where
+  -- the backend holds the buffer header, and knows the state word
   pub held : l.header ≡ Some fr.word
+  -- the backend has stored the tag word, and not assigned the frame yet
   pub stored : l.pending ≡ true
+  -- the tag word isn't all ones
   pub named : fr.tag ≢ no_tag
 
+-- A frame whose tag word was erased may lose BM_TAG_VALID (`InvalidateVictimBuffer`)
 pub record CanClear (fr : Frame) (l : Link) : Type 0 where
+  -- the backend holds the buffer header, and knows the state word
   pub held : l.header ≡ Some fr.word
+  -- the backend has erased the tag word, and not cleared the frame yet
   pub erased : l.pending ≡ true
+  -- the tag word is all ones
   pub unnamed : fr.tag ≡ no_tag
 
--- Where a kind is allowed, by the frame and by what the view has there
+-- What a kind asks of the frame and of what the view has there
 abbrev pub Allowed : Kind → Frame → Link → Type 0
 Allowed load_state fr l = Unit {0}
 Allowed (pin ring) fr l = CanPin fr l
@@ -163,7 +216,7 @@ Allowed lower_usage fr l = CanLowerUsage fr l
 Allowed assign fr l = CanAssign fr l
 Allowed clear fr l = CanClear fr l
 
--- the header is given up, with this word stored
+-- the frame once the header is given up, with this word stored
 abbrev pub released : StateWord → Frame → Frame
 released w fr = record fr { word = unlocked_fields w }
 
@@ -184,7 +237,8 @@ frame_after lower_usage fr = released (usage_down_fields fr.word) fr
 frame_after assign fr = released (assigned_fields fr.word) fr
 frame_after clear fr = released (cleared_fields fr.word) fr
 
--- the pin of a new block stays a victim's; it is handed out once the growth is in the log
+-- the pin of a frame that is assigned is handed out; that of a new block stays a victim pin until
+-- the growth is in the log
 abbrev pub assigned_role : Bool → Role
 assigned_role true = Victim
 assigned_role false = HandedOut
@@ -211,17 +265,17 @@ link_after lower_usage fr l = record l { header = None }
 link_after assign fr l = record l { role = assigned_role l.noted; tag = Some fr.tag; header = None; pending = false }
 link_after clear fr l = record l { header = None; pending = false }
 
--- what a load saw
+-- the word that a kind loads, as it sees it
 abbrev pub seen_by : Kind → ℕ → Frame → List LoadedWord
 seen_by load_state f fr = seen.State f fr.word ∷ []
 seen_by load_tag f fr = seen.Tag f fr.tag ∷ []
 seen_by _ f fr = []
 
--- the changes of state words, where the one of the frame f became `left`
+-- the changes of state words, with one more: the word of the frame f became `left`
 abbrev pub changed : ℕ → Frame → StateWord → List WordChange → List WordChange
 changed f fr left changes = changes ++ record { frame = f; found = fr.word; left = left } ∷ []
 
--- and after a kind at it
+-- the changes of state words after a kind at the frame f
 abbrev pub changes_after : Kind → ℕ → Frame → List WordChange → List WordChange
 changes_after load_state f fr changes = changes
 changes_after (store_tag tag) f fr changes = changes
@@ -230,7 +284,7 @@ changes_after erase_tag f fr changes = changes
 changes_after load_tag f fr changes = changes
 changes_after k f fr changes = changed f fr (frame_after k fr).word changes
 
--- how many tags the view erased, with the one that a kind erases
+-- how many tags the view has erased after a kind
 abbrev pub cleared_after : Kind → ℕ → ℕ
 cleared_after erase_tag n = n + 1
 cleared_after _ n = n
@@ -269,13 +323,13 @@ named_by (store_new_tag tag) f fr = Entering tag f
 named_by erase_tag f fr = Leaving fr.tag f
 named_by _ f fr = Stable
 
--- the partitions, where the holder of a latch has named the pair
+-- the partitions after the holder of a latch has named the pair
 abbrev pub partitions_owing : MapChange → (ℕ → ℕ) → (ℕ → Partition) → ℕ → Partition
 partitions_owing Stable partition_of parts = parts
 partitions_owing (Entering tag f) partition_of parts = put parts (partition_of tag) (record (parts (partition_of tag)) { owed = Entering tag f })
 partitions_owing (Leaving tag f) partition_of parts = put parts (partition_of tag) (record (parts (partition_of tag)) { owed = Leaving tag f })
 
--- what a view has of the latches, where it has named the pair
+-- what a view has of the latches after it has named the pair
 abbrev pub holds_naming : MapChange → (ℕ → ℕ) → View → List PartitionHold
 holds_naming Stable partition_of v = v.partitions
 holds_naming (Entering tag f) partition_of v = slice_set v.partitions (partition_of tag) (record (hold v (partition_of tag)) { change = Entering tag f })

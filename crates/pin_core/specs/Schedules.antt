@@ -17,19 +17,24 @@ use Rattle.pin_core.specs.Sizes.{IsNoted}
 use Rattle.pin_core.specs.Kinds.{unpin}
 use Rattle.pin_core.specs.Steps.{Event, at, Run}
 
--- a list of events leads to the state, from the start of a buffer pool
+-- A list of events leads to the state, from the start of a buffer pool
 pub record IsReached (s : State) : Type 0 where
+  -- what the pool is made of
   pub config : Config
+  -- a pool can be made of that configuration
   pub opens : CanOpen config
+  -- the page that each frame has at the start
   pub page : Page
+  -- the events since the start
   pub events : List Event
+  -- the events lead from the start of that pool to the state
   pub run : Run events (opening config page) s
 
 -- no two frames have the same tag
 abbrev pub TagsAreUnique : State → Type 0
 TagsAreUnique s = (f g : ℕ) → f < s.frames → g < s.frames → HasTag (s.frame f) → HasTag (s.frame g) → (s.frame f).tag ≡ (s.frame g).tag → f ≡ g
 
--- a frame has at most one pin for each backend
+-- a frame has no more pins than there may be backends
 abbrev pub PinsAreFew : State → Type 0
 PinsAreFew s = (f : ℕ) → f < s.frames → (s.frame f).word.pins ≤ s.backends
 
@@ -41,6 +46,7 @@ PinnedFramesHavePins s = (i f : ℕ) (v : View) → get_elem? s.views i ≡ some
 abbrev pub PinsAreCounted : State → Type 0
 PinsAreCounted s = (f : ℕ) → f < s.frames → (s.frame f).word.pins ≡ count_by (pins_frame f) s.views
 
+-- whether a header is held
 abbrev pub is_held : Option StateWord → Bool
 is_held None = false
 is_held (Some w) = true
@@ -49,11 +55,11 @@ is_held (Some w) = true
 abbrev pub holds_header : ℕ → View → Bool
 holds_header f v = is_held (link v f).header
 
--- one view holds the header where BM_LOCKED stands, and none where it doesn't
+-- if BM_LOCKED is set, one view holds the header; if it isn't, none does
 abbrev pub HeadersAreHeld : State → Type 0
 HeadersAreHeld s = (f : ℕ) → f < s.frames → count_by (holds_header f) s.views ≡ (if (s.frame f).word.locked then 1 else 0)
 
--- the state word of a frame is the word that its header's holder has
+-- the state word of a frame is the word that the holder of its header has
 abbrev pub HoldersHaveTheWord : State → Type 0
 HoldersHaveTheWord s = (i f : ℕ) (v : View) (w : StateWord) → get_elem? s.views i ≡ some v → f < s.frames → (link v f).header ≡ Some w → (s.frame f).word ≡ w
 
@@ -70,13 +76,16 @@ abbrev pub HasNoUnpin : ℕ → ℕ → List Event → Type 0
 HasNoUnpin i f [] = Unit {0}
 HasNoUnpin i f (e ∷ es) = (e ≢ at i f unpin) × HasNoUnpin i f es
 
--- the frame f has in t the tag that it had in s
+-- The frame f has in t the tag that it had in s
 pub record KeepsTag (s t : State) (f : ℕ) : Type 0 where
+  -- the frame has a tag in s
   pub had : HasTag (s.frame f)
+  -- the frame has a tag in t
   pub has : HasTag (t.frame f)
+  -- the frame's tag word is the same in s and t
   pub same : (t.frame f).tag ≡ (s.frame f).tag
 
--- while a handed-out pin of it is held a frame keeps its tag, whatever the backends do
+-- while a handed-out pin of a frame is held the frame keeps its tag, whatever the backends do
 abbrev pub PinnedTagsStay : State → Type 0
 PinnedTagsStay s = (i f : ℕ) (es : List Event) (t : State) → IsHandedOut s i f → HasNoUnpin i f es → Run es s t → KeepsTag s t f × IsHandedOut t i f
 
@@ -95,14 +104,19 @@ TagWordsAreTags s = (f : ℕ) → f < s.frames → (s.frame f).tag ≢ no_tag �
 -- A tag word that isn't all ones is of a block of the relations, or of a new block, which a backend
 -- notes; if forks don't grow and shrink, it is of a block of the relations
 pub record TagWordsAreBlocks (s : State) : Type 0 where
+  -- a tag word that isn't all ones is of a block of the relations, or of a new block, which a
+  -- backend notes
   pub noted : (f : ℕ) → f < s.frames → (s.frame f).tag ≢ no_tag → (is_block s (s.frame f).tag ≡ true) ⊎ IsNoted s f
+  -- if forks don't grow and shrink, a tag word that isn't all ones is of a block of the relations
   pub quiet : s.resizes ≡ false → (f : ℕ) → f < s.frames → (s.frame f).tag ≢ no_tag → is_block s (s.frame f).tag ≡ true
 
+-- whether a right on a size is the shared one
 abbrev pub is_size_shared : SizeRight → Bool
 is_size_shared size_right.Unheld = false
 is_size_shared size_right.Shared = true
 is_size_shared size_right.Exclusive = false
 
+-- whether a right on a size is the exclusive one
 abbrev pub is_size_exclusive : SizeRight → Bool
 is_size_exclusive size_right.Unheld = false
 is_size_exclusive size_right.Shared = false
@@ -116,37 +130,47 @@ shares_size fork v = is_size_shared (size_hold v fork).right
 abbrev pub excludes_size : ℕ → View → Bool
 excludes_size fork v = is_size_exclusive (size_hold v fork).right
 
--- A size word counts the backends with the shared right. Its bit stands exactly if one has the
+-- A size word counts the backends with the shared right. Its bit is set if and only if one has the
 -- exclusive right, and then nobody has the shared one
 pub record SizeRights (s : State) (fork : ℕ) : Type 0 where
+  -- the size word counts the views that have the shared right
   pub sharers : (s.size fork).sharers ≡ count_by (shares_size fork) s.views
+  -- if the bit of the size word is set, one view has the exclusive right; if it isn't, none does
   pub exclusive : count_by (excludes_size fork) s.views ≡ (if (s.size fork).exclusive then 1 else 0)
+  -- while a view has the exclusive right, no view has the shared one
   pub apart : (s.size fork).exclusive ≡ true → (s.size fork).sharers ≡ 0
 
 -- A size word is the fork's size by the log, unless a backend has changed that under its
 -- exclusive right. A backend that has a right, and made no change, found that size
 pub record SizesAreLogged (s : State) (fork : ℕ) : Type 0 where
+  -- while nobody has the exclusive right, the size word is the fork's size by the log
   pub free : (s.size fork).exclusive ≡ false → (s.size fork).blocks ≡ (s.size fork).logged
+  -- until a view with the exclusive right makes a change, the size word is the fork's size by the
+  -- log
   pub unmade : (i : ℕ) (v : View) → get_elem? s.views i ≡ some v → (size_hold v fork).right ≡ size_right.Exclusive → (size_hold v fork).made ≡ None → (s.size fork).blocks ≡ (s.size fork).logged
+  -- a view that has a right, and made no change, found the size that the word still has, and that
+  -- is the fork's size by the log
   pub found : (i : ℕ) (v : View) → get_elem? s.views i ≡ some v → (size_hold v fork).right ≢ size_right.Unheld → (size_hold v fork).made ≡ None → ((size_hold v fork).blocks ≡ (s.size fork).blocks) × ((size_hold v fork).blocks ≡ (s.size fork).logged)
 
--- a pin whose block was seen below its fork's size is of a block that is there still
+-- a pin whose block was seen below its fork's size is of a block that is still there
 abbrev pub SeenBlocksStay : State → Type 0
 SeenBlocksStay s = (i f : ℕ) (v : View) → get_elem? s.views i ≡ some v → f < s.frames → (link v f).inside ≡ true → HasTag (s.frame f) × (is_block s (s.frame f).tag ≡ true)
 
--- where the header isn't locked BM_TAG_VALID stands exactly where the tag word isn't all ones
+-- if the header isn't locked, BM_TAG_VALID is set if and only if the tag word isn't all ones
 abbrev pub FlagsMatchTags : State → Type 0
 FlagsMatchTags s = (f : ℕ) → f < s.frames → (s.frame f).word.locked ≡ false → ((s.frame f).word.tag_valid ≡ true) ↔ ((s.frame f).tag ≢ no_tag)
 
--- a frame is valid where a pin of it has seen BM_VALID
+-- if a pin of a frame has seen BM_VALID, the frame is valid
 abbrev pub SeenFramesAreValid : State → Type 0
 SeenFramesAreValid s = (i f : ℕ) (v : View) → get_elem? s.views i ≡ some v → f < s.frames → (link v f).seen_valid ≡ true → (s.frame f).word.valid ≡ true
 
 -- The maps of the partitions give the frames of their tags, but for the pair in change
 pub record MapsAreExact (s : State) : Type 0 where
-  -- a map gives a frame for a tag exactly where the frame's tag word is that tag
+  -- a map gives a frame for a tag if and only if the frame's tag word is that tag, but for the pair
+  -- in change
   pub exact : (tag f : ℕ) → tag ≢ no_tag → f < s.frames → let part = s.partition (s.partition_of tag) in part.owed ≢ Entering tag f → part.owed ≢ Leaving tag f → (part.map tag ≡ Some f) ↔ ((s.frame f).tag ≡ tag)
-  -- where the header of that frame isn't locked the frame has the tag
+  -- the frame that a map gives for a tag has the tag, if its header isn't locked and the pair isn't
+  -- being left out
   pub tagged : (p tag f : ℕ) → (s.partition p).map tag ≡ Some f → (s.partition p).owed ≢ Leaving tag f → (s.frame f).word.locked ≡ false → HasTag (s.frame f) × ((s.frame f).tag ≡ tag)
   -- a map has only tags of its own partition, and only frames that are there
   pub own : (p tag f : ℕ) → (s.partition p).map tag ≡ Some f → IsPair s.frames s.partition_of p tag f
@@ -155,11 +179,13 @@ pub record MapsAreExact (s : State) : Type 0 where
 abbrev pub holds_turn : ℕ → View → Bool
 holds_turn p v = (hold v p).held
 
--- one view holds a latch that is taken, and none one that is free, where no pair is in change
+-- if the latch of a partition is taken, one view holds it; if it is free, no view holds it, and no
+-- pair is in change
 abbrev pub TurnsAreHeld : State → Type 0
 TurnsAreHeld s = (p : ℕ) → p < s.partitions → (count_by (holds_turn p) s.views ≡ (if (s.partition p).taken then 1 else 0)) × ((s.partition p).taken ≡ false → (s.partition p).owed ≡ Stable)
 
--- a map that isn't out has the entries that the holder of its latch saw last
+-- if a view has seen a map under its latch, and the map isn't out, it has the entries that the view
+-- saw last
 abbrev pub MapsAreAsSeen : State → Type 0
 MapsAreAsSeen s = (i p : ℕ) (v : View) (entries : List MapEntry) → get_elem? s.views i ≡ some v → p < s.partitions → (hold v p).seen ≡ Some entries → (hold v p).out ≡ None → (s.partition p).map ≡ found entries
 

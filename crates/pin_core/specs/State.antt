@@ -1,4 +1,5 @@
--- The frames of the buffer pool, and what each backend knows.
+-- The frames of the buffer pool, the partitions of the mapping table, the sizes of forks, and what
+-- each backend knows.
 use Rattle.std.specs.Prelude.{◌≡◌, ℕ, ◌+◌, ◌*◌, ◌/◌, ◌%◌, ◌<◌, Bool, true, false, List, [], ◌∷◌, ◌++◌, replicate, length, map, max, nat_eq, nat_lt, nat_le, slice_index_or, slice_set, ◌&&◌, ◌||◌, Option, None, if◌then◌else◌}
 use Rattle.state_word.specs.declared.word.StateWord.{StateWord}
 use Rattle.pin_core.specs.declared.view.Role.{Role}
@@ -33,48 +34,59 @@ pub record Frame : Type 0 where
   pub word : StateWord
   -- the tag word: a packed buffer tag, or `no_tag`
   pub tag : ℕ
-  -- the content word: how many backends share the content lock, whether one has it exclusively, and whether a sharer may take the page out to copy it
+  -- how many backends share the content lock, by the content word
   pub sharers : ℕ
+  -- whether a backend has the content lock exclusively, by the content word
   pub exclusive : Bool
+  -- whether a sharer has the copy latch, and so may take the page out to copy it, by the content
+  -- word
   pub copying : Bool
+  -- the page, as its bytes
   pub page : Page
 
 -- A partition of the mapping table, with its latch (`BufMappingPartitionLock`)
 pub record Partition : Type 0 where
   -- whether a backend has the latch
   pub taken : Bool
-  -- the frame that the map gives for a tag
+  -- the frame that the map gives for a tag, if any
   pub map : ℕ → Option ℕ
   -- the pair that the holder of the latch has named, and not yet entered or left out
   pub owed : MapChange
 
 -- The size of a fork
 pub record SizeWord : Type 0 where
-  -- the word: how many blocks the fork has, how many backends have the shared right on that, and
-  -- whether one has the exclusive right
+  -- how many blocks the fork has by its size word
   pub blocks : ℕ
+  -- how many backends have the shared right on the size, by the size word
   pub sharers : ℕ
+  -- whether a backend has the exclusive right on the size, by the size word
   pub exclusive : Bool
-  -- how many blocks it has by the log
+  -- how many blocks the fork has by the log
   pub logged : ℕ
 
 -- The buffer pool, and what each backend knows
 pub record State : Type 0 where
-  -- how many frames there are, and how many backends there may be
+  -- how many frames there are
   pub frames : ℕ
+  -- how many backends there may be
   pub backends : ℕ
   -- where the log begins
   pub base : ℕ
-  -- how many partitions there are, and the partition of each tag (`BufTableHashPartition`)
+  -- how many partitions the mapping table has
   pub partitions : ℕ
+  -- the partition of each tag (`BufTableHashPartition`)
   pub partition_of : ℕ → ℕ
-  -- whether a number is that of a fork of the relations, and whether forks may grow and shrink
+  -- whether a number is that of a fork of the relations
   pub is_fork : ℕ → Bool
+  -- whether forks may grow and shrink; on a table they don't yet
   pub resizes : Bool
+  -- the frames, by their numbers
   pub frame : ℕ → Frame
+  -- the partitions of the mapping table, by their numbers
   pub partition : ℕ → Partition
-  -- the size of each fork, by its number
+  -- the size of each fork, by the fork's number; on a table none changes yet
   pub size : ℕ → SizeWord
+  -- what each backend knows, in the order of their numbers
   pub views : List View
 
 -- the tag word of a frame without a tag: all ones
@@ -85,7 +97,7 @@ no_tag = 18446744073709551615
 unfoldable pub tag_fork : ℕ → ℕ
 tag_fork tag = tag / 4294967296
 
--- the block's number in its fork
+-- the number of a tag's block in its fork
 unfoldable pub tag_block : ℕ → ℕ
 tag_block tag = tag % 4294967296
 
@@ -93,15 +105,15 @@ tag_block tag = tag % 4294967296
 abbrev pub first_block : ℕ → ℕ
 first_block fork = fork * 4294967296
 
--- whether a tag word is a block below its fork's size
+-- whether a tag's block is below its fork's size
 abbrev pub is_below : (ℕ → ℕ) → ℕ → Bool
 is_below sizes tag = nat_lt (tag_block tag) (sizes (tag_fork tag))
 
--- whether it is a block of the relations: below its fork's size by the log
+-- whether a tag's block is one of the relations: below its fork's size by the log
 abbrev pub is_block : State → ℕ → Bool
 is_block s tag = nat_lt (tag_block tag) (s.size (tag_fork tag)).logged
 
--- whether a cut of a fork to n blocks takes the block of a tag word away
+-- whether a cut of a fork to n blocks takes a tag's block away
 abbrev pub is_cut : ℕ → ℕ → ℕ → Bool
 is_cut fork n tag = nat_eq (tag_fork tag) fork && nat_le n (tag_block tag)
 
@@ -109,7 +121,7 @@ is_cut fork n tag = nat_eq (tag_fork tag) fork && nat_le n (tag_block tag)
 unfoldable pub is_tag : ℕ → Bool
 is_tag word = is_some (unpacked_tag word)
 
--- a backend has nothing at a frame
+-- what a backend has at a frame if it has nothing there
 abbrev pub idle : Link
 idle = record {
   role = Absent;
@@ -138,25 +150,28 @@ idle = record {
   inside = false;
 }
 
+-- what a backend has of a partition's latch if it has nothing of it
 abbrev pub no_partition : PartitionHold
 no_partition = record { held = false; change = Stable; out = None; changed = false; seen = None }
 
+-- what a new backend has of a lane's latch: nothing
 abbrev pub no_lane : LaneHold
 no_lane = record { held = false; out = None; change = lane_change.Untouched; flushed = 0; swept = 0 }
 
+-- what a new backend has of the log's latch: nothing
 abbrev pub no_log : LogHold
 no_log = record { held = false; out = None; change = log_change.Untouched; appended = None; synced = false; end = None; redo = None }
 
--- a backend has no right on a fork's size
+-- what a backend has of a fork's size if it has no right on it
 abbrev pub no_size : SizeHold
 no_size = record { fork = 0; right = size_right.Unheld; blocks = 0; cut_to = None; passed = []; made = None; stored = false }
 
--- what is held of a fork's size
+-- what a list of such holds has of a fork's size
 unfoldable pub size_in : List SizeHold → ℕ → SizeHold
 size_in [] fork = no_size
 size_in (h ∷ hs) fork = if nat_eq fork h.fork then h else size_in hs fork
 
--- what is held of the other forks' sizes
+-- a list of such holds without those of a fork's size
 unfoldable pub without_size : ℕ → List SizeHold → List SizeHold
 without_size fork [] = []
 without_size fork (h ∷ hs) = if nat_eq fork h.fork then without_size fork hs else h ∷ without_size fork hs
@@ -177,7 +192,7 @@ lane_hold v n = slice_index_or v.lanes n no_lane
 abbrev pub link : View → ℕ → Link
 link v f = slice_index_or v.links f idle
 
--- whether a pin stands
+-- whether a role is that of a pin
 abbrev pub is_pin : Role → Bool
 is_pin Absent = false
 is_pin HandedOut = true
@@ -227,7 +242,7 @@ new_view number base frames partitions lanes = record {
   last_ended = None;
 }
 
--- the view of the first backend: the next number to give is 1
+-- the view of the first backend: it gives the number 1 next
 abbrev pub first_view : ℕ → ℕ → ℕ → ℕ → View
 first_view base frames partitions lanes = record (new_view 0 base frames partitions lanes) { next = 1 }
 
@@ -235,14 +250,15 @@ first_view base frames partitions lanes = record (new_view 0 base frames partiti
 abbrev pub emptied_view : View
 emptied_view = record (new_view 0 0 0 0 0) { emptied = true }
 
+-- the failed calls of two backends, added up
 abbrev pub sum_of_met : FailedCalls → FailedCalls → FailedCalls
 sum_of_met a b = record { reads = a.reads + b.reads; writes = a.writes + b.writes; logs = a.logs + b.logs }
 
--- the checkpoint of a view, as it is kept when the view is joined into the first
+-- the checkpoint of a view, as the first view keeps it when the view is joined into it
 abbrev pub kept_checkpoint : View → JoinedCheckpoint
 kept_checkpoint u = record { number = u.number; upto = u.upto; visited = map (λ (l : Link). l.visited) u.links; left_to_write = map (λ (l : Link). l.left_to_write) u.links; swept = map (λ (h : LaneHold). h.swept) u.lanes }
 
--- the first view v with what it keeps of the view u
+-- the first view v with what it takes over from the view u
 abbrev pub joined_view : View → View → View
 joined_view v u = record v {
   joined = v.joined + 1;
@@ -279,7 +295,7 @@ split_state s v = record s { views = slice_set s.views 0 (record v { next = v.ne
 abbrev pub joined_state : State → View → ℕ → View → State
 joined_state s v j u = record s { views = slice_set (slice_set s.views 0 (joined_view v u)) j emptied_view }
 
--- a state word with no flag set and every number 0
+-- a state word with no flag set and each number 0
 abbrev pub zero_word : StateWord
 zero_word = record { pins = 0; usage = 0; locked = false; dirty = false; valid = false; tag_valid = false; in_progress = false; failed = false; just_dirtied = false; awaited = false; checkpoint_needed = false; permanent = false; waiter = 0 }
 
@@ -291,27 +307,36 @@ empty_frame p = record { word = zero_word; tag = no_tag; sharers = 0; exclusive 
 abbrev pub empty_partition : Partition
 empty_partition = record { taken = false; map = λ _. None; owed = Stable }
 
--- a fork at the start: it has n blocks, and nobody has a right on that
+-- a fork's size at the start: n blocks, with no right given on it
 abbrev pub opened_size : ℕ → SizeWord
 opened_size n = record { blocks = n; sharers = 0; exclusive = false; logged = n }
 
--- what a buffer pool is made of
+-- What a buffer pool is made of
 pub record Config : Type 0 where
+  -- how many frames there are
   pub frames : ℕ
+  -- how many partitions the mapping table has
   pub partitions : ℕ
+  -- the partition of each tag (`BufTableHashPartition`)
   pub partition_of : ℕ → ℕ
-  -- whether a number is a fork's, how many blocks each fork has, and whether forks grow and shrink
+  -- whether a number is that of a fork of the relations
   pub is_fork : ℕ → Bool
+  -- how many blocks each fork has at the start, by the fork's number
   pub sizes : ℕ → ℕ
+  -- whether forks may grow and shrink; on a table they don't yet
   pub resizes : Bool
+  -- how many lanes there are
   pub lanes : ℕ
+  -- how many backends there may be
   pub backends : ℕ
   -- where the log begins
   pub base : ℕ
 
--- there is a backend, and each tag has a partition
+-- A pool can be made of this: there may be a backend, and each tag has a partition
 pub record CanOpen (c : Config) : Type 0 where
+  -- there may be at least one backend
   pub some_backend : 0 < c.backends
+  -- each tag has a partition
   pub placed : (tag : ℕ) → c.partition_of tag < c.partitions
 
 -- the buffer pool at the start, each frame with this page, and with one backend
