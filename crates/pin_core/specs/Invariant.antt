@@ -26,7 +26,8 @@ pub record TagsAgree (fr : Frame) : Type 0 where
   -- if BM_TAG_VALID is clear, the tag word is all ones
   pub unflagged : fr.word.tag_valid ≡ false → fr.tag ≡ no_tag
 
--- What holds of a frame while a view has stored its tag word, and neither assigned nor cleared it yet
+-- What holds of a frame while a view has stored its tag word, and neither assigned nor cleared it
+-- yet
 pub record PendingFrame (fr : Frame) : Type 0 where
   -- the frame has one pin
   pub single : fr.word.pins ≡ 1
@@ -65,7 +66,8 @@ pub record FrameLaw (fr : Frame) (t : Tally → ℕ) : Type 0 where
   -- its header
   pub pending_headers : t headers ≡ t pendings + t settled_headers
 
--- What a view that stored the tag word has and knows there, until it has assigned or cleared the frame
+-- What a view that stored the tag word has and knows there, until it has assigned or cleared the
+-- frame
 pub record PendingLink (l : Link) : Type 0 where
   -- the view holds the buffer header
   pub held : l.header ≢ None

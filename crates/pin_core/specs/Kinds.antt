@@ -22,7 +22,8 @@ use Rattle.grid.specs.Shape.{put}
 
 -- The kinds of step at a frame
 pub data Kind : Type 0 where
-  -- a load of the state word (`pg_atomic_read_u32`); a compare-exchange that fails and a header lock that isn't got are such loads
+  -- a load of the state word (`pg_atomic_read_u32`); a compare-exchange that fails and a header
+  -- lock that isn't got are such loads
   load_state : Kind
   -- a pin of a frame that has BM_TAG_VALID, for a ring or not (`PinBuffer`)
   pin : Bool → Kind
@@ -43,13 +44,16 @@ pub data Kind : Type 0 where
   erase_tag : Kind
   -- a load of the tag word
   load_tag : Kind
-  -- the frame that the clock sweep chose is pinned, and its header unlocked (`GetVictimBuffer`: `PinBuffer_Locked`)
+  -- the frame that the clock sweep chose is pinned, and its header unlocked (`GetVictimBuffer`:
+  -- `PinBuffer_Locked`)
   pin_victim : Kind
-  -- the clock sweep passes the frame: its usage count falls, and its header is unlocked (`StrategyGetBuffer`)
+  -- the clock sweep passes the frame: its usage count falls, and its header is unlocked
+  -- (`StrategyGetBuffer`)
   lower_usage : Kind
   -- a frame whose tag was stored gets BM_TAG_VALID, and its header is unlocked (`BufferAlloc`)
   assign : Kind
-  -- a frame whose tag was taken away loses its flags, and its header is unlocked (`InvalidateVictimBuffer`)
+  -- a frame whose tag was taken away loses its flags, and its header is unlocked
+  -- (`InvalidateVictimBuffer`)
   clear : Kind
 
 -- whether a pin has seen BM_VALID after a load of the state word: it learns nothing between a store

@@ -17,7 +17,8 @@ pub data TurnKind : Type 0 where
   leave_turn : TurnKind
   -- the map goes out to the holder of the latch, with these entries
   map_out : List MapEntry → TurnKind
-  -- the holder enters the named pair into the map that is out, or leaves it out (`BufTableInsert`, `BufTableDelete`)
+  -- the holder enters the named pair into the map that is out, or leaves it out (`BufTableInsert`,
+  -- `BufTableDelete`)
   change_map : TurnKind
   -- the map comes back, with these entries
   map_back : List MapEntry → TurnKind
