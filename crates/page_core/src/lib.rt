@@ -1,8 +1,9 @@
-//! Content locks, pages, input and output, as plain data: what a step may be, and what every list of steps keeps.
+//! Content locks, pages, input and output, as plain data: what a step may be, and what every list
+//! of steps keeps.
 //!
-//! Nothing here runs. The types are those of `pin_core`; the kinds of step, the invariant that they keep and the lists
-//! of steps are in `specs/`, and docs/PROTOCOL.md and docs/INVARIANT.md tell them in words. Begin with
-//! [`all_histories`], whose clauses are the promises.
+//! Nothing here runs. The types are those of `pin_core`; the kinds of step, the invariant that they
+//! keep and the lists of steps are in `specs/`, and docs/PROTOCOL.md and docs/INVARIANT.md tell
+//! them in words. Begin with [`all_histories`], whose clauses are the promises.
 #![tactic(auto)]
 
 ghost use Rattle.std.specs.Prelude.{ℕ, ◌<◌, List, Option};
@@ -17,12 +18,13 @@ ghost use Rattle.page_core.specs.Sample.{SampleRuns, CleanupRuns};
 
 /// What every list of events keeps, whatever the backends do and in whatever order.
 pub fn all_histories()
-    // Where the invariant holds it holds after every list of events, and it holds at the start: so in every state that events lead to.
+    // The invariant holds at the start, and if it holds, it holds after every list of events: so it
+    // holds in every state that events lead to.
     ensures kept { (es : List Event) (s : State) (t : State) → PageInvariant s → Run es s t → PageInvariant t }
     ensures opens { (config : Config) (origin : ℕ → Option Page) (page : Page) → CanOpen config → PageInvariant (opening config origin page) }
     ensures reached { (s : State) → IsReached s → PageInvariant s }
 
-    // And where it holds, of pins, tags and maps:
+    // If the invariant holds, this holds of pins, tags, maps and sizes:
     ensures counted { (s : State) → PageInvariant s → PinsAreCounted s.core }
     ensures pinned { (s : State) → PageInvariant s → PinnedFramesHavePins s.core }
     ensures few { (s : State) → PageInvariant s → PinsAreFew s.core }
@@ -48,7 +50,7 @@ pub fn all_histories()
     ensures maps_seen { (s : State) → PageInvariant s → MapsAreAsSeen s.core }
     ensures maps_home { (s : State) → PageInvariant s → MapsAreHome s.core }
 
-    // and of content locks, pages, input and output:
+    // of content locks, pages, input and output:
     ensures locks { (s : State) (f : ℕ) → PageInvariant s → f < s.core.frames → ContentLocks s f }
     ensures sharers { (s : State) → PageInvariant s → SharersAreFew s }
     ensures one_io { (s : State) (f : ℕ) → PageInvariant s → f < s.core.frames → OneIo s f }
@@ -65,17 +67,21 @@ pub fn all_histories()
     ensures one_wait { (s : State) → PageInvariant s → BackendsWaitOnce s }
     ensures granted { (s : State) (f : ℕ) → PageInvariant s → f < s.core.frames → CleanupIsAlone s f }
 
-    // and, where each read that is noted gives the block's page after the log, where that is known, as the kind asks (the crate above, which has the lanes, shows that they do):
+    // and this of what frames hold and what was copied and read. It rests on what `CanNoteRead`
+    // asks: that a read gives the block's page after the log, if that is known. `history_core`,
+    // which has the lanes, shows that reads do:
     ensures frames_hold { (s : State) → PageInvariant s → FramesHoldPages s }
     ensures copies_are { (s : State) → PageInvariant s → CopiesArePages s }
 {}
 
-/// An example: a backend misses a block and reads it into a frame, copies its page under a shared lock, and evicts it.
+/// An example: a backend misses a block and reads it into a frame, copies its page under a shared
+/// lock, and evicts it.
 pub fn miss_read_copy_evict()
     ensures { SampleRuns }
 {}
 
-/// An example: a backend waits for a cleanup lock of a frame that another one pins, is woken, and gets it.
+/// An example: a backend waits for a cleanup lock of a frame that another one pins, is woken, and
+/// gets it.
 pub fn cleanup_wait()
     ensures { CleanupRuns }
 {}

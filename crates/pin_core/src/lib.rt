@@ -1,9 +1,10 @@
 //! Pins, buffer headers, buffer tags, the partitions of the mapping table with their maps, and the
 //! sizes of forks, as plain data: what a step may be, and what every list of steps keeps.
 //!
-//! Nothing here runs. The types are what a backend knows ([`View`]); the kinds of step, the invariant that they keep
-//! and the lists of steps are in `specs/`, and docs/PROTOCOL.md and docs/INVARIANT.md tell them in words. Begin with
-//! [`all_schedules`], whose clauses are the promises.
+//! Nothing here runs. The types are what a backend knows ([`View`]); the kinds of step, the
+//! invariant that they keep and the lists of steps are in `specs/`, and docs/PROTOCOL.md and
+//! docs/INVARIANT.md tell them in words. Begin with [`all_schedules`], whose clauses are the
+//! promises.
 #![tactic(auto)]
 
 ghost use Rattle.std.specs.Prelude.{ℕ, List};
@@ -24,16 +25,17 @@ pub use view::{
 
 /// What every list of events keeps, whatever the backends do and in whatever order.
 pub fn all_schedules()
-    // Where the invariant holds it holds after every list of events, and it holds at the start: so in every state that events lead to.
+    // The invariant holds at the start, and if it holds, it holds after every list of events: so it
+    // holds in every state that events lead to.
     ensures kept { (es : List Event) (s : State) (t : State) → PinInvariant s → Run es s t → PinInvariant t }
     ensures opens { (config : Config) (page : Page) → CanOpen config → PinInvariant (opening config page) }
     ensures reached { (s : State) → IsReached s → PinInvariant s }
-    // What holds of the sizes of forks is kept too, and holds at the start.
+    // What holds of the sizes of forks holds at the start, and every list of events keeps it.
     ensures sizes_kept { (es : List Event) (s : State) (t : State) → PinInvariant s → SizesLaw s → Run es s t → SizesLaw t }
     ensures sizes_open { (config : Config) (page : Page) → SizesLaw (opening config page) }
     ensures sizes_reached { (s : State) → IsReached s → SizesLaw s }
 
-    // And where it holds:
+    // If the invariant holds, so does this:
     ensures unique { (s : State) → PinInvariant s → TagsAreUnique s }
     ensures stay { (s : State) → PinInvariant s → PinnedTagsStay s }
     ensures counted { (s : State) → PinInvariant s → PinsAreCounted s }
@@ -53,14 +55,15 @@ pub fn all_schedules()
     ensures maps_seen { (s : State) → PinInvariant s → MapsAreAsSeen s }
     ensures maps_home { (s : State) → PinInvariant s → MapsAreHome s }
 
-    // and of the sizes of forks:
+    // If what holds of the sizes of forks holds, so does this:
     ensures blocks { (s : State) → SizesLaw s → TagWordsAreBlocks s }
     ensures size_rights { (s : State) (fork : ℕ) → SizesLaw s → SizeRights s fork }
     ensures sizes_logged { (s : State) (fork : ℕ) → SizesLaw s → SizesAreLogged s fork }
     ensures seen_blocks { (s : State) → PinInvariant s → SizesLaw s → SeenBlocksStay s }
 {}
 
-/// An example: a backend misses a block and gives it a frame, another one hits it there, and the first one's pin goes.
+/// An example: a backend misses a block and gives it a frame, another one hits it there, and the
+/// first one's pin goes.
 pub fn miss_and_hit()
     ensures { SampleRuns }
 {}

@@ -1,4 +1,5 @@
-//! What a backend knows. No value of these types is made: contracts read them. An array of length 0 reads there as a list of any length, and a page as the list of its bytes.
+//! What a backend knows. No value of these types is made: contracts read them. An array of length 0
+//! reads there as a list of any length, and a page as the list of its bytes.
 use state_word::StateWord;
 
 /// A backend's pin of a frame.
@@ -37,7 +38,7 @@ pub enum LastWrite {
 /// frames. The conditions of the kinds allow one of each; no law says so.
 pub struct Link {
     pub role: Role,
-    /// The tag that the pin remembers; none where it was not read.
+    /// The tag that the pin remembers; none if it wasn't read.
     pub tag: Option<u64>,
     /// The pin saw `BM_VALID`.
     pub seen_valid: bool,
@@ -45,7 +46,8 @@ pub struct Link {
     pub ring: bool,
     /// The word of the buffer header that the backend has locked.
     pub header: Option<StateWord>,
-    /// Under that header the tag word was stored, and the frame is neither assigned nor cleared yet.
+    /// Under that header the tag word was stored, and the frame is neither assigned nor cleared
+    /// yet.
     pub pending: bool,
     pub content: Content,
     /// Among the sharers the backend is the one that may take the page out to copy it.
@@ -56,7 +58,7 @@ pub struct Link {
     pub entered: bool,
     /// The entry of the new page is in the log, and not yet applied to the page.
     pub unapplied: bool,
-    /// The page that it makes.
+    /// The page that this entry makes.
     pub image: Option<[u8; 0]>,
     /// The page as the backend copied it under this content lock.
     pub copied: Option<[u8; 0]>,
@@ -77,9 +79,10 @@ pub struct Link {
     /// The frame is one that the backend's checkpoint has still to write.
     pub left_to_write: bool,
     /// The backend gave the frame the tag of its fork's next block, a new block, and the log has no
-    /// record of the growth yet.
+    /// record of the growth yet. On a table no fork grows yet.
     pub noted: bool,
-    /// The pin knows its tag, and the backend saw that the block is below its fork's size.
+    /// The pin knows its tag, and the backend saw that the block is below its fork's size. No call
+    /// on a table looks at a fork's size yet.
     pub inside: bool,
 }
 
@@ -135,12 +138,14 @@ pub enum LaneChange {
 
 /// What a lane was when it went out.
 pub struct TakenLane {
-    /// Its blocks, where the contents are known.
+    /// Its blocks, if the contents are known.
     pub pages: Option<[BlockPage; 0]>,
-    /// The blocks that lie there, whether or not the contents are known, with a mark at those written since its last sync.
+    /// The blocks that lie there, whether or not the contents are known, with a mark at those
+    /// written since its last sync.
     pub marks: [BlockMark; 0],
-    /// How many reads, and how many writes and syncs, had failed.
+    /// How many reads had failed.
     pub read_faults: u64,
+    /// How many writes and syncs had failed.
     pub write_faults: u64,
     /// How many calls had been made of it.
     pub calls: u64,
@@ -154,7 +159,8 @@ pub struct LaneHold {
     pub change: LaneChange,
     /// The flushed position as the backend had loaded it when the lane went out.
     pub flushed: u64,
-    /// The largest position where a checkpoint of the backend began that had nothing left to write as the backend synced the lane, or 0.
+    /// The largest position where a checkpoint of the backend began that had nothing left to write
+    /// as the backend synced the lane, or 0.
     pub swept: u64,
 }
 
@@ -169,7 +175,7 @@ pub enum LogChange {
 
 /// What the log's device was when it went out.
 pub struct TakenLog {
-    /// Its bytes, where the contents are known.
+    /// Its bytes, if the contents are known.
     pub bytes: Option<[u8; 0]>,
     /// How many of the bytes were durable.
     pub synced: u64,
@@ -177,7 +183,7 @@ pub struct TakenLog {
     pub faults: u64,
     /// How many calls had been made of it.
     pub calls: u64,
-    /// Where the log was down, its end at the failure.
+    /// If the log was down, its end at the failure.
     pub down: Option<u64>,
 }
 
@@ -193,7 +199,8 @@ pub struct LogHold {
     pub synced: bool,
     /// The log's end as it was loaded or stored under this latch.
     pub end: Option<u64>,
-    /// The redo position (`RedoRecPtr`) as it was loaded under this latch, and not raised since.
+    /// The redo position (`RedoRecPtr`) as it was loaded under this latch, and not raised since. No
+    /// call of a manager loads it yet.
     pub redo: Option<u64>,
 }
 
@@ -405,7 +412,8 @@ pub struct JoinedCheckpoint {
     pub visited: [bool; 0],
     /// For each frame, whether it is one that has still to be written.
     pub left_to_write: [bool; 0],
-    /// For each lane, the largest position where a checkpoint began that had nothing left to write as the lane was synced, or 0.
+    /// For each lane, the largest position where a checkpoint began that had nothing left to write
+    /// as the lane was synced, or 0.
     pub swept: [u64; 0],
 }
 
@@ -431,24 +439,29 @@ pub struct View {
     pub partitions: [PartitionHold; 0],
     /// One for each lane.
     pub lanes: [LaneHold; 0],
-    /// One for each fork on whose size the backend has a right.
+    /// One for each fork on whose size the backend has a right. No call on a table takes one yet.
     pub sizes: [SizeHold; 0],
     pub log: LogHold,
     /// The flushed position as last loaded; where the log begins, before the first load.
     pub flushed: u64,
-    /// The largest position to which the backend raised the flushed position; where the log begins, before that.
+    /// The largest position to which the backend raised the flushed position; where the log begins,
+    /// before that.
     pub raised_to: u64,
-    /// The positions to which the backend raised the redo position, in order.
+    /// The positions to which the backend raised the redo position, in order. No call of a manager
+    /// raises it yet.
     pub redo_raised: [u64; 0],
-    /// The largest log end that the backend loaded, or stored with an entry; where the log begins, before the first.
+    /// The largest log end that the backend loaded, or stored with an entry; where the log begins,
+    /// before the first.
     pub end_seen: u64,
-    /// The blocks whose frame was marked dirty under an exclusive lock that was given up with no entry made, by their tags.
+    /// The blocks whose frame was marked dirty under an exclusive lock that was given up with no
+    /// entry made, by their tags.
     pub unentered: [u64; 0],
-    /// The records that the backend failed to append, in order: the log's device has at most the first bytes of each.
+    /// The records that the backend failed to append, in order: the log's device has at most the
+    /// first bytes of each.
     pub torn: [TornRecord; 0],
     /// The pages read and written, in order.
     pub calls: [Call; 0],
-    /// The largest place of the calls; where the log begins, where there are none.
+    /// The largest place of the calls; where the log begins, if there are none.
     pub front: u64,
     /// How many loads of the log end gave a read its place.
     pub place_loads: u64,
@@ -466,7 +479,7 @@ pub struct View {
     pub changes: [WordChange; 0],
     /// The stores of hint words, in order.
     pub hints: [HintStore; 0],
-    /// What it added to the counters of the table, in order.
+    /// What it added to the counters of the table, in order. No call of a manager adds to one yet.
     pub published: [Published; 0],
     /// The blocks that it has seen in frames.
     pub residents: [Resident; 0],
