@@ -1,6 +1,7 @@
 -- What every list of events keeps of content locks, pages, input and output, and of waits, in the
 -- field's words.
-use Rattle.std.specs.Prelude.{◌≡◌, ◌≢◌, ℕ, ◌<◌, ◌≤◌, Bool, true, false, List, [], ◌∷◌, Option, Some, None, count_by, if◌then◌else◌}
+use Rattle.std.specs.Prelude.{◌≡◌, ◌≢◌, ℕ, ◌<◌, ◌≤◌, Bool, true, false, List, [], ◌∷◌, Option, Some}
+use Rattle.std.specs.Prelude.{None, count_by, if◌then◌else◌}
 use mathlib.Core.Option.{some}
 use lib.ListN.{get_elem?}
 use Rattle.pin_core.specs.declared.view.Content.{Content}
@@ -25,7 +26,8 @@ HasNoUnpin i f (e ∷ es) = (e ≢ pins_and_maps (pin_steps.at i f unpin)) × Ha
 
 -- while a handed-out pin of a frame is held the frame keeps its tag, whatever the backends do
 abbrev pub PinnedTagsStay : State → Type 0
-PinnedTagsStay s = (i f : ℕ) (es : List Event) (t : State) → IsHandedOut s.core i f → HasNoUnpin i f es → Run es s t → KeepsTag s.core t.core f × IsHandedOut t.core i f
+PinnedTagsStay s = (i f : ℕ) (es : List Event) (t : State) → IsHandedOut s.core i f
+    → HasNoUnpin i f es → Run es s t → KeepsTag s.core t.core f × IsHandedOut t.core i f
 
 -- A list of events leads to the state, from the start of a buffer pool whose lanes hold `origin`,
 -- as far as their contents are known
@@ -85,13 +87,15 @@ pub record ContentLocks (s : State) (f : ℕ) : Type 0 where
 -- A content lock that a view shares is counted, and each backend is counted once at most
 pub record SharersAreFew (s : State) : Type 0 where
   -- if a view shares the lock of a frame, the count of sharers isn't 0
-  pub counted : (i f : ℕ) (v : View) → get_elem? s.core.views i ≡ some v → f < s.core.frames → (link v f).content ≡ Shared → 0 < (s.core.frame f).sharers
+  pub counted : (i f : ℕ) (v : View) → get_elem? s.core.views i ≡ some v → f < s.core.frames
+      → (link v f).content ≡ Shared → 0 < (s.core.frame f).sharers
   -- the count of sharers of a frame is at most the number of backends that there may be
   pub few : (f : ℕ) → f < s.core.frames → (s.core.frame f).sharers ≤ s.core.backends
 
 -- if BM_IO_IN_PROGRESS is set, one view has the input or output right; if it isn't, none does
 abbrev pub OneIo : State → ℕ → Type 0
-OneIo s f = count_by (works_on f) s.core.views ≡ (if (s.core.frame f).word.in_progress then 1 else 0)
+OneIo s f
+    = count_by (works_on f) s.core.views ≡ (if (s.core.frame f).word.in_progress then 1 else 0)
 
 -- whether the view has the copy latch of the frame f
 abbrev pub copies_at : ℕ → View → Bool
@@ -102,76 +106,111 @@ pub record CopyLatches (s : State) (f : ℕ) : Type 0 where
   -- if the copy bit is set, one view has the copy latch; if it isn't, none does
   pub one : count_by (copies_at f) s.core.views ≡ (if (s.core.frame f).copying then 1 else 0)
   -- a view that has the copy latch shares the content lock
-  pub sharer : (i : ℕ) (v : View) → get_elem? s.core.views i ≡ some v → (link v f).copying ≡ true → (link v f).content ≡ Shared
+  pub sharer : (i : ℕ) (v : View) → get_elem? s.core.views i ≡ some v → (link v f).copying ≡ true
+      → (link v f).content ≡ Shared
 
 -- if a view has marked a frame dirty under its exclusive lock, it still has the lock, and BM_DIRTY
 -- and BM_JUST_DIRTIED are set
 abbrev pub DirtiedFramesAreDirty : State → Type 0
-DirtiedFramesAreDirty s = (i f : ℕ) (v : View) → get_elem? s.core.views i ≡ some v → f < s.core.frames → (link v f).dirtied ≡ true → ((s.core.frame f).word.dirty ≡ true) × ((s.core.frame f).word.just_dirtied ≡ true) × ((link v f).content ≡ Exclusive)
+DirtiedFramesAreDirty s = (i f : ℕ) (v : View) → get_elem? s.core.views i ≡ some v
+    → f < s.core.frames → (link v f).dirtied ≡ true
+    → ((s.core.frame f).word.dirty ≡ true) × ((s.core.frame f).word.just_dirtied ≡ true)
+    × ((link v f).content ≡ Exclusive)
 
 -- What a lock or right of a view says of its pin and its frame
 pub record RightsNeedPins (s : State) : Type 0 where
   -- a content lock needs a pin and a valid frame
-  pub content : (i f : ℕ) (v : View) → get_elem? s.core.views i ≡ some v → f < s.core.frames → (link v f).content ≢ Unlocked → ((link v f).role ≢ Absent) × ((s.core.frame f).word.valid ≡ true)
+  pub content : (i f : ℕ) (v : View) → get_elem? s.core.views i ≡ some v → f < s.core.frames
+      → (link v f).content ≢ Unlocked
+      → ((link v f).role ≢ Absent) × ((s.core.frame f).word.valid ≡ true)
   -- an input right needs a pin and a frame that isn't valid
-  pub input : (i f : ℕ) (v : View) → get_elem? s.core.views i ≡ some v → f < s.core.frames → (link v f).io ≡ Input → ((link v f).role ≢ Absent) × ((s.core.frame f).word.valid ≡ false)
+  pub input : (i f : ℕ) (v : View) → get_elem? s.core.views i ≡ some v → f < s.core.frames
+      → (link v f).io ≡ Input → ((link v f).role ≢ Absent) × ((s.core.frame f).word.valid ≡ false)
   -- an output right needs a pin, the content lock shared, and a dirty frame
-  pub output : (i f : ℕ) (v : View) → get_elem? s.core.views i ≡ some v → f < s.core.frames → (link v f).io ≡ Output → ((link v f).role ≢ Absent) × ((link v f).content ≡ Shared) × ((s.core.frame f).word.dirty ≡ true)
+  pub output : (i f : ℕ) (v : View) → get_elem? s.core.views i ≡ some v → f < s.core.frames
+      → (link v f).io ≡ Output
+      → ((link v f).role ≢ Absent) × ((link v f).content ≡ Shared)
+      × ((s.core.frame f).word.dirty ≡ true)
 
 -- the page of a frame is out with one view at most
 abbrev pub OnePageOut : State → Type 0
-OnePageOut s = (i j f : ℕ) (v u : View) → get_elem? s.core.views i ≡ some v → get_elem? s.core.views j ≡ some u → f < s.core.frames → (link v f).out ≢ None → (link u f).out ≢ None → i ≡ j
+OnePageOut s = (i j f : ℕ) (v u : View) → get_elem? s.core.views i ≡ some v
+    → get_elem? s.core.views j ≡ some u → f < s.core.frames → (link v f).out ≢ None
+    → (link u f).out ≢ None → i ≡ j
 
 -- If a view may take the page of a frame out, and hasn't, no view has it out
 pub record PagesAreHome (s : State) : Type 0 where
   -- if a view has the content lock exclusively, and doesn't have the page out, no view has the page
   -- out
-  pub exclusive : (i j f : ℕ) (v u : View) → get_elem? s.core.views i ≡ some v → get_elem? s.core.views j ≡ some u → f < s.core.frames → (link v f).out ≡ None → (link v f).content ≡ Exclusive → (link u f).out ≡ None
+  pub exclusive : (i j f : ℕ) (v u : View) → get_elem? s.core.views i ≡ some v
+      → get_elem? s.core.views j ≡ some u → f < s.core.frames → (link v f).out ≡ None
+      → (link v f).content ≡ Exclusive → (link u f).out ≡ None
   -- if a view has the copy latch, and doesn't have the page out, no view has the page out
-  pub copying : (i j f : ℕ) (v u : View) → get_elem? s.core.views i ≡ some v → get_elem? s.core.views j ≡ some u → f < s.core.frames → (link v f).out ≡ None → (link v f).copying ≡ true → (link u f).out ≡ None
+  pub copying : (i j f : ℕ) (v u : View) → get_elem? s.core.views i ≡ some v
+      → get_elem? s.core.views j ≡ some u → f < s.core.frames → (link v f).out ≡ None
+      → (link v f).copying ≡ true → (link u f).out ≡ None
   -- if a view has the input right, and doesn't have the page out, no view has the page out
-  pub input : (i j f : ℕ) (v u : View) → get_elem? s.core.views i ≡ some v → get_elem? s.core.views j ≡ some u → f < s.core.frames → (link v f).out ≡ None → (link v f).io ≡ Input → (link u f).out ≡ None
+  pub input : (i j f : ℕ) (v u : View) → get_elem? s.core.views i ≡ some v
+      → get_elem? s.core.views j ≡ some u → f < s.core.frames → (link v f).out ≡ None
+      → (link v f).io ≡ Input → (link u f).out ≡ None
 
 -- a view with an entry to apply notes the entry's image, which is the block's page after the log
 abbrev pub ImagesAreLogged : State → Type 0
-ImagesAreLogged s = (i f : ℕ) (v : View) → get_elem? s.core.views i ≡ some v → f < s.core.frames → (link v f).unapplied ≡ true → (p : Page) × ((link v f).image ≡ Some p) × (s.logged (s.core.frame f).tag ≡ Some p)
+ImagesAreLogged s = (i f : ℕ) (v : View) → get_elem? s.core.views i ≡ some v → f < s.core.frames
+    → (link v f).unapplied ≡ true
+    → (p : Page) × ((link v f).image ≡ Some p) × (s.logged (s.core.frame f).tag ≡ Some p)
 
 -- no view has an entry to apply to the frame's page
 abbrev pub NoneUnapplied : State → ℕ → Type 0
-NoneUnapplied s f = (i : ℕ) (v : View) → get_elem? s.core.views i ≡ some v → (link v f).unapplied ≡ false
+NoneUnapplied s f = (i : ℕ) (v : View) → get_elem? s.core.views i ≡ some v
+    → (link v f).unapplied ≡ false
 
 -- the page of a valid frame is its block's page after the log, if that is known, unless a view has
 -- an entry to apply there
 abbrev pub FramesHoldPages : State → Type 0
-FramesHoldPages s = (f : ℕ) (p : Page) → f < s.core.frames → HasTag (s.core.frame f) → (s.core.frame f).word.valid ≡ true → NoneUnapplied s f → s.logged (s.core.frame f).tag ≡ Some p → (s.core.frame f).page ≡ p
+FramesHoldPages s = (f : ℕ) (p : Page) → f < s.core.frames → HasTag (s.core.frame f)
+    → (s.core.frame f).word.valid ≡ true → NoneUnapplied s f
+    → s.logged (s.core.frame f).tag ≡ Some p → (s.core.frame f).page ≡ p
 
 -- the page of a valid frame is sound
 abbrev pub ValidPagesAreSound : State → Type 0
-ValidPagesAreSound s = (f : ℕ) → f < s.core.frames → (s.core.frame f).word.valid ≡ true → is_sound_page (s.core.frame f).page ≡ true
+ValidPagesAreSound s = (f : ℕ) → f < s.core.frames → (s.core.frame f).word.valid ≡ true
+    → is_sound_page (s.core.frame f).page ≡ true
 
 -- A new block isn't there yet. The frame's page, once it is valid, and a page noted as read there
 -- are all zero. Only the view that notes the block has an input right there
 pub record NewBlocksAreZero (s : State) : Type 0 where
   -- a new block isn't there: it isn't below its fork's size by the log
-  pub outside : (i f : ℕ) (v : View) → get_elem? s.core.views i ≡ some v → f < s.core.frames → (link v f).noted ≡ true → is_block s.core (s.core.frame f).tag ≡ false
+  pub outside : (i f : ℕ) (v : View) → get_elem? s.core.views i ≡ some v → f < s.core.frames
+      → (link v f).noted ≡ true → is_block s.core (s.core.frame f).tag ≡ false
   -- once a frame with a new block is valid, its page is all zero
-  pub page : (i f : ℕ) (v : View) → get_elem? s.core.views i ≡ some v → f < s.core.frames → (link v f).noted ≡ true → (s.core.frame f).word.valid ≡ true → (s.core.frame f).page ≡ zero_page
+  pub page : (i f : ℕ) (v : View) → get_elem? s.core.views i ≡ some v → f < s.core.frames
+      → (link v f).noted ≡ true → (s.core.frame f).word.valid ≡ true
+      → (s.core.frame f).page ≡ zero_page
   -- a page that the view which notes a new block notes as read there is all zero
-  pub read : (i f : ℕ) (v : View) (p : Page) → get_elem? s.core.views i ≡ some v → f < s.core.frames → (link v f).noted ≡ true → (link v f).read ≡ Some p → p ≡ zero_page
+  pub read : (i f : ℕ) (v : View) (p : Page) → get_elem? s.core.views i ≡ some v → f < s.core.frames
+      → (link v f).noted ≡ true → (link v f).read ≡ Some p → p ≡ zero_page
   -- only the view that notes a new block has an input right there
-  pub alone : (i j f : ℕ) (v u : View) → get_elem? s.core.views i ≡ some v → get_elem? s.core.views j ≡ some u → f < s.core.frames → (link v f).noted ≡ true → (link u f).io ≡ Input → j ≡ i
+  pub alone : (i j f : ℕ) (v u : View) → get_elem? s.core.views i ≡ some v
+      → get_elem? s.core.views j ≡ some u → f < s.core.frames → (link v f).noted ≡ true
+      → (link u f).io ≡ Input → j ≡ i
 
 -- A page that a view has copied under its content lock, or that the lane gave under its input
 -- right, is the block's page after the log, if that is known
 pub record CopiesArePages (s : State) : Type 0 where
   -- a page that a view has copied under its content lock is still the frame's page
-  pub home : (i f : ℕ) (v : View) (p : Page) → get_elem? s.core.views i ≡ some v → f < s.core.frames → (link v f).copied ≡ Some p → (s.core.frame f).page ≡ p
+  pub home : (i f : ℕ) (v : View) (p : Page) → get_elem? s.core.views i ≡ some v → f < s.core.frames
+      → (link v f).copied ≡ Some p → (s.core.frame f).page ≡ p
   -- a page that a view has copied under its content lock is the block's page after the log, if that
   -- is known
-  pub copied : (i f : ℕ) (v : View) (p q : Page) → get_elem? s.core.views i ≡ some v → f < s.core.frames → (link v f).copied ≡ Some p → s.logged (s.core.frame f).tag ≡ Some q → q ≡ p
+  pub copied : (i f : ℕ) (v : View) (p q : Page) → get_elem? s.core.views i ≡ some v
+      → f < s.core.frames → (link v f).copied ≡ Some p → s.logged (s.core.frame f).tag ≡ Some q
+      → q ≡ p
   -- a page that the lane gave under an input right is the block's page after the log, if that is
   -- known
-  pub read : (i f : ℕ) (v : View) (p q : Page) → get_elem? s.core.views i ≡ some v → f < s.core.frames → (link v f).read ≡ Some p → s.logged (s.core.frame f).tag ≡ Some q → q ≡ p
+  pub read : (i f : ℕ) (v : View) (p q : Page) → get_elem? s.core.views i ≡ some v
+      → f < s.core.frames → (link v f).read ≡ Some p → s.logged (s.core.frame f).tag ≡ Some q
+      → q ≡ p
 
 -- A backend of this number pins the frame f, and waits there under its number
 pub record IsAwaitedBy (s : State) (f number : ℕ) : Type 0 where
@@ -200,13 +239,19 @@ pub record WaitersAreNamed (s : State) (f : ℕ) : Type 0 where
 -- A backend waits under its own number, and at one frame at most
 pub record BackendsWaitOnce (s : State) : Type 0 where
   -- a backend waits under its own number
-  pub own : (i f number : ℕ) (v : View) → get_elem? s.core.views i ≡ some v → (link v f).waits ≡ Some number → number ≡ v.number
+  pub own : (i f number : ℕ) (v : View) → get_elem? s.core.views i ≡ some v
+      → (link v f).waits ≡ Some number → number ≡ v.number
   -- a backend waits at one frame at most
-  pub one : (i f g : ℕ) (v : View) → get_elem? s.core.views i ≡ some v → (link v f).waits ≢ None → (link v g).waits ≢ None → f ≡ g
+  pub one : (i f g : ℕ) (v : View) → get_elem? s.core.views i ≡ some v → (link v f).waits ≢ None
+      → (link v g).waits ≢ None → f ≡ g
 
 -- What a backend that asks for a cleanup lock may conclude (`LockBufferForCleanup`)
 pub record CleanupIsAlone (s : State) (f : ℕ) : Type 0 where
   -- if the reference count is 1, and a backend pins the frame, no other one does
-  pub pins : (i j : ℕ) (v u : View) → get_elem? s.core.views i ≡ some v → get_elem? s.core.views j ≡ some u → i ≢ j → (s.core.frame f).word.pins ≡ 1 → (link v f).role ≢ Absent → (link u f).role ≡ Absent
+  pub pins : (i j : ℕ) (v u : View) → get_elem? s.core.views i ≡ some v
+      → get_elem? s.core.views j ≡ some u → i ≢ j → (s.core.frame f).word.pins ≡ 1
+      → (link v f).role ≢ Absent → (link u f).role ≡ Absent
   -- if a backend has the content lock exclusively, no other one has it, exclusively or shared
-  pub locks : (i j : ℕ) (v u : View) → get_elem? s.core.views i ≡ some v → get_elem? s.core.views j ≡ some u → i ≢ j → (link v f).content ≡ Exclusive → (link u f).content ≡ Unlocked
+  pub locks : (i j : ℕ) (v u : View) → get_elem? s.core.views i ≡ some v
+      → get_elem? s.core.views j ≡ some u → i ≢ j → (link v f).content ≡ Exclusive
+      → (link u f).content ≡ Unlocked

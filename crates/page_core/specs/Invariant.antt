@@ -16,7 +16,8 @@ use Rattle.pin_core.specs.Invariant.{HasTag, FrameLaw, LinkLaw}
 use Rattle.pin_core.specs.Invariant as pins
 use Rattle.page_layout.specs.Soundness.{is_sound_page}
 use Rattle.page_core.specs.State.{Block, State, block_of, zero_page}
-use Rattle.page_core.specs.Tallies.{Tally, pin, sharers, applied_locks, unapplied_locks, copies, works, outs, waits_as, page_shape}
+use Rattle.page_core.specs.Tallies.{Tally, pin, sharers, applied_locks, unapplied_locks, copies}
+use Rattle.page_core.specs.Tallies.{works, outs, waits_as, page_shape}
 use Rattle.grid.specs.Shape.{Part, Grid}
 
 -- What holds of a frame with its page and of the sums over the views there
@@ -38,7 +39,8 @@ pub record PageFrame (b : Block) (fr : Frame) (t : Tally → ℕ) : Type 0 where
   pub sound : fr.word.valid ≡ true → is_sound_page fr.page ≡ true
   -- the page of a valid frame is the block's page after the log, if that is known, unless a view
   -- has an entry to apply there
-  pub page : (p : Page) → fr.word.valid ≡ true → fr.tag ≢ no_tag → t unapplied_locks ≡ 0 → b.logged ≡ Some p → p ≡ fr.page
+  pub page : (p : Page) → fr.word.valid ≡ true → fr.tag ≢ no_tag → t unapplied_locks ≡ 0
+      → b.logged ≡ Some p → p ≡ fr.page
   -- if BM_PIN_COUNT_WAITER is set, a view waits there under the waiter's number
   pub waited : fr.word.awaited ≡ true → 0 < t (waits_as fr.word.waiter)
   -- if BM_PIN_COUNT_WAITER is clear, the word's waiter number is 0
@@ -147,7 +149,10 @@ page_part = record { column = PageFrame; cell = λ b fr _ l. PageLink b fr l }
 
 -- what holds of pins, headers and tags, in the grid of this crate
 abbrev pub pin_part : Part page_shape
-pin_part = record { column = λ _ fr t. FrameLaw fr (λ k. t (pin k)); cell = λ _ fr _ l. LinkLaw fr l }
+pin_part = record {
+  column = λ _ fr t. FrameLaw fr (λ k. t (pin k));
+  cell = λ _ fr _ l. LinkLaw fr l;
+}
 
 -- What holds of the waits of a view
 pub record WaitsOnce (v : View) : Type 0 where
@@ -176,7 +181,8 @@ pub record NotedLaw (s : State) (i f : ℕ) (v : View) : Type 0 where
 
 -- what holds of each frame with a new block
 abbrev pub NotedPages : State → Type 0
-NotedPages s = (i f : ℕ) (v : View) → get_elem? s.core.views i ≡ some v → f < s.core.frames → (link v f).noted ≡ true → NotedLaw s i f v
+NotedPages s = (i f : ℕ) (v : View) → get_elem? s.core.views i ≡ some v → f < s.core.frames
+    → (link v f).noted ≡ true → NotedLaw s i f v
 
 -- a block that isn't there has no page after the log
 abbrev pub OthersHaveNoPage : State → Type 0

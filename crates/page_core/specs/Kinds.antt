@@ -1,11 +1,14 @@
 -- The kinds of step that content locks, pages, input and output, waits and checkpoints add: when
 -- each is allowed, and what it makes of the frame, of its block, and of what the stepping view has
 -- there.
-use Rattle.std.specs.Prelude.{◌≡◌, ◌≢◌, ℕ, ◌+◌, ◌-◌, Bool, true, false, List, [], ◌∷◌, ◌++◌, map, slice_set, Option, Some, None, ◌||◌, ◌&&◌, not, if◌then◌else◌}
+use Rattle.std.specs.Prelude.{◌≡◌, ◌≢◌, ℕ, ◌+◌, ◌-◌, Bool, true, false, List, [], ◌∷◌, ◌++◌, map}
+use Rattle.std.specs.Prelude.{slice_set, Option, Some, None, ◌||◌, ◌&&◌, not, if◌then◌else◌}
 use Rattle.state_word.specs.declared.word.StateWord.{StateWord}
 use Rattle.state_word.specs.declared.word.IoEnd.{IoEnd}
 use Rattle.state_word.specs.declared.word.IoEnd.TheVariants.{ReadOk, WriteOk, Bad}
-use Rattle.state_word.specs.Fields.{unlocked_fields, dirtied_fields, io_started_fields, io_ended_fields, just_dirtied_cleared_fields, waiter_set_fields, waiter_cleared_fields, checkpoint_needed_fields}
+use Rattle.state_word.specs.Fields.{unlocked_fields, dirtied_fields, io_started_fields}
+use Rattle.state_word.specs.Fields.{io_ended_fields, just_dirtied_cleared_fields, waiter_set_fields}
+use Rattle.state_word.specs.Fields.{waiter_cleared_fields, checkpoint_needed_fields}
 use Rattle.pin_core.specs.declared.view.Role.TheVariants.{Absent}
 use Rattle.pin_core.specs.declared.view.Content.{Content}
 use Rattle.pin_core.specs.declared.view.Content.TheVariants.{Unlocked, Shared, Exclusive}
@@ -429,22 +432,53 @@ link_after mark_dirty b fr l = record l { dirtied = true }
 link_after share b fr l = record l { content = Shared }
 link_after exclude b fr l = record l { content = Exclusive }
 link_after unshare b fr l = record l { content = Unlocked; copied = None }
-link_after unexclude b fr l = record l { content = Unlocked; copied = None; dirtied = false; entered = false }
+link_after unexclude b fr l = record l {
+  content = Unlocked;
+  copied = None;
+  dirtied = false;
+  entered = false;
+}
 link_after take_copy b fr l = record l { copying = true }
 link_after leave_copy b fr l = record l { copying = false }
 link_after page_out b fr l = record l { out = Some fr.page }
-link_after overwrite_logged b fr l = record l { overwritten = Some (image_over b.logged fr.page); unapplied = false; image = None }
+link_after overwrite_logged b fr l = record l {
+  overwritten = Some (image_over b.logged fr.page);
+  unapplied = false;
+  image = None;
+}
 link_after (overwrite_read p) b fr l = record l { overwritten = Some p }
-link_after page_back b fr l = record l { out = None; overwritten = None; copied = copied_after l.content l.unapplied fr.page l.copied; read_is_home = home_after l.io l.overwritten l.read_is_home }
+link_after page_back b fr l = record l {
+  out = None;
+  overwritten = None;
+  copied = copied_after l.content l.unapplied fr.page l.copied;
+  read_is_home = home_after l.io l.overwritten l.read_is_home;
+}
 link_after (note_read p) b fr l = record l { read = Some p; read_is_home = false }
 link_after note_zero b fr l = record l { read = Some zero_page; read_is_home = false }
 link_after begin_write b fr l = record l { last_write = Unwritten }
 link_after (note_write done) b fr l = record l { last_write = write_noted done }
-link_after (make_entry p) b fr l = record l { entered = true; unapplied = true; image = Some p; copied = None }
-link_after start_input b fr l = record l { header = None; io = Input; read = None; read_is_home = false }
+link_after (make_entry p) b fr l = record l {
+  entered = true;
+  unapplied = true;
+  image = Some p;
+  copied = None;
+}
+link_after start_input b fr l = record l {
+  header = None;
+  io = Input;
+  read = None;
+  read_is_home = false;
+}
 link_after start_output b fr l = record l { header = None; io = Output }
 link_after clear_just_dirtied b fr l = record l { header = None }
-link_after (end_io end) b fr l = record l { seen_valid = saw_valid end l.seen_valid; header = None; io = Quiet; read = None; read_is_home = false; last_write = Unwritten }
+link_after (end_io end) b fr l = record l {
+  seen_valid = saw_valid end l.seen_valid;
+  header = None;
+  io = Quiet;
+  read = None;
+  read_is_home = false;
+  last_write = Unwritten;
+}
 link_after (set_waiter number) b fr l = record l { header = None; waits = Some number }
 link_after clear_waiter b fr l = record l { header = None }
 link_after need_checkpoint b fr l = record l { header = None; visited = true; left_to_write = true }
@@ -452,7 +486,8 @@ link_after need_checkpoint b fr l = record l { header = None; visited = true; le
 -- the blocks of frames that were marked dirty, and whose lock was given up with no entry made,
 -- after a kind
 abbrev pub unentered_after : Kind → Frame → Link → List ℕ → List ℕ
-unentered_after unexclude fr l tags = if l.dirtied && not l.entered then tags ++ fr.tag ∷ [] else tags
+unentered_after unexclude fr l tags
+    = if l.dirtied && not l.entered then tags ++ fr.tag ∷ [] else tags
 unentered_after _ fr l tags = tags
 
 -- whether a kind marks the frame dirty: a page may have to be written
@@ -491,12 +526,18 @@ seen_by _ f fr = []
 abbrev pub changes_after : Kind → ℕ → Block → Frame → List WordChange → List WordChange
 changes_after mark_dirty f b fr changes = changed f fr (frame_after mark_dirty b fr).word changes
 changes_after start_input f b fr changes = changed f fr (frame_after start_input b fr).word changes
-changes_after start_output f b fr changes = changed f fr (frame_after start_output b fr).word changes
-changes_after clear_just_dirtied f b fr changes = changed f fr (frame_after clear_just_dirtied b fr).word changes
-changes_after (end_io end) f b fr changes = changed f fr (frame_after (end_io end) b fr).word changes
-changes_after (set_waiter number) f b fr changes = changed f fr (frame_after (set_waiter number) b fr).word changes
-changes_after clear_waiter f b fr changes = changed f fr (frame_after clear_waiter b fr).word changes
-changes_after need_checkpoint f b fr changes = changed f fr (frame_after need_checkpoint b fr).word changes
+changes_after start_output f b fr changes
+    = changed f fr (frame_after start_output b fr).word changes
+changes_after clear_just_dirtied f b fr changes
+    = changed f fr (frame_after clear_just_dirtied b fr).word changes
+changes_after (end_io end) f b fr changes
+    = changed f fr (frame_after (end_io end) b fr).word changes
+changes_after (set_waiter number) f b fr changes
+    = changed f fr (frame_after (set_waiter number) b fr).word changes
+changes_after clear_waiter f b fr changes
+    = changed f fr (frame_after clear_waiter b fr).word changes
+changes_after need_checkpoint f b fr changes
+    = changed f fr (frame_after need_checkpoint b fr).word changes
 changes_after _ f b fr changes = changes
 
 -- how many steps other than loads a kind is

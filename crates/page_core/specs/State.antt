@@ -31,4 +31,7 @@ below_sizes sizes pages tag = if is_below sizes tag then pages tag else None
 -- the buffer pool at the start, if the lanes hold `origin`, as far as their contents are known, and
 -- each frame has this page
 abbrev pub opening : Config → (ℕ → Option Page) → Page → State
-opening config origin page = record { core = pins.opening config page; logged = below_sizes config.sizes origin }
+opening config origin page = record {
+  core = pins.opening config page;
+  logged = below_sizes config.sizes origin;
+}

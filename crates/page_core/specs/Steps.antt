@@ -1,5 +1,6 @@
 -- One step, and lists of steps.
-use Rattle.std.specs.Prelude.{◌≡◌, ◌≢◌, ℕ, ◌<◌, true, false, List, [], ◌∷◌, Option, Some, None, if◌then◌else◌}
+use Rattle.std.specs.Prelude.{◌≡◌, ◌≢◌, ℕ, ◌<◌, true, false, List, [], ◌∷◌, Option, Some, None}
+use Rattle.std.specs.Prelude.{if◌then◌else◌}
 use mathlib.Core.Option.{some}
 use lib.ListN.{get_elem?}
 use Rattle.pin_core.specs.declared.view.Io.TheVariants.{Quiet}
@@ -11,7 +12,8 @@ use Rattle.pin_core.specs.State as pins
 use Rattle.pin_core.specs.Sizes.{SizeKind, enter_extension, enter_cut}
 use Rattle.pin_core.specs.Steps as pin_steps
 use Rattle.page_core.specs.State.{State, block_of, zero_page}
-use Rattle.page_core.specs.Kinds.{Kind, make_entry, start_input, start_output, end_io, set_waiter, Allowed, frame_after, block_after, view_after}
+use Rattle.page_core.specs.Kinds.{Kind, make_entry, start_input, start_output, end_io, set_waiter}
+use Rattle.page_core.specs.Kinds.{Allowed, frame_after, block_after, view_after}
 use Rattle.grid.specs.Shape.{put}
 
 -- the view has no input or output right
@@ -95,9 +97,13 @@ logged_by _ s = s.logged
 -- One step leads from one state to another
 pub data Step : Event → State → State → Type 0 where
   -- an event of `pin_core`
-  cores : {s : State} {e : pin_steps.Event} {core' : pins.State} → pin_steps.Step e s.core core' → Step (pins_and_maps e) s (record s { core = core'; logged = logged_by e s })
+  cores : {s : State} {e : pin_steps.Event} {core' : pins.State} → pin_steps.Step e s.core core'
+      → Step (pins_and_maps e) s (record s { core = core'; logged = logged_by e s })
   -- a step of the kind k at the frame f by backend i, whose view is v
-  touches : {s : State} (i f : ℕ) (k : Kind) (v : View) → get_elem? s.core.views i ≡ some v → v.emptied ≡ false → f < s.core.frames → Allowed k (block_of s.logged (s.core.frame f).tag) (s.core.frame f) (link v f) → AllowedAround k s v f
+  touches : {s : State} (i f : ℕ) (k : Kind) (v : View) → get_elem? s.core.views i ≡ some v
+      → v.emptied ≡ false → f < s.core.frames
+      → Allowed k (block_of s.logged (s.core.frame f).tag) (s.core.frame f) (link v f)
+      → AllowedAround k s v f
       → Step (at i f k) s (state_after k s i f v)
 
 -- The events lead from one state to the other

@@ -67,4 +67,15 @@ weigh (waits_as number) l = wait_weight number l.waits
 
 -- the grid of views and frames, in which a frame names the block of its tag word
 abbrev pub page_shape : Shape
-page_shape = record { Column = Frame; Link = Link; View = View; Tally = Tally; Block = Block; Own = Unit {0}; weigh = weigh; link = link; own = λ _. tt; spot = λ fr. fr.tag }
+page_shape = record {
+  Column = Frame;
+  Link = Link;
+  View = View;
+  Tally = Tally;
+  Block = Block;
+  Own = Unit {0};
+  weigh = weigh;
+  link = link;
+  own = λ _. tt;
+  spot = λ fr. fr.tag;
+}

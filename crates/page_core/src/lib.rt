@@ -8,20 +8,33 @@
 
 ghost use Rattle.std.specs.Prelude.{ℕ, ◌<◌, List, Option};
 ghost use Rattle.pin_core.specs.State.{CanOpen, Config, Page};
-ghost use Rattle.pin_core.specs.Schedules.{UsagesAreLow, TagWordsAreTags, TagWordsAreBlocks, SizeRights, SizesAreLogged, SeenBlocksStay, UntaggedFramesHaveOnePin, FlagsMatchTags, SeenFramesAreValid, TagsAreUnique, PinsAreCounted, PinnedFramesHavePins, PinsAreFew, HeadersAreHeld, HoldersHaveTheWord, PinsRemember, MapsAreExact, TurnsAreHeld, MapsAreAsSeen, MapsAreHome};
+ghost use Rattle.pin_core.specs.Schedules.{UsagesAreLow, TagWordsAreTags, TagWordsAreBlocks};
+ghost use Rattle.pin_core.specs.Schedules.{SizeRights, SizesAreLogged, SeenBlocksStay};
+ghost use Rattle.pin_core.specs.Schedules.{UntaggedFramesHaveOnePin, FlagsMatchTags};
+ghost use Rattle.pin_core.specs.Schedules.{SeenFramesAreValid, TagsAreUnique, PinsAreCounted};
+ghost use Rattle.pin_core.specs.Schedules.{PinnedFramesHavePins, PinsAreFew, HeadersAreHeld};
+ghost use Rattle.pin_core.specs.Schedules.{HoldersHaveTheWord, PinsRemember, MapsAreExact};
+ghost use Rattle.pin_core.specs.Schedules.{TurnsAreHeld, MapsAreAsSeen, MapsAreHome};
 ghost use Rattle.pin_core.specs.Invariant.{AllAccounted};
 ghost use Rattle.page_core.specs.State.{State, opening};
 ghost use Rattle.page_core.specs.Invariant.{OthersHaveNoPage, PageInvariant};
 ghost use Rattle.page_core.specs.Steps.{Event, Run};
-ghost use Rattle.page_core.specs.Histories.{IsReached, PinnedTagsStay, ContentLocks, SharersAreFew, OneIo, RightsNeedPins, CopyLatches, DirtiedFramesAreDirty, OnePageOut, PagesAreHome, ImagesAreLogged, FramesHoldPages, ValidPagesAreSound, NewBlocksAreZero, CopiesArePages, WaitersAreNamed, BackendsWaitOnce, CleanupIsAlone};
+ghost use Rattle.page_core.specs.Histories.{IsReached, PinnedTagsStay, ContentLocks, SharersAreFew};
+ghost use Rattle.page_core.specs.Histories.{OneIo, RightsNeedPins, CopyLatches};
+ghost use Rattle.page_core.specs.Histories.{DirtiedFramesAreDirty, OnePageOut, PagesAreHome};
+ghost use Rattle.page_core.specs.Histories.{ImagesAreLogged, FramesHoldPages, ValidPagesAreSound};
+ghost use Rattle.page_core.specs.Histories.{NewBlocksAreZero, CopiesArePages, WaitersAreNamed};
+ghost use Rattle.page_core.specs.Histories.{BackendsWaitOnce, CleanupIsAlone};
 ghost use Rattle.page_core.specs.Sample.{SampleRuns, CleanupRuns};
 
 /// What every list of events keeps, whatever the backends do and in whatever order.
 pub fn all_histories()
     // The invariant holds at the start, and if it holds, it holds after every list of events: so it
     // holds in every state that events lead to.
-    ensures kept { (es : List Event) (s : State) (t : State) → PageInvariant s → Run es s t → PageInvariant t }
-    ensures opens { (config : Config) (origin : ℕ → Option Page) (page : Page) → CanOpen config → PageInvariant (opening config origin page) }
+    ensures kept { (es : List Event) (s : State) (t : State) → PageInvariant s → Run es s t
+        → PageInvariant t }
+    ensures opens { (config : Config) (origin : ℕ → Option Page) (page : Page) → CanOpen config
+        → PageInvariant (opening config origin page) }
     ensures reached { (s : State) → IsReached s → PageInvariant s }
 
     // If the invariant holds, this holds of pins, tags, maps and sizes:
@@ -55,7 +68,8 @@ pub fn all_histories()
     ensures sharers { (s : State) → PageInvariant s → SharersAreFew s }
     ensures one_io { (s : State) (f : ℕ) → PageInvariant s → f < s.core.frames → OneIo s f }
     ensures rights { (s : State) → PageInvariant s → RightsNeedPins s }
-    ensures copy_latches { (s : State) (f : ℕ) → PageInvariant s → f < s.core.frames → CopyLatches s f }
+    ensures copy_latches { (s : State) (f : ℕ) → PageInvariant s → f < s.core.frames
+        → CopyLatches s f }
     ensures dirtied { (s : State) → PageInvariant s → DirtiedFramesAreDirty s }
     ensures one_out { (s : State) → PageInvariant s → OnePageOut s }
     ensures pages_home { (s : State) → PageInvariant s → PagesAreHome s }
@@ -63,9 +77,11 @@ pub fn all_histories()
     ensures sound { (s : State) → PageInvariant s → ValidPagesAreSound s }
 
     // of waits for a cleanup lock:
-    ensures waiters { (s : State) (f : ℕ) → PageInvariant s → f < s.core.frames → WaitersAreNamed s f }
+    ensures waiters { (s : State) (f : ℕ) → PageInvariant s → f < s.core.frames
+        → WaitersAreNamed s f }
     ensures one_wait { (s : State) → PageInvariant s → BackendsWaitOnce s }
-    ensures granted { (s : State) (f : ℕ) → PageInvariant s → f < s.core.frames → CleanupIsAlone s f }
+    ensures granted { (s : State) (f : ℕ) → PageInvariant s → f < s.core.frames
+        → CleanupIsAlone s f }
 
     // and this of what frames hold and what was copied and read. It rests on what `CanNoteRead`
     // asks: that a read gives the block's page after the log, if that is known. `history_core`,

@@ -1,5 +1,6 @@
 -- What holds in every state that steps lead to.
-use Rattle.std.specs.Prelude.{◌≡◌, ◌≢◌, ℕ, ◌+◌, ◌<◌, ◌≤◌, Bool, true, false, List, Some, None, length}
+use Rattle.std.specs.Prelude.{◌≡◌, ◌≢◌, ℕ, ◌+◌, ◌<◌, ◌≤◌, Bool, true, false, List, Some, None}
+use Rattle.std.specs.Prelude.{length}
 use mathlib.Core.Option.{some}
 use lib.ListN.{get_elem?}
 use Rattle.state_word.specs.declared.word.StateWord.{StateWord}
@@ -7,7 +8,8 @@ use Rattle.pin_core.specs.declared.view.Role.TheVariants.{Absent, HandedOut, Vic
 use Rattle.pin_core.specs.declared.view.Link.{Link}
 use Rattle.pin_core.specs.declared.view.View.{View}
 use Rattle.pin_core.specs.State.{Frame, State, no_tag, is_tag}
-use Rattle.pin_core.specs.Tallies.{Tally, pins, headers, pendings, settled_pins, settled_headers, flag_weight, frame_shape}
+use Rattle.pin_core.specs.Tallies.{Tally, pins, headers, pendings, settled_pins, settled_headers}
+use Rattle.pin_core.specs.Tallies.{flag_weight, frame_shape}
 use Rattle.pin_core.specs.Turns.{turn_shape, turn_part}
 use Rattle.pin_core.specs.Maps.{MapLaw}
 use Rattle.grid.specs.Shape.{total, Part, Grid}
@@ -115,11 +117,13 @@ pin_part = record { column = λ _ fr t. FrameLaw fr t; cell = λ _ fr _ l. LinkL
 -- What holds of the list of views
 pub record ViewsLaw (frames partitions backends : ℕ) (views : List View) : Type 0 where
   -- a view that isn't emptied has a link for each frame, and a hold for each partition
-  pub wide : (i : ℕ) (v : View) → get_elem? views i ≡ some v → v.emptied ≡ false → (length v.links ≡ frames) × (length v.partitions ≡ partitions)
+  pub wide : (i : ℕ) (v : View) → get_elem? views i ≡ some v → v.emptied ≡ false
+      → (length v.links ≡ frames) × (length v.partitions ≡ partitions)
   -- view i has the number i, unless it is emptied
   pub numbered : (i : ℕ) (v : View) → get_elem? views i ≡ some v → v.emptied ≡ false → v.number ≡ i
   -- the first view is never emptied, and has the next number to give
-  pub first : (v : View) → get_elem? views 0 ≡ some v → (v.emptied ≡ false) × (v.next ≡ length views)
+  pub first : (v : View) → get_elem? views 0 ≡ some v
+      → (v.emptied ≡ false) × (v.next ≡ length views)
   -- no more numbers are given than there may be backends
   pub few : length views ≤ backends
 
@@ -131,11 +135,13 @@ live_weight false = 1
 -- the backends that are there, and those that were joined into the first, are as many as the
 -- numbers that were given
 abbrev pub AllAccounted : List View → Type 0
-AllAccounted views = (v : View) → get_elem? views 0 ≡ some v → total (λ (u : View). live_weight u.emptied) views + v.joined ≡ length views
+AllAccounted views = (v : View) → get_elem? views 0 ≡ some v
+    → total (λ (u : View). live_weight u.emptied) views + v.joined ≡ length views
 
 -- no two frames have the same tag word, unless it is all ones, with BM_TAG_VALID or without
 abbrev pub TagsApart : ℕ → (ℕ → Frame) → Type 0
-TagsApart frames frame = (f g : ℕ) → f < frames → g < frames → (frame f).tag ≢ no_tag → (frame f).tag ≡ (frame g).tag → f ≡ g
+TagsApart frames frame = (f g : ℕ) → f < frames → g < frames → (frame f).tag ≢ no_tag
+    → (frame f).tag ≡ (frame g).tag → f ≡ g
 
 -- What holds of pins, headers, tags and maps
 pub record PinInvariant (s : State) : Type 0 where
@@ -146,7 +152,8 @@ pub record PinInvariant (s : State) : Type 0 where
   -- no two frames have the same tag word, unless it is all ones
   pub apart : TagsApart s.frames s.frame
   -- the maps give exactly the frames of the tags that frames have, but for the pairs in change
-  pub maps : MapLaw s.frames s.partition_of (λ p. (s.partition p).map) (λ p. (s.partition p).owed) (λ f. (s.frame f).tag)
+  pub maps : MapLaw s.frames s.partition_of (λ p. (s.partition p).map) (λ p. (s.partition p).owed)
+      (λ f. (s.frame f).tag)
   -- each tag has a partition
   pub placed : (tag : ℕ) → s.partition_of tag < s.partitions
   -- what holds of the list of views: their numbers, and how many there are

@@ -1,8 +1,10 @@
 -- The kinds of step at a frame: when each is allowed, and what it makes of the frame and of what
 -- the stepping view has there.
-use Rattle.std.specs.Prelude.{◌≡◌, ◌≢◌, ℕ, ◌+◌, ◌<◌, Bool, true, false, List, [], ◌∷◌, ◌++◌, map, slice_set, Option, Some, None, nat_eq, not, ◌||◌, ◌&&◌, if◌then◌else◌}
+use Rattle.std.specs.Prelude.{◌≡◌, ◌≢◌, ℕ, ◌+◌, ◌<◌, Bool, true, false, List, [], ◌∷◌, ◌++◌, map}
+use Rattle.std.specs.Prelude.{slice_set, Option, Some, None, nat_eq, not, ◌||◌, ◌&&◌, if◌then◌else◌}
 use Rattle.state_word.specs.declared.word.StateWord.{StateWord}
-use Rattle.state_word.specs.Fields.{pinned_fields, unpinned_fields, locked_fields, unlocked_fields, assigned_fields, cleared_fields, usage_down_fields}
+use Rattle.state_word.specs.Fields.{pinned_fields, unpinned_fields, locked_fields, unlocked_fields}
+use Rattle.state_word.specs.Fields.{assigned_fields, cleared_fields, usage_down_fields}
 use Rattle.pin_core.specs.declared.view.Role.{Role}
 use Rattle.pin_core.specs.declared.view.Role.TheVariants.{Absent, HandedOut, Victim}
 use Rattle.pin_core.specs.declared.view.Content.TheVariants.{Unlocked}
@@ -257,16 +259,44 @@ link_after load_state fr l = record l {
 }
 link_after (pin ring) fr l = record l { role = HandedOut; ring = ring }
 link_after (pin_mapped tag ring) fr l = record l { role = HandedOut; tag = Some tag; ring = ring }
-link_after unpin fr l = record l { role = Absent; tag = None; seen_valid = false; ring = false; inside = false }
+link_after unpin fr l = record l {
+  role = Absent;
+  tag = None;
+  seen_valid = false;
+  ring = false;
+  inside = false;
+}
 link_after lock_header fr l = record l { header = Some (locked_fields fr.word) }
 link_after unlock_header fr l = record l { header = None }
-link_after (store_tag tag) fr l = record l { tag = None; seen_valid = false; pending = true; inside = false }
-link_after (store_new_tag tag) fr l = record l { tag = None; seen_valid = false; pending = true; noted = true; inside = false }
-link_after erase_tag fr l = record l { tag = None; seen_valid = false; pending = true; noted = false; inside = false }
+link_after (store_tag tag) fr l = record l {
+  tag = None;
+  seen_valid = false;
+  pending = true;
+  inside = false;
+}
+link_after (store_new_tag tag) fr l = record l {
+  tag = None;
+  seen_valid = false;
+  pending = true;
+  noted = true;
+  inside = false;
+}
+link_after erase_tag fr l = record l {
+  tag = None;
+  seen_valid = false;
+  pending = true;
+  noted = false;
+  inside = false;
+}
 link_after load_tag fr l = record l { tag = tag_after l.pending l.role fr.tag l.tag }
 link_after pin_victim fr l = record l { role = Victim; ring = false; header = None }
 link_after lower_usage fr l = record l { header = None }
-link_after assign fr l = record l { role = assigned_role l.noted; tag = Some fr.tag; header = None; pending = false }
+link_after assign fr l = record l {
+  role = assigned_role l.noted;
+  tag = Some fr.tag;
+  header = None;
+  pending = false;
+}
 link_after clear fr l = record l { header = None; pending = false }
 
 -- the word that a kind loads, as it sees it
@@ -295,7 +325,8 @@ cleared_after _ n = n
 
 -- the listed blocks, with those of the frame f of which p is true marked as gone
 abbrev pub seen_gone : (Resident → Bool) → ℕ → List Resident → List Resident
-seen_gone p f rs = map (λ (r : Resident). record r { gone = r.gone || (nat_eq r.frame f && p r) }) rs
+seen_gone p f rs
+    = map (λ (r : Resident). record r { gone = r.gone || (nat_eq r.frame f && p r) }) rs
 
 -- the block that a pin shows at the frame f, if it knows the tag and has seen BM_VALID
 abbrev pub sighted : Bool → Option ℕ → ℕ → List Resident
@@ -306,8 +337,10 @@ sighted true (Some tag) f = record { frame = f; tag = tag; gone = false } ∷ []
 -- the listed blocks after a kind: a load marks those that it shows to be gone, and adds the one
 -- that the pin knows by then
 abbrev pub residents_after : Kind → ℕ → Frame → Link → List Resident → List Resident
-residents_after load_state f fr l rs = seen_gone (λ r. not fr.word.valid) f rs ++ sighted (link_after load_state fr l).seen_valid (link_after load_state fr l).tag f
-residents_after load_tag f fr l rs = seen_gone (λ r. not (nat_eq r.tag fr.tag)) f rs ++ sighted (link_after load_tag fr l).seen_valid (link_after load_tag fr l).tag f
+residents_after load_state f fr l rs = seen_gone (λ r. not fr.word.valid) f rs
+    ++ sighted (link_after load_state fr l).seen_valid (link_after load_state fr l).tag f
+residents_after load_tag f fr l rs = seen_gone (λ r. not (nat_eq r.tag fr.tag)) f rs
+    ++ sighted (link_after load_tag fr l).seen_valid (link_after load_tag fr l).tag f
 residents_after _ f fr l rs = rs
 
 -- how many steps other than loads a kind is
@@ -318,7 +351,11 @@ steps_of _ = 1
 
 -- a load by the view, with what it saw
 abbrev pub load_of : View → LoadedWord → Load
-load_of v what = record { loaded_word = what; pins = map (λ (l : Link). is_pin l.role) v.links; steps = v.steps }
+load_of v what = record {
+  loaded_word = what;
+  pins = map (λ (l : Link). is_pin l.role) v.links;
+  steps = v.steps;
+}
 
 -- the pair that a kind at the frame f names in change
 abbrev pub named_by : Kind → ℕ → Frame → MapChange
@@ -330,14 +367,18 @@ named_by _ f fr = Stable
 -- the partitions after the holder of a latch has named the pair
 abbrev pub partitions_owing : MapChange → (ℕ → ℕ) → (ℕ → Partition) → ℕ → Partition
 partitions_owing Stable partition_of parts = parts
-partitions_owing (Entering tag f) partition_of parts = put parts (partition_of tag) (record (parts (partition_of tag)) { owed = Entering tag f })
-partitions_owing (Leaving tag f) partition_of parts = put parts (partition_of tag) (record (parts (partition_of tag)) { owed = Leaving tag f })
+partitions_owing (Entering tag f) partition_of parts
+    = put parts (partition_of tag) (record (parts (partition_of tag)) { owed = Entering tag f })
+partitions_owing (Leaving tag f) partition_of parts
+    = put parts (partition_of tag) (record (parts (partition_of tag)) { owed = Leaving tag f })
 
 -- what a view has of the latches after it has named the pair
 abbrev pub holds_naming : MapChange → (ℕ → ℕ) → View → List PartitionHold
 holds_naming Stable partition_of v = v.partitions
-holds_naming (Entering tag f) partition_of v = slice_set v.partitions (partition_of tag) (record (hold v (partition_of tag)) { change = Entering tag f })
-holds_naming (Leaving tag f) partition_of v = slice_set v.partitions (partition_of tag) (record (hold v (partition_of tag)) { change = Leaving tag f })
+holds_naming (Entering tag f) partition_of v = slice_set v.partitions (partition_of tag)
+    (record (hold v (partition_of tag)) { change = Entering tag f })
+holds_naming (Leaving tag f) partition_of v = slice_set v.partitions (partition_of tag)
+    (record (hold v (partition_of tag)) { change = Leaving tag f })
 
 -- What a kind at the frame f makes of the view
 abbrev pub view_after : Kind → (ℕ → ℕ) → ℕ → Frame → Link → View → View

@@ -36,9 +36,11 @@ OwedLaw frames partition_of p (Leaving tag f) = IsPair frames partition_of p tag
 -- Each partition's map has exactly its tags and the frames that have them, but for the pair in
 -- change; with `gives` the maps' answers, `owed` the pairs in change and `word` the frames' tag
 -- words
-pub record MapLaw (frames : ℕ) (partition_of : ℕ → ℕ) (gives : ℕ → ℕ → Option ℕ) (owed : ℕ → MapChange) (word : ℕ → ℕ) : Type 0 where
+pub record MapLaw (frames : ℕ) (partition_of : ℕ → ℕ) (gives : ℕ → ℕ → Option ℕ)
+    (owed : ℕ → MapChange) (word : ℕ → ℕ) : Type 0 where
   -- a map gives a frame for a tag if and only if the frame has the tag, but for the pair in change
-  pub pairs : (tag f : ℕ) → tag ≢ no_tag → f < frames → PairLaw (gives (partition_of tag) tag) (owed (partition_of tag)) (word f) tag f
+  pub pairs : (tag f : ℕ) → tag ≢ no_tag → f < frames
+      → PairLaw (gives (partition_of tag) tag) (owed (partition_of tag)) (word f) tag f
   -- a map has only pairs of its partition
   pub mapped : (p tag f : ℕ) → gives p tag ≡ Some f → IsPair frames partition_of p tag f
   -- the pair in change is of its partition

@@ -1,5 +1,7 @@
 -- The sizes of forks: the kinds of step at one, and what holds of them.
-use Rattle.std.specs.Prelude.{◌≡◌, ◌≢◌, ◌⊎◌, ℕ, ◌+◌, ◌-◌, ◌<◌, ◌≤◌, Bool, true, false, List, [], ◌∷◌, ◌++◌, map, slice_set, Contains, Option, Some, None, nat_eq, not, if◌then◌else◌}
+use Rattle.std.specs.Prelude.{◌≡◌, ◌≢◌, ◌⊎◌, ℕ, ◌+◌, ◌-◌, ◌<◌, ◌≤◌, Bool, true, false, List, []}
+use Rattle.std.specs.Prelude.{◌∷◌, ◌++◌, map, slice_set, Contains, Option, Some, None, nat_eq, not}
+use Rattle.std.specs.Prelude.{if◌then◌else◌}
 use mathlib.Core.Option.{some}
 use lib.ListN.{get_elem?}
 use Rattle.pin_core.specs.declared.view.Role.TheVariants.{HandedOut}
@@ -14,7 +16,8 @@ use Rattle.pin_core.specs.declared.view.LoadedWord.TheVariants as seen
 use Rattle.pin_core.specs.declared.view.Link.{Link}
 use Rattle.pin_core.specs.declared.view.Resident.{Resident}
 use Rattle.pin_core.specs.declared.view.View.{View}
-use Rattle.pin_core.specs.State.{Frame, State, SizeWord, no_tag, no_size, without_size, size_hold, link, tag_fork, tag_block, is_block, is_cut}
+use Rattle.pin_core.specs.State.{Frame, State, SizeWord, no_tag, no_size, without_size, size_hold}
+use Rattle.pin_core.specs.State.{link, tag_fork, tag_block, is_block, is_cut}
 use Rattle.pin_core.specs.Kinds.{load_of, seen_gone}
 use Rattle.pin_core.specs.Tallies.{flag_weight}
 use Rattle.grid.specs.Shape.{Shape, Part, Grid, put}
@@ -100,7 +103,8 @@ pub record CanUnexclude (s : State) (v : View) (fork : ℕ) : Type 0 where
   pub unnoted : (f : ℕ) → f < s.frames → (link v f).noted ≡ true → tag_fork (s.frame f).tag ≢ fork
   -- if the view made a cut, its record is flushed as far as the view knows, or the view has seen
   -- the log down
-  pub flushed : (r : Resize) → (size_hold v fork).made ≡ Some r → r.cut ≡ true → (r.end ≤ v.flushed) ⊎ (v.saw_down ≡ true)
+  pub flushed : (r : Resize) → (size_hold v fork).made ≡ Some r → r.cut ≡ true
+      → (r.end ≤ v.flushed) ⊎ (v.saw_down ≡ true)
 
 -- The view has the exclusive right, under which it made no change yet
 pub record MayResize (s : State) (v : View) (fork : ℕ) : Type 0 where
@@ -184,21 +188,40 @@ size_after (enter_cut n end) w = record w { logged = n }
 -- What a kind makes of what the view has of the fork's size
 abbrev pub size_hold_after : SizeKind → ℕ → SizeWord → SizeHold → SizeHold
 size_hold_after load_size fork w h = h
-size_hold_after share_size fork w h = record no_size { fork = fork; right = size_right.Shared; blocks = w.blocks }
-size_hold_after exclude_size fork w h = record no_size { fork = fork; right = size_right.Exclusive; blocks = w.blocks }
+size_hold_after share_size fork w h = record no_size {
+  fork = fork;
+  right = size_right.Shared;
+  blocks = w.blocks;
+}
+size_hold_after exclude_size fork w h = record no_size {
+  fork = fork;
+  right = size_right.Exclusive;
+  blocks = w.blocks;
+}
 size_hold_after (unshare_size seen) fork w h = no_size
 size_hold_after unexclude_size fork w h = no_size
-size_hold_after (pass_frame f n) fork w h = record h { fork = fork; cut_to = Some n; passed = f ∷ h.passed }
+size_hold_after (pass_frame f n) fork w h = record h {
+  fork = fork;
+  cut_to = Some n;
+  passed = f ∷ h.passed;
+}
 size_hold_after store_size fork w h = record h { fork = fork; stored = true }
-size_hold_after (enter_extension f end) fork w h = record h { fork = fork; made = Some (record { blocks = w.logged + 1; end = end; cut = false }) }
-size_hold_after (enter_cut n end) fork w h = record h { fork = fork; made = Some (record { blocks = n; end = end; cut = true }) }
+size_hold_after (enter_extension f end) fork w h = record h {
+  fork = fork;
+  made = Some (record { blocks = w.logged + 1; end = end; cut = false });
+}
+size_hold_after (enter_cut n end) fork w h = record h {
+  fork = fork;
+  made = Some (record { blocks = n; end = end; cut = true });
+}
 
 -- what the view has of the sizes of all forks after a kind
 abbrev pub size_holds_after : SizeKind → ℕ → SizeWord → View → List SizeHold
 size_holds_after load_size fork w v = v.sizes
 size_holds_after (unshare_size seen) fork w v = without_size fork v.sizes
 size_holds_after unexclude_size fork w v = without_size fork v.sizes
-size_holds_after k fork w v = size_hold_after k fork w (size_hold v fork) ∷ without_size fork v.sizes
+size_holds_after k fork w v = size_hold_after k fork w (size_hold v fork)
+    ∷ without_size fork v.sizes
 
 -- whether an entry was made under the content lock: under an exclusive one the growth is an entry
 abbrev pub entered_under : Content → Bool → Bool
@@ -214,7 +237,12 @@ links_seen (Some f) v = slice_set v.links f (record (link v f) { inside = true }
 -- what the view has at the frame of a new block once the growth is in the log: the pin is handed
 -- out
 abbrev pub extended_link : Link → Link
-extended_link l = record l { role = HandedOut; noted = false; inside = true; entered = entered_under l.content l.entered }
+extended_link l = record l {
+  role = HandedOut;
+  noted = false;
+  inside = true;
+  entered = entered_under l.content l.entered;
+}
 
 -- What a kind makes of what the view has at frames
 abbrev pub links_after : SizeKind → View → List Link
@@ -232,7 +260,8 @@ sizes_seen _ fork s = []
 
 -- the listed blocks after a kind: of the frame that is passed, all but the one of its tag are gone
 abbrev pub residents_sized : SizeKind → State → List Resident → List Resident
-residents_sized (pass_frame f n) s rs = seen_gone (λ (r : Resident). not (nat_eq r.tag (s.frame f).tag)) f rs
+residents_sized (pass_frame f n) s rs
+    = seen_gone (λ (r : Resident). not (nat_eq r.tag (s.frame f).tag)) f rs
 residents_sized _ s rs = rs
 
 -- how many steps other than loads a kind is
@@ -293,7 +322,18 @@ size_weight unstored h = unstored_weight h.made h.stored
 
 -- the grid of views and forks
 abbrev pub size_shape : Shape
-size_shape = record { Column = SizeWord; Link = SizeHold; View = View; Tally = SizeTally; Block = Unit {0}; Own = Unit {0}; weigh = size_weight; link = size_hold; own = λ _. tt; spot = λ _. 0 }
+size_shape = record {
+  Column = SizeWord;
+  Link = SizeHold;
+  View = View;
+  Tally = SizeTally;
+  Block = Unit {0};
+  Own = Unit {0};
+  weigh = size_weight;
+  link = size_hold;
+  own = λ _. tt;
+  spot = λ _. 0;
+}
 
 -- What holds of a fork's size and of the views' rights there
 pub record SizeLaw (w : SizeWord) (t : SizeTally → ℕ) : Type 0 where
@@ -340,19 +380,24 @@ pub record IsAtSize (s : State) (v : View) (tag : ℕ) : Type 0 where
 -- a tag word that isn't all ones is of a block of the relations, or of a new block, which a view
 -- notes
 abbrev pub TagsAreBlocks : State → Type 0
-TagsAreBlocks s = (f : ℕ) → f < s.frames → (s.frame f).tag ≢ no_tag → (is_block s (s.frame f).tag ≡ true) ⊎ IsNoted s f
+TagsAreBlocks s = (f : ℕ) → f < s.frames → (s.frame f).tag ≢ no_tag
+    → (is_block s (s.frame f).tag ≡ true) ⊎ IsNoted s f
 
 -- a new block is at its fork's size, on which the view that notes it has the exclusive right
 abbrev pub NotedAreAtSize : State → Type 0
-NotedAreAtSize s = (i f : ℕ) (v : View) → get_elem? s.views i ≡ some v → f < s.frames → (link v f).noted ≡ true → IsAtSize s v (s.frame f).tag
+NotedAreAtSize s = (i f : ℕ) (v : View) → get_elem? s.views i ≡ some v → f < s.frames
+    → (link v f).noted ≡ true → IsAtSize s v (s.frame f).tag
 
 -- a pin whose block was seen below its fork's size is of a block that is still there
 abbrev pub InsidesAreBlocks : State → Type 0
-InsidesAreBlocks s = (i f : ℕ) (v : View) → get_elem? s.views i ≡ some v → f < s.frames → (link v f).inside ≡ true → is_block s (s.frame f).tag ≡ true
+InsidesAreBlocks s = (i f : ℕ) (v : View) → get_elem? s.views i ≡ some v → f < s.frames
+    → (link v f).inside ≡ true → is_block s (s.frame f).tag ≡ true
 
 -- a frame that a view has passed for a cut has no tag that the cut takes away
 abbrev pub PassedAreFree : State → Type 0
-PassedAreFree s = (i fork n f : ℕ) (v : View) → get_elem? s.views i ≡ some v → (size_hold v fork).cut_to ≡ Some n → Contains (size_hold v fork).passed f → f < s.frames → (s.frame f).tag ≢ no_tag → is_cut fork n (s.frame f).tag ≡ false
+PassedAreFree s = (i fork n f : ℕ) (v : View) → get_elem? s.views i ≡ some v
+    → (size_hold v fork).cut_to ≡ Some n → Contains (size_hold v fork).passed f → f < s.frames
+    → (s.frame f).tag ≢ no_tag → is_cut fork n (s.frame f).tag ≡ false
 
 -- What holds of the sizes of forks
 pub record SizesLaw (s : State) : Type 0 where

@@ -1,6 +1,8 @@
 -- The frames of the buffer pool, the partitions of the mapping table, the sizes of forks, and what
 -- each backend knows.
-use Rattle.std.specs.Prelude.{◌≡◌, ℕ, ◌+◌, ◌*◌, ◌/◌, ◌%◌, ◌<◌, Bool, true, false, List, [], ◌∷◌, ◌++◌, replicate, length, map, max, nat_eq, nat_lt, nat_le, slice_index_or, slice_set, ◌&&◌, ◌||◌, Option, None, if◌then◌else◌}
+use Rattle.std.specs.Prelude.{◌≡◌, ℕ, ◌+◌, ◌*◌, ◌/◌, ◌%◌, ◌<◌, Bool, true, false, List, [], ◌∷◌}
+use Rattle.std.specs.Prelude.{◌++◌, replicate, length, map, max, nat_eq, nat_lt, nat_le}
+use Rattle.std.specs.Prelude.{slice_index_or, slice_set, ◌&&◌, ◌||◌, Option, None, if◌then◌else◌}
 use Rattle.state_word.specs.declared.word.StateWord.{StateWord}
 use Rattle.pin_core.specs.declared.view.Role.{Role}
 use Rattle.pin_core.specs.declared.view.Role.TheVariants.{Absent, HandedOut, Victim}
@@ -156,15 +158,37 @@ no_partition = record { held = false; change = Stable; out = None; changed = fal
 
 -- what a new backend has of a lane's latch: nothing
 abbrev pub no_lane : LaneHold
-no_lane = record { held = false; out = None; change = lane_change.Untouched; flushed = 0; swept = 0 }
+no_lane = record {
+  held = false;
+  out = None;
+  change = lane_change.Untouched;
+  flushed = 0;
+  swept = 0;
+}
 
 -- what a new backend has of the log's latch: nothing
 abbrev pub no_log : LogHold
-no_log = record { held = false; out = None; change = log_change.Untouched; appended = None; synced = false; end = None; redo = None }
+no_log = record {
+  held = false;
+  out = None;
+  change = log_change.Untouched;
+  appended = None;
+  synced = false;
+  end = None;
+  redo = None;
+}
 
 -- what a backend has of a fork's size if it has no right on it
 abbrev pub no_size : SizeHold
-no_size = record { fork = 0; right = size_right.Unheld; blocks = 0; cut_to = None; passed = []; made = None; stored = false }
+no_size = record {
+  fork = 0;
+  right = size_right.Unheld;
+  blocks = 0;
+  cut_to = None;
+  passed = [];
+  made = None;
+  stored = false;
+}
 
 -- what a list of such holds has of a fork's size
 unfoldable pub size_in : List SizeHold → ℕ → SizeHold
@@ -174,7 +198,8 @@ size_in (h ∷ hs) fork = if nat_eq fork h.fork then h else size_in hs fork
 -- a list of such holds without those of a fork's size
 unfoldable pub without_size : ℕ → List SizeHold → List SizeHold
 without_size fork [] = []
-without_size fork (h ∷ hs) = if nat_eq fork h.fork then without_size fork hs else h ∷ without_size fork hs
+without_size fork (h ∷ hs)
+    = if nat_eq fork h.fork then without_size fork hs else h ∷ without_size fork hs
 
 -- what a view has of a fork's size
 abbrev pub size_hold : View → ℕ → SizeHold
@@ -244,7 +269,8 @@ new_view number base frames partitions lanes = record {
 
 -- the view of the first backend: it gives the number 1 next
 abbrev pub first_view : ℕ → ℕ → ℕ → ℕ → View
-first_view base frames partitions lanes = record (new_view 0 base frames partitions lanes) { next = 1 }
+first_view base frames partitions lanes
+    = record (new_view 0 base frames partitions lanes) { next = 1 }
 
 -- what is left of a view that was joined into the first
 abbrev pub emptied_view : View
@@ -252,11 +278,21 @@ emptied_view = record (new_view 0 0 0 0 0) { emptied = true }
 
 -- the failed calls of two backends, added up
 abbrev pub sum_of_met : FailedCalls → FailedCalls → FailedCalls
-sum_of_met a b = record { reads = a.reads + b.reads; writes = a.writes + b.writes; logs = a.logs + b.logs }
+sum_of_met a b = record {
+  reads = a.reads + b.reads;
+  writes = a.writes + b.writes;
+  logs = a.logs + b.logs;
+}
 
 -- the checkpoint of a view, as the first view keeps it when the view is joined into it
 abbrev pub kept_checkpoint : View → JoinedCheckpoint
-kept_checkpoint u = record { number = u.number; upto = u.upto; visited = map (λ (l : Link). l.visited) u.links; left_to_write = map (λ (l : Link). l.left_to_write) u.links; swept = map (λ (h : LaneHold). h.swept) u.lanes }
+kept_checkpoint u = record {
+  number = u.number;
+  upto = u.upto;
+  visited = map (λ (l : Link). l.visited) u.links;
+  left_to_write = map (λ (l : Link). l.left_to_write) u.links;
+  swept = map (λ (h : LaneHold). h.swept) u.lanes;
+}
 
 -- the first view v with what it takes over from the view u
 abbrev pub joined_view : View → View → View
@@ -289,19 +325,44 @@ local s i f fr w = record s { frame = put s.frame f fr; views = slice_set s.view
 
 -- a new backend takes the next number of the first, whose view is v
 abbrev pub split_state : State → View → State
-split_state s v = record s { views = slice_set s.views 0 (record v { next = v.next + 1 }) ++ new_view v.next s.base (length v.links) (length v.partitions) (length v.lanes) ∷ [] }
+split_state s v = record s {
+  views = slice_set s.views 0 (record v { next = v.next + 1 })
+      ++ new_view v.next s.base (length v.links) (length v.partitions) (length v.lanes) ∷ [];
+}
 
 -- backend j, whose view is u, is joined into the first, whose view is v
 abbrev pub joined_state : State → View → ℕ → View → State
-joined_state s v j u = record s { views = slice_set (slice_set s.views 0 (joined_view v u)) j emptied_view }
+joined_state s v j u
+    = record s { views = slice_set (slice_set s.views 0 (joined_view v u)) j emptied_view }
 
 -- a state word with no flag set and each number 0
 abbrev pub zero_word : StateWord
-zero_word = record { pins = 0; usage = 0; locked = false; dirty = false; valid = false; tag_valid = false; in_progress = false; failed = false; just_dirtied = false; awaited = false; checkpoint_needed = false; permanent = false; waiter = 0 }
+zero_word = record {
+  pins = 0;
+  usage = 0;
+  locked = false;
+  dirty = false;
+  valid = false;
+  tag_valid = false;
+  in_progress = false;
+  failed = false;
+  just_dirtied = false;
+  awaited = false;
+  checkpoint_needed = false;
+  permanent = false;
+  waiter = 0;
+}
 
 -- a frame at the start (`InitBufferPool`): no pins, no tag, and this page
 abbrev pub empty_frame : Page → Frame
-empty_frame p = record { word = zero_word; tag = no_tag; sharers = 0; exclusive = false; copying = false; page = p }
+empty_frame p = record {
+  word = zero_word;
+  tag = no_tag;
+  sharers = 0;
+  exclusive = false;
+  copying = false;
+  page = p;
+}
 
 -- a partition at the start: its map is empty
 abbrev pub empty_partition : Partition

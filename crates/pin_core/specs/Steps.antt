@@ -9,9 +9,12 @@ use Rattle.pin_core.specs.declared.view.Link.{Link}
 use Rattle.pin_core.specs.declared.view.View.{View}
 use Rattle.pin_core.specs.declared.view.MapChange.TheVariants.{Stable}
 use Rattle.pin_core.specs.declared.view.SizeRight.TheVariants as size_right
-use Rattle.pin_core.specs.State.{State, link, hold, lane_hold, size_hold, tag_fork, tag_block, is_block, split_state, joined_state}
+use Rattle.pin_core.specs.State.{State, link, hold, lane_hold, size_hold, tag_fork, tag_block}
+use Rattle.pin_core.specs.State.{is_block, split_state, joined_state}
 use Rattle.grid.specs.Shape.{put}
-use Rattle.pin_core.specs.Kinds.{Kind, lock_header, store_tag, store_new_tag, erase_tag, pin_mapped, pin_victim, Allowed, frame_after, named_by, partitions_owing, view_after}
+use Rattle.pin_core.specs.Kinds.{Kind, lock_header, store_tag, store_new_tag, erase_tag, pin_mapped}
+use Rattle.pin_core.specs.Kinds.{pin_victim, Allowed, frame_after, named_by, partitions_owing}
+use Rattle.pin_core.specs.Kinds.{view_after}
 use Rattle.pin_core.specs.Turns.{TurnKind, TurnAllowed, partition_after, view_turned}
 use Rattle.pin_core.specs.Sizes.{SizeKind, MayResize, SizeAllowed, state_sized}
 
@@ -148,17 +151,26 @@ state_turned k s i p v = record s {
 -- One step leads from one state to another
 pub data Step : Event → State → State → Type 0 where
   -- a step of the kind k at the frame f by backend i, whose view is v
-  touches : {s : State} (i f : ℕ) (k : Kind) (v : View) → get_elem? s.views i ≡ some v → v.emptied ≡ false → f < s.frames → Allowed k (s.frame f) (link v f) → AllowedAround k s v f → Step (at i f k) s (state_after k s i f v)
+  touches : {s : State} (i f : ℕ) (k : Kind) (v : View) → get_elem? s.views i ≡ some v
+      → v.emptied ≡ false → f < s.frames → Allowed k (s.frame f) (link v f) → AllowedAround k s v f
+      → Step (at i f k) s (state_after k s i f v)
   -- a step of the kind k at the latch of the partition p by backend i, whose view is v
-  turns : {s : State} (i p : ℕ) (k : TurnKind) (v : View) → get_elem? s.views i ≡ some v → v.emptied ≡ false → p < s.partitions → TurnAllowed k (s.partition p) (hold v p) → Step (turn i p k) s (state_turned k s i p v)
+  turns : {s : State} (i p : ℕ) (k : TurnKind) (v : View) → get_elem? s.views i ≡ some v
+      → v.emptied ≡ false → p < s.partitions → TurnAllowed k (s.partition p) (hold v p)
+      → Step (turn i p k) s (state_turned k s i p v)
   -- a step of the kind k at the size of a fork by backend i, whose view is v
-  sized : {s : State} (i fork : ℕ) (k : SizeKind) (v : View) → get_elem? s.views i ≡ some v → v.emptied ≡ false → SizeAllowed k s v fork → Step (size_at i fork k) s (state_sized k s i fork v)
+  sized : {s : State} (i fork : ℕ) (k : SizeKind) (v : View) → get_elem? s.views i ≡ some v
+      → v.emptied ≡ false → SizeAllowed k s v fork
+      → Step (size_at i fork k) s (state_sized k s i fork v)
   -- a new backend starts, with the first one's next number
-  splits : {s : State} (v : View) → get_elem? s.views 0 ≡ some v → v.next < s.backends → Step split s (split_state s v)
+  splits : {s : State} (v : View) → get_elem? s.views 0 ≡ some v → v.next < s.backends
+      → Step split s (split_state s v)
   -- backend j, which holds nothing, is joined into the first: its front is taken over, and its
   -- checkpoint under its number; its loads, device calls, counts of latches and steps, and last
   -- ended word aren't
-  joins : {s : State} (j : ℕ) (v u : View) → get_elem? s.views 0 ≡ some v → j ≢ 0 → get_elem? s.views j ≡ some u → u.emptied ≡ false → HoldsNothing u → Step (join j) s (joined_state s v j u)
+  joins : {s : State} (j : ℕ) (v u : View) → get_elem? s.views 0 ≡ some v → j ≢ 0
+      → get_elem? s.views j ≡ some u → u.emptied ≡ false → HoldsNothing u
+      → Step (join j) s (joined_state s v j u)
 
 -- The events lead from one state to the other
 pub data Run : List Event → State → State → Type 0 where

@@ -51,4 +51,15 @@ weigh settled_headers l = unless_flag l.pending (some_weight l.header)
 
 -- the grid of views and frames; this law needs nothing of a block, nor of a view besides its links
 abbrev pub frame_shape : Shape
-frame_shape = record { Column = Frame; Link = Link; View = View; Tally = Tally; Block = Unit {0}; Own = Unit {0}; weigh = weigh; link = link; own = λ _. tt; spot = λ _. 0 }
+frame_shape = record {
+  Column = Frame;
+  Link = Link;
+  View = View;
+  Tally = Tally;
+  Block = Unit {0};
+  Own = Unit {0};
+  weigh = weigh;
+  link = link;
+  own = λ _. tt;
+  spot = λ _. 0;
+}

@@ -1,5 +1,6 @@
 -- The latches of the partitions: the kinds of step at one, and what holds of it.
-use Rattle.std.specs.Prelude.{◌≡◌, ◌≢◌, ℕ, ◌+◌, Bool, true, false, List, [], ◌∷◌, Option, Some, None, nat_eq, slice_set, if◌then◌else◌}
+use Rattle.std.specs.Prelude.{◌≡◌, ◌≢◌, ℕ, ◌+◌, Bool, true, false, List, [], ◌∷◌, Option, Some}
+use Rattle.std.specs.Prelude.{None, nat_eq, slice_set, if◌then◌else◌}
 use Rattle.pin_core.specs.declared.view.MapEntry.{MapEntry}
 use Rattle.pin_core.specs.declared.view.MapChange.{MapChange}
 use Rattle.pin_core.specs.declared.view.MapChange.TheVariants.{Stable, Entering, Leaving}
@@ -80,7 +81,8 @@ pub record CanChangeMap (pt : Partition) (h : PartitionHold) : Type 0 where
   pub named : h.change ≢ Stable
 
 -- The holder of the latch may return the map that is out
-pub record CanReturnMap (entries : List MapEntry) (pt : Partition) (h : PartitionHold) : Type 0 where
+pub record CanReturnMap (entries : List MapEntry) (pt : Partition)
+    (h : PartitionHold) : Type 0 where
   -- the backend has the map out
   pub out : h.out ≢ None
   -- the entries that the backend returns are the map
@@ -108,7 +110,11 @@ hold_after take_turn h = record h { held = true }
 hold_after leave_turn h = record h { held = false; changed = false; seen = None }
 hold_after (map_out entries) h = record h { out = Some entries; seen = Some entries }
 hold_after change_map h = record h { changed = true; seen = None }
-hold_after (map_back entries) h = record h { out = None; change = owed_by h.changed h.change; seen = Some entries }
+hold_after (map_back entries) h = record h {
+  out = None;
+  change = owed_by h.changed h.change;
+  seen = Some entries;
+}
 
 -- how many latches of partitions a view took, after the kind
 abbrev pub turns_after : TurnKind → ℕ → ℕ
@@ -117,7 +123,11 @@ turns_after _ n = n
 
 -- What a kind at the partition p makes of the view
 abbrev pub view_turned : TurnKind → ℕ → PartitionHold → View → View
-view_turned k p h v = record v { partitions = slice_set v.partitions p (hold_after k h); steps = v.steps + 1; turns = turns_after k v.turns }
+view_turned k p h v = record v {
+  partitions = slice_set v.partitions p (hold_after k h);
+  steps = v.steps + 1;
+  turns = turns_after k v.turns;
+}
 
 -- What is summed over the views of a latch
 pub data TurnTally : Type 0 where
@@ -126,7 +136,18 @@ pub data TurnTally : Type 0 where
 
 -- the grid of views and latches
 abbrev pub turn_shape : Shape
-turn_shape = record { Column = Partition; Link = PartitionHold; View = View; Tally = TurnTally; Block = Unit {0}; Own = Unit {0}; weigh = λ _ h. flag_weight h.held; link = hold; own = λ _. tt; spot = λ _. 0 }
+turn_shape = record {
+  Column = Partition;
+  Link = PartitionHold;
+  View = View;
+  Tally = TurnTally;
+  Block = Unit {0};
+  Own = Unit {0};
+  weigh = λ _ h. flag_weight h.held;
+  link = hold;
+  own = λ _. tt;
+  spot = λ _. 0;
+}
 
 -- What holds of a partition and of how many views hold its latch
 pub record TurnLaw (pt : Partition) (t : TurnTally → ℕ) : Type 0 where
@@ -143,11 +164,13 @@ pub record PartitionHoldLaw (pt : Partition) (h : PartitionHold) : Type 0 where
   -- a view without the latch has neither the map nor a pair, and has made no change
   pub resting : h.held ≡ false → (h.out ≡ None) × (h.change ≡ Stable) × (h.changed ≡ false)
   -- the map that is out is the map as it went out, with the change that was made
-  pub out : (entries : List MapEntry) → h.out ≡ Some entries → pt.map ≡ map_now h.changed h.change (found entries)
+  pub out : (entries : List MapEntry) → h.out ≡ Some entries
+      → pt.map ≡ map_now h.changed h.change (found entries)
   -- once its change is made, a pair stays named only until the map is back
   pub made : h.changed ≡ true → h.out ≡ None → h.change ≡ Stable
   -- a map that isn't out is as the holder saw it last
-  pub seen : (entries : List MapEntry) → h.seen ≡ Some entries → h.out ≡ None → pt.map ≡ found entries
+  pub seen : (entries : List MapEntry) → h.seen ≡ Some entries → h.out ≡ None
+      → pt.map ≡ found entries
   -- a view without the latch knows nothing of the map
   pub unseen : h.held ≡ false → h.seen ≡ None
 

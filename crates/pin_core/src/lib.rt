@@ -13,7 +13,14 @@ ghost use Rattle.pin_core.specs.Invariant.{AllAccounted, PinInvariant};
 ghost use Rattle.pin_core.specs.Sizes.{SizesLaw};
 ghost use Rattle.pin_core.specs.Steps.{Event, Run};
 ghost use Rattle.pin_core.specs.Sample.{SampleRuns};
-ghost use Rattle.pin_core.specs.Schedules.{IsReached, UsagesAreLow, TagWordsAreTags, TagWordsAreBlocks, SizeRights, SizesAreLogged, SeenBlocksStay, UntaggedFramesHaveOnePin, FlagsMatchTags, SeenFramesAreValid, TagsAreUnique, PinsAreCounted, PinnedFramesHavePins, PinsAreFew, HeadersAreHeld, HoldersHaveTheWord, PinsRemember, PinnedTagsStay, MapsAreExact, TurnsAreHeld, MapsAreAsSeen, MapsAreHome};
+ghost use Rattle.pin_core.specs.Schedules.{IsReached, UsagesAreLow, TagWordsAreTags};
+ghost use Rattle.pin_core.specs.Schedules.{TagWordsAreBlocks, SizeRights, SizesAreLogged};
+ghost use Rattle.pin_core.specs.Schedules.{SeenBlocksStay, UntaggedFramesHaveOnePin};
+ghost use Rattle.pin_core.specs.Schedules.{FlagsMatchTags, SeenFramesAreValid, TagsAreUnique};
+ghost use Rattle.pin_core.specs.Schedules.{PinsAreCounted, PinnedFramesHavePins, PinsAreFew};
+ghost use Rattle.pin_core.specs.Schedules.{HeadersAreHeld, HoldersHaveTheWord, PinsRemember};
+ghost use Rattle.pin_core.specs.Schedules.{PinnedTagsStay, MapsAreExact, TurnsAreHeld};
+ghost use Rattle.pin_core.specs.Schedules.{MapsAreAsSeen, MapsAreHome};
 
 mod view;
 
@@ -27,11 +34,14 @@ pub use view::{
 pub fn all_schedules()
     // The invariant holds at the start, and if it holds, it holds after every list of events: so it
     // holds in every state that events lead to.
-    ensures kept { (es : List Event) (s : State) (t : State) → PinInvariant s → Run es s t → PinInvariant t }
-    ensures opens { (config : Config) (page : Page) → CanOpen config → PinInvariant (opening config page) }
+    ensures kept { (es : List Event) (s : State) (t : State) → PinInvariant s → Run es s t
+        → PinInvariant t }
+    ensures opens { (config : Config) (page : Page) → CanOpen config
+        → PinInvariant (opening config page) }
     ensures reached { (s : State) → IsReached s → PinInvariant s }
     // What holds of the sizes of forks holds at the start, and every list of events keeps it.
-    ensures sizes_kept { (es : List Event) (s : State) (t : State) → PinInvariant s → SizesLaw s → Run es s t → SizesLaw t }
+    ensures sizes_kept { (es : List Event) (s : State) (t : State) → PinInvariant s → SizesLaw s
+        → Run es s t → SizesLaw t }
     ensures sizes_open { (config : Config) (page : Page) → SizesLaw (opening config page) }
     ensures sizes_reached { (s : State) → IsReached s → SizesLaw s }
 
