@@ -94,7 +94,7 @@ pub record CanUnshareSize (seen : Option ℕ) (s : State) (v : View) (fork : ℕ
 -- A view may give up the exclusive right on a fork's size. The word is the fork's size by the log,
 -- and the view notes no new block of the fork. If it made a cut, the record is flushed as far as it
 -- knows, or it has seen the log down
-pub record CanUnexclude (s : State) (v : View) (fork : ℕ) : Type 0 where
+pub record CanUnexcludeSize (s : State) (v : View) (fork : ℕ) : Type 0 where
   -- the view has the exclusive right on the fork's size
   pub right : (size_hold v fork).right ≡ size_right.Exclusive
   -- the size word is the fork's size by the log
@@ -167,7 +167,7 @@ SizeAllowed load_size s v fork = Unit {0}
 SizeAllowed share_size s v fork = CanTakeSize s v fork
 SizeAllowed exclude_size s v fork = CanExcludeSize s v fork
 SizeAllowed (unshare_size seen) s v fork = CanUnshareSize seen s v fork
-SizeAllowed unexclude_size s v fork = CanUnexclude s v fork
+SizeAllowed unexclude_size s v fork = CanUnexcludeSize s v fork
 SizeAllowed (pass_frame f n) s v fork = CanPass f n s v fork
 SizeAllowed store_size s v fork = CanStoreSize s v fork
 SizeAllowed (enter_extension f end) s v fork = CanEnterExtension f s v fork

@@ -37,7 +37,7 @@ pub record MayName (s : State) (v : View) (tag : ℕ) : Type 0 where
   pub no_change : (p : ℕ) → (hold v p).change ≡ Stable
 
 -- The view has the shared right on the size of the tag's fork, and found the block below it
-pub record HasRoom (v : View) (tag : ℕ) : Type 0 where
+pub record HoldsSizeAbove (v : View) (tag : ℕ) : Type 0 where
   -- the view has the shared right on the size of the tag's fork
   pub right : (size_hold v (tag_fork tag)).right ≡ size_right.Shared
   -- the tag's block is below the size that the view found
@@ -52,7 +52,7 @@ pub record MayEnter (s : State) (v : View) (tag : ℕ) : Type 0 where
   pub block : is_block s tag ≡ true
   -- if forks may grow and shrink, the view has the shared right on the size of the tag's fork, and
   -- found the block below it
-  pub room : s.resizes ≡ true → HasRoom v tag
+  pub room : s.resizes ≡ true → HoldsSizeAbove v tag
   -- the map gives no frame for the tag
   pub lacking : (s.partition (s.partition_of tag)).map tag ≡ None
 
