@@ -154,7 +154,7 @@ module _ (s : State) (h : PageInvariant s) where
   one_out i j f v u there here below a e = dite (ℕ_discrete i j) (λ same. same)
       (λ o. absurd (both_out (link u f) (link v f) (tallies page_shape s.core.views f outs) (h.pages.columns f below).one_out (terms_le (λ (x : View). weigh outs (link x f)) s.core.views j i u v o here there) e a))
 
-  -- where view i may take the page out, and hasn't
+  -- if view i may take the page out, and hasn't
   home_beside : (i j f : ℕ) (v u : View) → get_elem? s.core.views i ≡ some v → get_elem? s.core.views j ≡ some u → f < s.core.frames → CanTakePage (s.core.frame f) (link v f) → (link u f).out ≡ None
   home_beside i j f v u there here below a = dite (ℕ_discrete i j)
       (λ e. ap (λ (x : View). (link x f).out) (some-injective u v (sym here ∙ ap (λ (z : ℕ). get_elem? s.core.views z) (sym e) ∙ there)) ∙ a.page_home)

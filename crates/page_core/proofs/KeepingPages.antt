@@ -21,7 +21,7 @@ known = both pin_part page_part
 abbrev pub Keeps_by : Part page_shape → Kind → Block → Frame → Link → Type 0
 Keeps_by p k b fr l = Keeps page_shape known p b (block_after k b) tt tt fr l (frame_after k b fr) (link_after k b fr l)
 
--- a kind of `pin_core` keeps the law of pages, where the tag word names the block b' after it
+-- a kind of `pin_core` keeps the law of pages, if the tag word names the block b' after it
 abbrev pub Keeps_by_pins : pin_kinds.Kind → Block → Block → Frame → Link → Type 0
 Keeps_by_pins k b b' fr l = Keeps page_shape known page_part b b' tt tt fr l (pin_kinds.frame_after k fr) (pin_kinds.link_after k fr l)
 

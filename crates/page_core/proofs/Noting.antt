@@ -76,7 +76,7 @@ noted_other (set_waiter number) b fr l m a c e n h = grind (arith, h)
 noted_other clear_waiter b fr l m a c e n h = grind (arith, h)
 noted_other need_checkpoint b fr l m a c e n h = grind (arith, h)
 
--- a view has an input right after a step where it had one, or where it starts one
+-- a view has an input right after a step only if it had one, or starts input
 pub input_was : (k : Kind) (b : Block) (fr : Frame) (l : Link) → (link_after k b fr l).io ≡ Input → (l.io ≡ Input) ⊎ (k ≡ start_input)
 input_was start_input b fr l e = inr refl
 input_was start_output b fr l e = absurd (cc)
@@ -103,7 +103,8 @@ input_was (set_waiter number) b fr l e = inl e
 input_was clear_waiter b fr l e = inl e
 input_was need_checkpoint b fr l e = inl e
 
--- The kinds of `pin_core` leave the page, and where another view notes the frame they leave BM_VALID or take it away
+-- The kinds of `pin_core` leave the page; if another view notes the frame, they leave BM_VALID or
+-- take it away
 pub noted_below : (k : pin_kinds.Kind) (b : Block) (fr : Frame) (l m : Link) (t : pins.Tally → ℕ) → pin_kinds.Allowed k fr l → FrameLaw fr t → LinkLaw fr l → NotedPage fr m → NotedPage (pin_kinds.frame_after k fr) m
 noted_below pin_kinds.load_state b fr l m t a q c h = h
 noted_below (pin_kinds.pin ring) b fr l m t a q c h = grind (arith, h)
@@ -153,7 +154,7 @@ io_below pin_kinds.lower_usage fr l = refl
 io_below pin_kinds.assign fr l = refl
 io_below pin_kinds.clear fr l = refl
 
--- a kind of `pin_core` notes a frame only where it stores the tag of the new block
+-- a kind of `pin_core` notes a frame only if it stores the tag of the new block
 pub noted_was : (k : pin_kinds.Kind) (fr : Frame) (l : Link) → (pin_kinds.link_after k fr l).noted ≡ true → (l.noted ≡ true) ⊎ ((tag : ℕ) × (k ≡ pin_kinds.store_new_tag tag))
 noted_was pin_kinds.load_state fr l e = inl e
 noted_was (pin_kinds.pin ring) fr l e = inl e

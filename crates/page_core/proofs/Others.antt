@@ -53,7 +53,7 @@ output_alone b fr l m t q c d x y z e = grind (arith, q, c, d, x, y, z, e)
 pub just_goes : (b : Block) (fr : Frame) (m : Link) → m.dirtied ≡ false → PageLink b fr m → PageLink b (page_kinds.frame_after page_kinds.clear_just_dirtied b fr) m
 just_goes b fr m e h = grind (arith, e, h)
 
--- where a view may take the page out no other view has it out
+-- if a view may take the page out, no other view has it out
 pub takes_alone : (b : Block) (fr : Frame) (l m : Link) (t : Tally → ℕ) → PageFrame b fr t → PageLink b fr l → PageLink b fr m → ((k : Tally) → weigh k l + weigh k m ≤ t k) → CanTakePage fr l → weigh outs m ≡ 0
 takes_alone b fr l m t q c d both a = grind (arith, q, c, d, a, both sharers, both applied_locks, both unapplied_locks, both copies, both works)
 
@@ -94,7 +94,8 @@ unlock_header_link b fr l h = grind (arith, h)
 pub load_tag_link : (b : Block) (fr : Frame) (l : Link) → PageLink b fr l → PageLink b (kinds.frame_after kinds.load_tag fr) (kinds.link_after kinds.load_tag fr l)
 load_tag_link b fr l h = grind (arith, h)
 
--- under a content lock, with no entry to apply, the frame's page is the block's page after the log, where that is known
+-- under a content lock, with no entry to apply, the frame's page is the block's page after the log,
+-- if that is known
 pub locked_is_logged : (b : Block) (fr : Frame) (l : Link) (t : Tally → ℕ) → PageFrame b fr t → PageLink b fr l → weigh sharers l ≤ t sharers → weigh applied_locks l ≤ t applied_locks → l.content ≢ Unlocked → l.unapplied ≡ false → (p : Page) → b.logged ≡ Some p → p ≡ fr.page
 locked_is_logged b fr l t q c x y right applied p e = grind (arith, q, c, x, y, right, applied, e)
 

@@ -31,7 +31,7 @@ turned k s = record s { core = pin_steps.state_turned k s.core 0 0 (view_of s) }
 abbrev paged : Kind → State → State
 paged k s = state_after k s 0 0 (view_of s)
 
--- where it holds at the one frame it holds of the view
+-- if it holds at the one frame, it holds of the view
 pub at_frame : (P : Link → Type 0) (v : View) (a : Link) → v.links ≡ a ∷ [] → P a → P idle → (f : ℕ) → P (link v f)
 at_frame P v a e x z f = subst (λ (l : List Link). P (slice_index_or l f idle)) (sym e) (cases f)
   where

@@ -84,7 +84,7 @@ noted_change s h i v w frame' part' size' logged' there own others j f u here be
       alone = λ k y other at. ⊎_elim (λ (z : (k ≡ i) × (w ≡ y)). subst (λ (q : View). (link q f).io ≢ Input) z.1 x.1) (λ (z : (k ≢ i) × (get_elem? s.core.views k ≡ some y)). (h j f u t.1 below e).alone k y other z.1) (at_set s.core.views i k w y at);
     }) (at_set s.core.views i j w u here)
 
--- and where the view notes no more, and has no more input rights
+-- the law of new blocks stays, if the view notes no more, and has no more input rights
 pub noted_less : (s : State) → NotedPages s → (i : ℕ) (v w : View) (part' : ℕ → below.Partition) (size' : ℕ → below.SizeWord) (logged' : ℕ → Option Page) → get_elem? s.core.views i ≡ some v
     → ((f : ℕ) → (link w f).noted ≡ true → ((link v f).noted ≡ true) × ((link w f).read ≡ (link v f).read)) → ((f : ℕ) → (link w f).io ≡ Input → (link v f).io ≡ Input)
     → NotedPages (record { core = record s.core { partition = part'; size = size'; views = set s.core.views i w }; logged = logged' })
@@ -168,7 +168,7 @@ module _ (s : State) (h : PageInvariant s) (i f : ℕ) (v : View) (there : get_e
         (λ o. let law = h.noted j g u here below e in
         (subst (λ (z : Frame). NotedPage z (link u g)) (sym (put_else s.core.frame f (frame_after k b fr) g o)) law.page, λ x. law.alone i v (λ y. other (sym y)) there (ap (λ (y : Link). y.io) (sym (relinked.else g o)) ∙ x)))
       where
-        -- no other view starts input where one notes the frame
+        -- no other view starts input, if one notes the frame
         no_input : MayStartInput s v f → (j : ℕ) (u : View) → j ≢ i → get_elem? s.core.views j ≡ some u → (link u f).noted ≡ true → ⊥
         no_input may j u other here noted = by_note l.noted refl
           where
@@ -253,7 +253,7 @@ grown_frame b fr t e h = grind (arith, e, h)
 grown_cell : (b : Block) (fr : Frame) (l : Link) → b.logged ≡ None → fr.page ≡ zero_page → fr.word.valid ≡ true → PageLink b fr l → PageLink (record { logged = Some zero_page }) fr l
 grown_cell b fr l none e valid h = grind (arith, none, e, valid, h)
 
--- where a frame has no tag, nothing is said of its block
+-- if a frame has no tag, nothing is said of its block
 bare_frame : (b b' : Block) (fr : Frame) (t : Tally → ℕ) → fr.tag ≡ no_tag → PageFrame b fr t → PageFrame b' fr t
 bare_frame b b' fr t e h = grind (arith, e, h)
 

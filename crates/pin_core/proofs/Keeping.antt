@@ -8,7 +8,7 @@ use Rattle.pin_core.specs.Kinds as kinds
 use Rattle.pin_core.specs.Kinds.{Kind, Allowed, frame_after, link_after}
 use Rattle.grid.proofs.Grids.{Keeps}
 
--- the kind k keeps the law at the frame fr, where the view that steps has l
+-- the kind k keeps the law at the frame fr, if the view that steps has l there
 abbrev pub KindKeeps : Kind → Frame → Link → Type 0
 KindKeeps k fr l = Keeps frame_shape pin_part pin_part tt tt tt tt fr l (frame_after k fr) (link_after k fr l)
 
@@ -27,7 +27,7 @@ module _ (fr : Frame) (l : Link) where
     others = λ t n m q c le d. grind (arith, q, c, d, a);
   }
 
-  -- where the frame has the tag
+  -- if the frame has the tag
   pub pin_mapped_keeps : (tag : ℕ) (ring : Bool) → Allowed (kinds.pin_mapped tag ring) fr l → (fr.tag ≡ tag) × (tag ≢ no_tag) → KindKeeps (kinds.pin_mapped tag ring) fr l
   pin_mapped_keeps tag ring a e = record {
     column = λ t t' q c sums le _. grind (arith, q, c, a, e, sums pins, sums headers, sums pendings, sums settled_pins, sums settled_headers);

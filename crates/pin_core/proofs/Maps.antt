@@ -32,7 +32,7 @@ left_out : (o o' : Option ℕ) (c c' : MapChange) (g t f a b : ℕ) (same_turn :
     → (t ≡ a → o ≡ Some b) → PairLaw o' c' g t f
 left_out o o' c c' g t f a b same_turn h x y p q r = grind (arith, h, x, y, p, q, r)
 
--- the map gives the frame that has the tag, where the pair isn't being entered
+-- the map gives the frame that has the tag, if the pair isn't being entered
 pub gives_holder : (o : Option ℕ) (owed : MapChange) (t f : ℕ) → PairLaw o owed t t f → owed ≢ Entering t f → o ≡ Some f
 gives_holder None owed t f h other = absurd (other (h.tagged refl (λ e. cc)))
 gives_holder (Some g) owed t f h other = dite (ℕ_discrete g f) (λ e. ap Some e) (λ o. absurd (other (h.tagged refl (λ e. o (same_Some g f e)))))

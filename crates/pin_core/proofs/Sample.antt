@@ -21,7 +21,7 @@ then k i s = state_after k s i 0 (view_at s i)
 abbrev turned : TurnKind → ℕ → State → State
 turned k i s = state_turned k s i 0 (view_at s i)
 
--- where it holds at both frames it holds of the view
+-- if it holds at both frames, it holds of the view
 at_two : (P : Link → Type 0) (v : View) (a b : Link) → v.links ≡ a ∷ b ∷ [] → P a → P b → P idle → (f : ℕ) → P (link v f)
 at_two P v a b e x y z f = subst (λ (l : List Link). P (slice_index_or l f idle)) (sym e) (cases f)
   where
@@ -30,7 +30,7 @@ at_two P v a b e x y z f = subst (λ (l : List Link). P (slice_index_or l f idle
     cases (suc zero) = y
     cases (suc (suc f)) = z
 
--- where it holds at the one partition it holds of the view
+-- if it holds at the one partition, it holds of the view
 pub at_partition : (P : PartitionHold → Type 0) (v : View) (a : PartitionHold) → v.partitions ≡ a ∷ [] → P a → P no_partition → (p : ℕ) → P (hold v p)
 at_partition P v a e x z p = subst (λ (l : List PartitionHold). P (slice_index_or l p no_partition)) (sym e) (cases p)
   where

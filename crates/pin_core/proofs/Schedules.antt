@@ -76,7 +76,7 @@ module _ (s : State) (h : PinInvariant s) where
   pub holders : HoldersHaveTheWord s
   holders i f v w there below e = (h.grid.cells i v f there below).header w e
 
-  -- where no header is locked no tag word was stored that isn't settled
+  -- if the header isn't locked, no stored tag word is still to be assigned or cleared
   flags_match : (fr : Frame) (t : Tally → ℕ) → FrameLaw fr t → fr.word.locked ≡ false → TagsAgree fr
   flags_match fr t c free = grind (arith, c, free)
 

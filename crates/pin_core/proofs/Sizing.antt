@@ -214,7 +214,7 @@ set_noted (x ∷ xs) (suc g) (suc f) l e = set_noted xs g f l e
 set_at : (views : List View) (i : ℕ) (v w : View) → get_elem? views i ≡ some v → (j : ℕ) (u : View) → get_elem? (set views i w) j ≡ some u → ((j ≡ i) × (w ≡ u)) ⊎ ((j ≢ i) × (get_elem? views j ≡ some u))
 set_at views i v w there j u e = at_set views i j w u e
 
--- a view that notes a frame is there still, where the one that steps notes what it noted
+-- a view that notes a frame is still there, if the one that steps notes what it noted
 pub noted_stays : (views : List View) (i : ℕ) (v w : View) (f : ℕ) → get_elem? views i ≡ some v → (link w f).noted ≡ (link v f).noted
     → (j : ℕ) × (u : View) × (get_elem? views j ≡ some u) × ((link u f).noted ≡ true) → (j : ℕ) × (u : View) × (get_elem? (set views i w) j ≡ some u) × ((link u f).noted ≡ true)
 noted_stays views i v w f there same n = let j = n.0 in let u = n.1 in dite (ℕ_discrete j i)

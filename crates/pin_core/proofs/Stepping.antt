@@ -26,7 +26,7 @@ use Rattle.pin_core.proofs.Turning.{turn_keeps, naming_keeps, turn_forgets}
 use Rattle.pin_core.proofs.Cases.{TagKnown, kind_keeps}
 use Rattle.pin_core.proofs.Views.{SameBackend, views_set, views_emptied, views_split, joined_same, link_new, hold_new, accounted_set, accounted_split, accounted_join}
 
--- the tag words, where that of the frame f stays
+-- the tag words stay, if that of the frame f does
 pub tags_stay : (frame : ℕ → Frame) (f : ℕ) (fr : Frame) → fr.tag ≡ (frame f).tag → (g : ℕ) → (put frame f fr g).tag ≡ (frame g).tag
 tags_stay frame f fr e g = dite (ℕ_discrete g f) (λ same. ap (λ (x : Frame). x.tag) ((puts frame f fr g).same same) ∙ e ∙ ap (λ (z : ℕ). (frame z).tag) (sym same)) (λ o. ap (λ (x : Frame). x.tag) ((puts frame f fr g).other o))
 
@@ -118,7 +118,7 @@ module _ (s : State) (h : PinInvariant s) (i f : ℕ) (v : View) (there : get_el
 pub untagged : (tag : ℕ) (fr : Frame) (l : Link) (t : Tally → ℕ) → FrameLaw fr t → LinkLaw fr l → ((k : Tally) → weigh k l ≤ t k) → CanStoreTag tag fr l → fr.tag ≡ no_tag
 untagged tag fr l t c x le a = grind (arith, c, x, a, le pins, le settled_pins)
 
--- the frame that a map gives for a tag has it, where no pair is in change
+-- the frame that a map gives for a tag has it, if no pair is in change
 has_tag : (o : Option ℕ) (owed : MapChange) (word tag f : ℕ) → PairLaw o owed word tag f → o ≡ Some f → owed ≡ Stable → word ≡ tag
 has_tag o owed word tag f x given no_change = dite (ℕ_discrete word tag) (λ e. e) (λ n. let l = x.found given n in absurd (cc))
 

@@ -31,7 +31,7 @@ hold_new n zero m number base q = refl
 hold_new n (suc p) m number base zero = refl
 hold_new n (suc p) m number base (suc q) = hold_new n p m number base q
 
--- what a view has of a frame and of a partition, where it has the same lists
+-- what a view has of a frame and of a partition stays, if its lists do
 pub link_same : (v w : View) → w.links ≡ v.links → (f : ℕ) → link w f ≡ link v f
 link_same v w e f = ap (λ (l : List Link). get_or l f idle) e
 
