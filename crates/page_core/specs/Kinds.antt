@@ -194,7 +194,7 @@ pub record CanReturnPage (fr : Frame) (l : Link) : Type 0 where
 pub record CanNoteRead (p : Page) (b : Block) (fr : Frame) (l : Link) : Type 0 where
   -- the backend has the input right
   pub right : l.io ≡ Input
-  -- the page that is out isn't overwritten yet: no earlier read is being put into the frame
+  -- no earlier read is being put into the frame
   pub fresh : l.overwritten ≡ None
   -- the page is the block's page after the log, if that is known
   pub given : (q : Page) → b.logged ≡ Some q → q ≡ p
@@ -205,7 +205,7 @@ pub record CanNoteRead (p : Page) (b : Block) (fr : Frame) (l : Link) : Type 0 w
 pub record CanNoteZero (b : Block) (fr : Frame) (l : Link) : Type 0 where
   -- the backend has the input right
   pub right : l.io ≡ Input
-  -- the page that is out isn't overwritten yet: no earlier read is being put into the frame
+  -- no earlier read is being put into the frame
   pub fresh : l.overwritten ≡ None
   -- the backend notes the block as new
   pub noted : l.noted ≡ true

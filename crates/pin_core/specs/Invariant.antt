@@ -151,7 +151,7 @@ pub record PinInvariant (s : State) : Type 0 where
   pub turns : Grid turn_shape turn_part s.partitions s.partition (λ _. tt) s.views
   -- no two frames have the same tag word, unless it is all ones
   pub apart : TagsApart s.frames s.frame
-  -- the maps give exactly the frames of the tags that frames have, but for the pairs in change
+  -- a map gives a frame for a tag if and only if the frame has the tag, but for the pair in change
   pub maps : MapLaw s.frames s.partition_of (λ p. (s.partition p).map) (λ p. (s.partition p).owed)
       (λ f. (s.frame f).tag)
   -- each tag has a partition

@@ -358,7 +358,7 @@ pub record SizeHoldLaw (w : SizeWord) (h : SizeHold) : Type 0 where
   pub made : (r : Resize) → h.made ≡ Some r → w.logged ≡ r.blocks
   -- a cut is to a smaller size
   pub shorter : (n : ℕ) → h.cut_to ≡ Some n → n < h.blocks
-  -- frames are passed for a cut alone
+  -- frames are passed only for a cut
   pub passed : h.cut_to ≡ None → h.passed ≡ []
 
 -- what holds of a fork's size, and of what each view has of it

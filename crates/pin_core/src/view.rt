@@ -14,22 +14,31 @@ pub enum Role {
 
 /// A backend's content lock.
 pub enum Content {
+    /// It has none.
     Unlocked,
+    /// It shares the lock (`LW_SHARED`).
     Shared,
+    /// It has the lock exclusively (`LW_EXCLUSIVE`).
     Exclusive,
 }
 
 /// What a backend has begun to do with a frame's page and its lane (`StartBufferIO`).
 pub enum Io {
+    /// Nothing.
     Quiet,
+    /// It reads the page: the input right.
     Input,
+    /// It writes the page: the output right.
     Output,
 }
 
 /// How the last lane write under an output right went.
 pub enum LastWrite {
+    /// There was none.
     Unwritten,
+    /// It was done.
     Done,
+    /// It failed.
     Failed,
 }
 
@@ -37,6 +46,7 @@ pub enum LastWrite {
 /// By its form a view could hold headers, victim pins, I/O rights or unapplied entries at several
 /// frames. The conditions of the kinds allow one of each; no law says so.
 pub struct Link {
+    /// The backend's pin.
     pub role: Role,
     /// The tag that the pin remembers; none if it wasn't read.
     pub tag: Option<u64>,
@@ -49,6 +59,7 @@ pub struct Link {
     /// Under that header the tag word was stored, and the frame is neither assigned nor cleared
     /// yet.
     pub pending: bool,
+    /// The backend's content lock.
     pub content: Content,
     /// Among the sharers the backend is the one that may take the page out to copy it.
     pub copying: bool,
@@ -62,11 +73,13 @@ pub struct Link {
     pub image: Option<[u8; 0]>,
     /// The page as the backend copied it under this content lock.
     pub copied: Option<[u8; 0]>,
+    /// The backend's input or output right.
     pub io: Io,
     /// The page that the lane gave under this input right.
     pub read: Option<[u8; 0]>,
     /// The page that was read is the frame's page, and that is in its place.
     pub read_is_home: bool,
+    /// How the last lane write under this output right went.
     pub last_write: LastWrite,
     /// The frame's page is out with the backend, and this is what it was when it went out.
     pub out: Option<[u8; 0]>,
@@ -88,19 +101,25 @@ pub struct Link {
 
 /// A tag and the frame that has it.
 pub struct MapEntry {
+    /// The packed buffer tag.
     pub tag: u64,
+    /// The frame, by its number.
     pub frame: u64,
 }
 
 /// The change of a partition's map that its holder owes since it stored a tag word.
 pub enum MapChange {
+    /// None.
     Stable,
+    /// The pair is to be entered.
     Entering { tag: u64, frame: u64 },
+    /// The pair is to be left out.
     Leaving { tag: u64, frame: u64 },
 }
 
 /// What a backend has of a partition's latch.
 pub struct PartitionHold {
+    /// The backend has the latch.
     pub held: bool,
     /// The pair that the backend named when it stored a tag word, until the map is back with it.
     pub change: MapChange,
@@ -114,25 +133,37 @@ pub struct PartitionHold {
 
 /// A block, by its tag, its page, and whether its last write failed.
 pub struct BlockPage {
+    /// The block's packed tag.
     pub tag: u64,
+    /// The block's page.
     pub page: [u8; 0],
+    /// The block's last write failed.
     pub failed: bool,
 }
 
 /// A block, by its tag, and whether it was written since its lane's last sync.
 pub struct BlockMark {
+    /// The block's packed tag.
     pub tag: u64,
+    /// The block was written since its lane's last sync.
     pub unsynced: bool,
 }
 
 /// The one call of a lane that a backend made while the lane was out.
 pub enum LaneChange {
+    /// None was made.
     Untouched,
+    /// A read of the block gave this page.
     Read { tag: u64, page: [u8; 0] },
+    /// A read of the block failed.
     ReadFailed { tag: u64 },
+    /// The frame's page was written to its block.
     Written { frame: u64, tag: u64, page: [u8; 0] },
+    /// A write of the frame's page to its block failed.
     WriteFailed { frame: u64, tag: u64 },
+    /// A sync was done.
     Synced,
+    /// A sync failed.
     SyncFailed,
 }
 
@@ -153,9 +184,11 @@ pub struct TakenLane {
 
 /// What a backend has of a lane's latch.
 pub struct LaneHold {
+    /// The backend has the latch.
     pub held: bool,
     /// The lane is out with the backend, and this is what it was when it went out.
     pub out: Option<TakenLane>,
+    /// The call that the backend made while the lane is out.
     pub change: LaneChange,
     /// The flushed position as the backend had loaded it when the lane went out.
     pub flushed: u64,
@@ -166,10 +199,15 @@ pub struct LaneHold {
 
 /// The one call of the log that a backend made while the log was out.
 pub enum LogChange {
+    /// None was made.
     Untouched,
+    /// A record with this new page of the frame's block was appended.
     Appended { frame: u64, tag: u64, page: [u8; 0] },
+    /// An append failed.
     AppendFailed,
+    /// A sync was done.
     Synced,
+    /// A sync failed.
     SyncFailed,
 }
 
@@ -189,9 +227,11 @@ pub struct TakenLog {
 
 /// What a backend has of the log's latch.
 pub struct LogHold {
+    /// The backend has the latch.
     pub held: bool,
     /// The device is out with the backend, and this is what it was when it went out.
     pub out: Option<TakenLog>,
+    /// The call that the backend made while the device is out.
     pub change: LogChange,
     /// Under this latch a record was appended, and the log end not stored yet.
     pub appended: Option<[u8; 0]>,
@@ -206,6 +246,7 @@ pub struct LogHold {
 
 /// A backend's right on the size of a fork.
 pub enum SizeRight {
+    /// The backend has none.
     Unheld,
     /// The fork keeps its size.
     Shared,
@@ -228,6 +269,7 @@ pub struct Resize {
 pub struct SizeHold {
     /// The fork, by its number.
     pub fork: u64,
+    /// The backend's right on the size.
     pub right: SizeRight,
     /// The size that the backend found as it got the right.
     pub blocks: u64,
@@ -260,12 +302,14 @@ pub struct WriteRecord {
 
 /// What a backend read or wrote, of a page or of a fork's size, and its place in the log.
 pub enum Call {
+    /// The backend read a page.
     Read {
         backend: u64,
         tag: u64,
         page: [u8; 0],
         place: u64,
     },
+    /// The backend wrote a page.
     Write {
         backend: u64,
         tag: u64,
@@ -292,23 +336,28 @@ pub enum Call {
 
 /// A word as a load saw it.
 pub enum LoadedWord {
+    /// A frame's state word.
     State {
         frame: u64,
         word: StateWord,
     },
+    /// A frame's tag word.
     Tag {
         frame: u64,
         tag: u64,
     },
+    /// A frame's content word.
     Content {
         frame: u64,
         sharers: u64,
         exclusive: bool,
         copying: bool,
     },
+    /// The log's end.
     LogEnd {
         end: u64,
     },
+    /// The flushed position.
     Flushed {
         flushed: u64,
     },
@@ -316,6 +365,7 @@ pub enum LoadedWord {
     Redo {
         redo: u64,
     },
+    /// The hand of the clock sweep.
     Hand {
         hand: u64,
     },
@@ -329,6 +379,7 @@ pub enum LoadedWord {
         fork: u64,
         blocks: u64,
     },
+    /// A hint word.
     Hint {
         number: u64,
         value: u64,
@@ -337,6 +388,7 @@ pub enum LoadedWord {
 
 /// One load, with what the backend had done and pinned by then.
 pub struct Load {
+    /// The word, as the load saw it.
     pub loaded_word: LoadedWord,
     /// For each frame, whether the backend pinned it.
     pub pins: [bool; 0],
@@ -346,27 +398,37 @@ pub struct Load {
 
 /// One change of a frame's state word: the word as the backend found it, and as it left it.
 pub struct WordChange {
+    /// The frame, by its number.
     pub frame: u64,
+    /// The word as the backend found it.
     pub found: StateWord,
+    /// The word as the backend left it.
     pub left: StateWord,
 }
 
 /// One store of a hint word: which word it is, what the backend found there, and what it left.
 pub struct HintStore {
+    /// The hint word, by its number.
     pub number: u64,
+    /// What the backend found there.
     pub found: u64,
+    /// What the backend left there.
     pub left: u64,
 }
 
 /// One addition to a counter of the table: to which, and how much.
 pub struct Published {
+    /// The counter, by its number.
     pub count: u64,
+    /// How much was added.
     pub more: u64,
 }
 
 /// A frame and a tag with which a pin of it has seen `BM_VALID`.
 pub struct Resident {
+    /// The frame, by its number.
     pub frame: u64,
+    /// The tag that the pin remembered.
     pub tag: u64,
     /// A later load by this backend showed the frame without `BM_VALID`, or with another tag word.
     pub gone: bool,
@@ -374,24 +436,29 @@ pub struct Resident {
 
 /// One call of a device, and whether it was done.
 pub enum DeviceCall {
+    /// A read of a block from its lane.
     LaneRead {
         lane: u64,
         tag: u64,
         done: bool,
     },
+    /// A write of a block to its lane.
     LaneWrite {
         lane: u64,
         tag: u64,
         page: [u8; 0],
         done: bool,
     },
+    /// A sync of a lane.
     LaneSync {
         lane: u64,
         done: bool,
     },
+    /// An append to the log.
     LogAppend {
         done: bool,
     },
+    /// A sync of the log.
     LogSync {
         done: bool,
     },
@@ -399,14 +466,19 @@ pub enum DeviceCall {
 
 /// How many device calls failed, by the part that failed.
 pub struct FailedCalls {
+    /// How many reads of lanes failed.
     pub reads: u64,
+    /// How many writes and syncs of lanes failed.
     pub writes: u64,
+    /// How many appends and syncs of the log failed.
     pub logs: u64,
 }
 
 /// A checkpoint of a backend that was joined into another.
 pub struct JoinedCheckpoint {
+    /// The number of the backend that was joined.
     pub number: u64,
+    /// The log end at which the checkpoint began, or 0.
     pub upto: u64,
     /// For each frame, whether it was visited.
     pub visited: [bool; 0],
@@ -419,7 +491,9 @@ pub struct JoinedCheckpoint {
 
 /// The record of a page that an append failed to add: the block, by its tag, and the page.
 pub struct TornRecord {
+    /// The block's packed tag.
     pub tag: u64,
+    /// The page that the record has.
     pub page: [u8; 0],
 }
 
@@ -441,6 +515,7 @@ pub struct View {
     pub lanes: [LaneHold; 0],
     /// One for each fork on whose size the backend has a right. No call on a table takes one yet.
     pub sizes: [SizeHold; 0],
+    /// What the backend has of the log's latch.
     pub log: LogHold,
     /// The flushed position as last loaded; where the log begins, before the first load.
     pub flushed: u64,
@@ -487,7 +562,9 @@ pub struct View {
     pub upto: u64,
     /// The checkpoints of the backends that were joined into this one.
     pub joined_checkpoints: [JoinedCheckpoint; 0],
+    /// The calls of devices, in order.
     pub device_calls: [DeviceCall; 0],
+    /// The calls of devices that failed, as the backend counted them.
     pub met: FailedCalls,
     /// Under the log's latch the backend saw the log down, or saw its own call fail.
     pub saw_down: bool,
