@@ -47,7 +47,7 @@ noted_own (set_waiter number) b fr l a c e n h = grind (arith, h)
 noted_own clear_waiter b fr l a c e n h = grind (arith, h)
 noted_own need_checkpoint b fr l a c e n h = grind (arith, h)
 
--- and after a step of another view, which has no input right there
+-- what a view notes of a frame, after a step of another view, which has no input right there
 pub noted_other : (k : Kind) (b : Block) (fr : Frame) (l m : Link) → Allowed k b fr l → PageLink b fr l → b.logged ≡ None → l.io ≢ Input → NotedPage fr m → NotedPage (frame_after k b fr) m
 noted_other load_content b fr l m a c e n h = grind (arith, h)
 noted_other mark_dirty b fr l m a c e n h = grind (arith, h)

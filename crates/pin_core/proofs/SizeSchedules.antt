@@ -84,7 +84,7 @@ logged s fork h = record {
 pub seen_blocks : (s : State) → PinInvariant s → SizesLaw s → SeenBlocksStay s
 seen_blocks s p h i f v there below e = let c = p.grid.cells i v f there below in (remembered (s.frame f) (link v f).tag c.remembers (c.inside e), h.insides i f v there below e)
 
--- Where forks don't grow and shrink
+-- What holds if forks don't grow and shrink
 module _ (s : State) (h : SizesLaw s) (quiet : s.resizes ≡ false) where
   -- no view has an exclusive right
   pub no_exclusive : (i fork : ℕ) (v : View) → get_elem? s.views i ≡ some v → (size_hold v fork).right ≡ size_right.Exclusive → ⊥
@@ -93,7 +93,7 @@ module _ (s : State) (h : SizesLaw s) (quiet : s.resizes ≡ false) where
       stands : (w : SizeWord) (h : SizeHold) (t : SizeTally → ℕ) → SizeLaw w t → size_weight excluders h ≤ t excluders → h.right ≡ size_right.Exclusive → w.exclusive ≡ true
       stands w h t q le e = grind (arith, q, le, e)
 
-  -- none notes a frame
+  -- no view notes a frame
   pub none_noted : (i f : ℕ) (v : View) → get_elem? s.views i ≡ some v → f < s.frames → (link v f).noted ≡ false
   none_noted i f v there below = by_flag (link v f).noted refl
     where
@@ -101,7 +101,7 @@ module _ (s : State) (h : SizesLaw s) (quiet : s.resizes ≡ false) where
       by_flag true e = absurd (no_exclusive i (tag_fork (s.frame f).tag) v there (h.noted i f v there below e).may.right)
       by_flag false e = refl
 
-  -- and no size changes
+  -- no size changes
   pub same_sizes : (i fork : ℕ) (v : View) (k : SizeKind) → get_elem? s.views i ≡ some v → SizeAllowed k s v fork → (g : ℕ) → (put s.size fork (size_after k (s.size fork)) g).logged ≡ (s.size g).logged
   same_sizes i fork v (enter_extension f end) there a g = absurd (no_exclusive i fork v there a.may.right)
   same_sizes i fork v (enter_cut n end) there a g = absurd (no_exclusive i fork v there a.may.right)
@@ -113,6 +113,6 @@ module _ (s : State) (h : SizesLaw s) (quiet : s.resizes ≡ false) where
   same_sizes i fork v (pass_frame f n) there a g = logged_kept s fork (pass_frame f n) g refl
   same_sizes i fork v store_size there a g = logged_kept s fork store_size g refl
 
-  -- the steps that change none of them are all that there are
+  -- each step is one that changes no size
   pub quiet_kind : (P : SizeKind → Type 0) (i fork : ℕ) (v : View) (k : SizeKind) → get_elem? s.views i ≡ some v → SizeAllowed k s v fork → (((f end : ℕ) → k ≢ enter_extension f end) → ((n end : ℕ) → k ≢ enter_cut n end) → P k) → P k
   quiet_kind P i fork v k there a x = x (λ f end e. no_exclusive i fork v there (subst (λ (z : SizeKind). SizeAllowed z s v fork) e a).may.right) (λ n end e. no_exclusive i fork v there (subst (λ (z : SizeKind). SizeAllowed z s v fork) e a).may.right)

@@ -305,7 +305,7 @@ module _ (s : State) (h : SizesLaw s) (i fork : ℕ) (v : View) (there : get_ele
       finds : (w : SizeWord) (x : SizeHold) (t : SizeTally → ℕ) → SizeLaw w t → SizeHoldLaw w x → size_weight sharers x ≤ t sharers → x.right ≡ size_right.Shared → (t excluders ≡ 0 → t unstored ≡ 0) → x.blocks ≡ w.logged
       finds w x t c d le right none = grind (arith, c, d, le, right, none)
 
-  -- and so has one with the exclusive right that has made no change
+  -- a view with the exclusive right that has made no change has found the fork's size by the log
   pub unmade_finds : MayResize s v fork → ((size_hold v fork).blocks ≡ (s.size fork).logged) × ((s.size fork).blocks ≡ (s.size fork).logged)
   unmade_finds may = let t = tallies size_shape s.views fork in
       let alone = total-alone (λ (u : View). size_weight unstored (size_hold u fork)) s.views i v there (λ j u other here. other_stored (s.size fork) (size_hold v fork) (size_hold u fork) t column ((h.words (suc fork)).cells j u fork here (omega arith)) (λ k. terms_le (λ (z : View). size_weight k (size_hold z fork)) s.views i j v u other there here) may.right) in

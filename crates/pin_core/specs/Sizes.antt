@@ -22,7 +22,7 @@ use Rattle.pin_core.specs.Kinds.{load_of, seen_gone}
 use Rattle.pin_core.specs.Tallies.{flag_weight}
 use Rattle.grid.specs.Shape.{Shape, Part, Grid, put}
 
--- The kinds of step at the size of a fork
+-- The kinds of step at the size of a fork: no call on a table makes one yet
 pub data SizeKind : Type 0 where
   -- a load of the size word
   load_size : SizeKind

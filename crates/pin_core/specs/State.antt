@@ -55,7 +55,7 @@ pub record Partition : Type 0 where
   -- the pair that the holder of the latch has named, and not yet entered or left out
   pub owed : MapChange
 
--- The size of a fork
+-- The size of a fork; on a table none changes yet
 pub record SizeWord : Type 0 where
   -- how many blocks the fork has by its size word
   pub blocks : ℕ

@@ -265,7 +265,7 @@ pub struct Resize {
     pub cut: bool,
 }
 
-/// What a backend has of a fork's size.
+/// What a backend has of a fork's size. No call on a table takes a right on one yet.
 pub struct SizeHold {
     /// The fork, by its number.
     pub fork: u64,
@@ -318,14 +318,14 @@ pub enum Call {
         /// Its record in the log.
         logged: WriteRecord,
     },
-    /// The backend changed how many blocks a fork has.
+    /// The backend changed how many blocks a fork has. No call on a table does yet.
     Size {
         backend: u64,
         fork: u64,
         blocks: u64,
         place: u64,
     },
-    /// The backend saw how many blocks a fork has.
+    /// The backend saw how many blocks a fork has. No call on a table does yet.
     Sized {
         backend: u64,
         fork: u64,
