@@ -196,7 +196,7 @@ pub record CanAssign (fr : Frame) (l : Link) : Type 0 where
   -- the tag word isn't all ones
   pub named : fr.tag ≢ no_tag
 
--- A frame whose tag word was erased may lose BM_TAG_VALID (`InvalidateVictimBuffer`)
+-- A frame whose tag word was erased may lose its flags (`InvalidateVictimBuffer`)
 pub record CanClear (fr : Frame) (l : Link) : Type 0 where
   -- the backend holds the buffer header, and knows the state word
   pub held : l.header ≡ Some fr.word
