@@ -1,5 +1,5 @@
 -- What the law of sizes says in the field's words.
-use Rattle.std.proofs.Common.{◌≡◌, ◌≢◌, ◌⊎◌, ℕ, suc, ◌+◌, ◌<◌, ◌≤◌, Bool, true, false, cond, None, sym, refl, ap, ◌∙◌, subst, ⊎_elim, arith}
+use Rattle.std.proofs.Common.{◌≡◌, ◌≢◌, ℕ, suc, ◌<◌, ◌≤◌, Bool, true, false, cond, None, sym, refl, ◌∙◌, ⊎_elim, arith}
 use Rattle.std.specs.Prelude.{if◌then◌else◌}
 use mathlib.Core.Option.{some}
 use lib.ListN.{get_elem?}
@@ -7,7 +7,7 @@ use Rattle.pin_core.specs.declared.view.SizeRight.{SizeRight}
 use Rattle.pin_core.specs.declared.view.SizeRight.TheVariants as size_right
 use Rattle.pin_core.specs.declared.view.SizeHold.{SizeHold}
 use Rattle.pin_core.specs.declared.view.View.{View}
-use Rattle.pin_core.specs.State.{State, SizeWord, no_tag, size_hold, link, tag_fork, tag_block, is_block}
+use Rattle.pin_core.specs.State.{State, SizeWord, size_hold, link, tag_fork, is_block}
 use Rattle.pin_core.specs.Tallies.{flag_weight}
 use Rattle.pin_core.specs.Invariant.{PinInvariant}
 use Rattle.pin_core.specs.Sizes.{SizeKind, load_size, share_size, exclude_size, unshare_size, unexclude_size, pass_frame, store_size, enter_extension, enter_cut, SizeAllowed, size_after, SizeTally, sharers, excluders, unstored, size_weight, shared_weight, exclusive_weight, size_shape, SizeLaw, SizeHoldLaw, IsNoted, SizesLaw}
@@ -112,7 +112,3 @@ module _ (s : State) (h : SizesLaw s) (quiet : s.resizes ≡ false) where
   same_sizes i fork v unexclude_size there a g = logged_kept s fork unexclude_size g refl
   same_sizes i fork v (pass_frame f n) there a g = logged_kept s fork (pass_frame f n) g refl
   same_sizes i fork v store_size there a g = logged_kept s fork store_size g refl
-
-  -- each step is one that changes no size
-  pub quiet_kind : (P : SizeKind → Type 0) (i fork : ℕ) (v : View) (k : SizeKind) → get_elem? s.views i ≡ some v → SizeAllowed k s v fork → (((f end : ℕ) → k ≢ enter_extension f end) → ((n end : ℕ) → k ≢ enter_cut n end) → P k) → P k
-  quiet_kind P i fork v k there a x = x (λ f end e. no_exclusive i fork v there (subst (λ (z : SizeKind). SizeAllowed z s v fork) e a).may.right) (λ n end e. no_exclusive i fork v there (subst (λ (z : SizeKind). SizeAllowed z s v fork) e a).may.right)

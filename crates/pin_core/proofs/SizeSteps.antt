@@ -1,5 +1,5 @@
 -- Each step of every kind keeps what holds of the sizes of forks.
-use Rattle.std.proofs.Common.{◌≡◌, ◌≢◌, ◌⊎◌, ℕ, zero, suc, ◌+◌, ◌<◌, ◌≤◌, Bool, true, false, List, [], ◌∷◌, ◌++◌, Option, Some, None, Contains, ◌&&◌, nat_eq, nat_le, ne_eqb, length, set, slice_set, slice_index_or, get_or-set_same, get_or-set_other, sym, refl, ap, ◌∙◌, subst, inl, inr, ⊎_elim, arith}
+use Rattle.std.proofs.Common.{◌≡◌, ◌≢◌, ◌⊎◌, ℕ, suc, ◌+◌, ◌<◌, ◌≤◌, Bool, true, false, List, [], ◌∷◌, ◌++◌, Some, None, Contains, ◌&&◌, nat_le, ne_eqb, length, set, sym, refl, ap, ◌∙◌, subst, inl, inr, ⊎_elim, arith}
 use mathlib.Core.Logic.{dite}
 use mathlib.Core.Option.{some, some-injective}
 use native.Mathlib.Decide.{ℕ_discrete}
@@ -9,20 +9,20 @@ use Rattle.pin_core.specs.declared.view.SizeRight.TheVariants as size_right
 use Rattle.pin_core.specs.declared.view.SizeHold.{SizeHold}
 use Rattle.pin_core.specs.declared.view.Link.{Link}
 use Rattle.pin_core.specs.declared.view.View.{View}
-use Rattle.pin_core.specs.State.{State, Frame, Partition, SizeWord, Config, CanOpen, Page, no_tag, no_size, size_in, size_hold, idle, link, tag_fork, tag_block, is_block, is_cut, local, new_view, first_view, emptied_view, joined_view, split_state, joined_state, opening, opened_size}
+use Rattle.pin_core.specs.State.{State, Frame, Partition, SizeWord, Config, Page, no_tag, no_size, size_in, size_hold, link, tag_fork, tag_block, is_block, is_cut, new_view, first_view, emptied_view, joined_view, split_state, joined_state, opening, opened_size}
 use Rattle.pin_core.specs.Tallies.{Tally, pins, weigh, frame_shape}
 use Rattle.pin_core.specs.Invariant.{FrameLaw, LinkLaw, PinInvariant}
 use Rattle.pin_core.specs.Kinds.{Kind, load_state, pin, pin_mapped, unpin, lock_header, unlock_header, store_tag, store_new_tag, erase_tag, load_tag, pin_victim, lower_usage, assign, clear, IsAlone, Allowed, frame_after, link_after, view_after}
 use Rattle.pin_core.specs.Turns.{view_turned}
 use Rattle.pin_core.specs.Sizes.{SizeTally, sharers, excluders, unstored, size_weight, size_shape, SizeLaw, SizeHoldLaw, size_part, MayResize, IsNoted, IsAtSize, SizesLaw}
-use Rattle.pin_core.specs.Steps.{AllowedAround, MayEnter, MayEnterNew, HoldsNothing, state_after, state_turned, Event, Step, touches, turns, sized, splits, joins, Run, rests, goes}
+use Rattle.pin_core.specs.Steps.{AllowedAround, MayEnter, MayEnterNew, HoldsNothing, state_after, Event, Step, touches, turns, sized, splits, joins, Run, rests, goes}
 use Rattle.grid.specs.Shape.{Grid, put, tallies, total}
-use Rattle.grid.proofs.Grids.{Keeps, Relinks, sweep, steady, grows}
-use Rattle.grid.proofs.Lists.{at_set, at_end, at_only, at_longer, set_here, set_else, puts, put_at, put_else}
+use Rattle.grid.proofs.Grids.{steady, grows}
+use Rattle.grid.proofs.Lists.{at_set, at_end, at_only, at_longer, set_here, set_else, puts}
 use Rattle.grid.proofs.Sums.{term_le, terms_le}
 use Rattle.pin_core.proofs.Views.{link_new}
 use Rattle.pin_core.proofs.Stepping.{relinked, untagged, step_keeps}
-use Rattle.pin_core.proofs.Sizing.{noted_stays, shared_finds, unmade_finds, excludes_others, size_keeps_law}
+use Rattle.pin_core.proofs.Sizing.{noted_stays, unmade_finds, excludes_others, size_keeps_law}
 
 flags_differ : false ≡ true → ⊥
 flags_differ e = absurd (cc)

@@ -1,10 +1,10 @@
 -- Each step keeps what holds of the sizes of forks, and so does each list of steps.
 use Rattle.std.proofs.Common.{◌≡◌, ◌≢◌, ◌⊎◌, ℕ, zero, suc, ◌+◌, ◌<◌, ◌≤◌, Bool, true, false, List, [], ◌∷◌, Option, Some, None, Contains, cond, nat_lt, nat_le, nat_eq, ◌&&◌, eq-eqb, ne_eqb, length, set, slice_set, slice_index_or, get_or-set_same, get_or-set_other, sym, refl, ap, ◌∙◌, subst, inl, inr, ⊎_elim, arith}
-use Rattle.std.proofs.lemmas.Bool.{eqb-true, eqb-false, lt-ltb, ltb-true, leb-false, lt-leb}
+use Rattle.std.proofs.lemmas.Bool.{lt-ltb, ltb-true, leb-false}
 use Rattle.std.proofs.lemmas.Nat.{div-add-mod'}
 use Rattle.std.proofs.lemmas.Option.{same_Some}
 use mathlib.Core.Logic.{dite}
-use mathlib.Core.Option.{some, some-injective, some-ne-none}
+use mathlib.Core.Option.{some, some-injective}
 use native.Mathlib.Decide.{ℕ_discrete}
 use lib.ListN.{get_elem?}
 use Rattle.pin_core.specs.declared.view.SizeRight.TheVariants as size_right
@@ -167,13 +167,6 @@ fewer n m size views le g = record { columns = λ f below. g.columns f (omega ar
 -- Beside a view that has an exclusive right no other view has a right
 alone_weight : (w : SizeWord) (h m : SizeHold) (t : SizeTally → ℕ) → SizeLaw w t → ((k : SizeTally) → size_weight k h + size_weight k m ≤ t k) → h.right ≡ size_right.Exclusive → m.right ≡ size_right.Unheld
 alone_weight w h m t q le e = grind (arith, q, le sharers, le excluders, e)
-
--- A view that has the exclusive right, with no change made, has found the fork's size by the log
-found_weight : (w : SizeWord) (h : SizeHold) (t : SizeTally → ℕ) → SizeLaw w t → SizeHoldLaw w h → h.right ≢ size_right.Unheld → h.made ≡ None → h.blocks ≡ w.blocks
-found_weight w h t q c right unmade = grind (arith, q, c, right, unmade)
-
-shared_is_logged : (w : SizeWord) (h : SizeHold) (t : SizeTally → ℕ) → SizeLaw w t → (w.exclusive ≡ false → t unstored ≡ 0) → h.right ≡ size_right.Shared → size_weight sharers h ≤ t sharers → w.blocks ≡ w.logged
-shared_is_logged w h t q none right le = grind (arith, q, none, right, le)
 
 -- a sum of rights that aren't exclusive has no change that isn't stored
 pub unstored_few : (w : SizeWord) (h : SizeHold) → SizeHoldLaw w h → size_weight unstored h ≤ size_weight excluders h

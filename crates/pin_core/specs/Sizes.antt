@@ -1,7 +1,6 @@
 -- The sizes of forks: the kinds of step at one, and what holds of them.
 use Rattle.std.specs.Prelude.{◌≡◌, ◌≢◌, ◌⊎◌, ℕ, ◌+◌, ◌-◌, ◌<◌, ◌≤◌, Bool, true, false, List, []}
 use Rattle.std.specs.Prelude.{◌∷◌, ◌++◌, map, slice_set, Contains, Option, Some, None, nat_eq, not}
-use Rattle.std.specs.Prelude.{if◌then◌else◌}
 use mathlib.Core.Option.{some}
 use lib.ListN.{get_elem?}
 use Rattle.pin_core.specs.declared.view.Role.TheVariants.{HandedOut}
@@ -16,7 +15,7 @@ use Rattle.pin_core.specs.declared.view.LoadedWord.TheVariants as seen
 use Rattle.pin_core.specs.declared.view.Link.{Link}
 use Rattle.pin_core.specs.declared.view.Resident.{Resident}
 use Rattle.pin_core.specs.declared.view.View.{View}
-use Rattle.pin_core.specs.State.{Frame, State, SizeWord, no_tag, no_size, without_size, size_hold}
+use Rattle.pin_core.specs.State.{State, SizeWord, no_tag, no_size, without_size, size_hold}
 use Rattle.pin_core.specs.State.{link, tag_fork, tag_block, is_block, is_cut}
 use Rattle.pin_core.specs.Kinds.{load_of, seen_gone}
 use Rattle.pin_core.specs.Tallies.{flag_weight}

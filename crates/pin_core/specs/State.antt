@@ -1,6 +1,6 @@
 -- The frames of the buffer pool, the partitions of the mapping table, the sizes of forks, and what
 -- each backend knows.
-use Rattle.std.specs.Prelude.{◌≡◌, ℕ, ◌+◌, ◌*◌, ◌/◌, ◌%◌, ◌<◌, Bool, true, false, List, [], ◌∷◌}
+use Rattle.std.specs.Prelude.{ℕ, ◌+◌, ◌*◌, ◌/◌, ◌%◌, ◌<◌, Bool, true, false, List, [], ◌∷◌}
 use Rattle.std.specs.Prelude.{◌++◌, replicate, length, map, max, nat_eq, nat_lt, nat_le}
 use Rattle.std.specs.Prelude.{slice_index_or, slice_set, ◌&&◌, ◌||◌, Option, None, if◌then◌else◌}
 use Rattle.state_word.specs.declared.word.StateWord.{StateWord}
