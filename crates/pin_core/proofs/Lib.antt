@@ -1,3 +1,4 @@
+pub mod Tallies
 pub mod Maps
 pub mod Views
 pub mod Keeping

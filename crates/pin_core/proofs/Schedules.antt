@@ -1,6 +1,6 @@
 -- What the law says in the field's words.
-use Rattle.std.proofs.Common.{◌≡◌, ◌≢◌, ℕ, ◌+◌, ◌<◌, ◌≤◌, Bool, true, false, cond, List, [], ◌∷◌, Option, Some, None, set, length, get_or-set_same, get_or-set_other, sym, refl, ap, ◌∙◌, subst, arith}
-use Rattle.std.specs.Prelude.{◌↔◌, if◌then◌else◌}
+use Rattle.std.proofs.Common.{◌≡◌, ◌≢◌, ℕ, ◌+◌, ◌<◌, ◌≤◌, true, false, cond, List, [], ◌∷◌, Option, Some, None, set, length, get_or-set_same, get_or-set_other, sym, refl, ap, ◌∙◌, subst, arith}
+use Rattle.std.specs.Prelude.{◌↔◌}
 use mathlib.Core.Logic.{dite}
 use mathlib.Core.Option.{some, some-injective}
 use native.Mathlib.Decide.{ℕ_discrete}
@@ -27,6 +27,7 @@ use Rattle.grid.specs.Shape.{tallies}
 use Rattle.grid.proofs.Lists.{set_here, set_else, at_longer, put_at, put_else}
 use Rattle.grid.proofs.Sums.{total-count, total-few, term_le, terms_le}
 use Rattle.grid.proofs.Grids.{Relinks}
+use Rattle.pin_core.proofs.Tallies.{flag_count}
 use Rattle.pin_core.proofs.Maps.{gives_holder}
 use Rattle.pin_core.proofs.Opening.{opens}
 use Rattle.pin_core.proofs.Stepping.{relinked, step_keeps, run_keeps}
@@ -63,15 +64,11 @@ module _ (s : State) (h : PinInvariant s) where
   own_pins i f v there below pinned = let c = h.grid.columns f below in omega (arith, c.counted, term_le (λ (u : View). weigh pins (link u f)) s.views i v there, some_pin (link v f).role pinned)
 
   pub held : HeadersAreHeld s
-  held f below = sym (total-count (λ (v : View). weigh headers (link v f)) (holds_header f) (λ v. one (link v f).header) s.views) ∙ sym (h.grid.columns f below).locked ∙ flag (s.frame f).word.locked
+  held f below = sym (total-count (λ (v : View). weigh headers (link v f)) (holds_header f) (λ v. one (link v f).header) s.views) ∙ sym (h.grid.columns f below).locked ∙ flag_count (s.frame f).word.locked
     where
       one : (o : Option StateWord) → some_weight o ≡ cond (is_held o) 1 0
       one None = refl
       one (Some w) = refl
-
-      flag : (b : Bool) → flag_weight b ≡ (if b then 1 else 0)
-      flag true = refl
-      flag false = refl
 
   pub holders : HoldersHaveTheWord s
   holders i f v w there below e = (h.grid.cells i v f there below).header w e
@@ -118,11 +115,7 @@ module _ (s : State) (h : PinInvariant s) where
   }
 
   pub taken : TurnsAreHeld s
-  taken p below = (sym (total-count (λ (v : View). flag_weight (hold v p).held) (holds_turn p) (λ v. one (hold v p).held) s.views) ∙ sym (h.turns.columns p below).taken ∙ one (s.partition p).taken, (h.turns.columns p below).free)
-    where
-      one : (b : Bool) → flag_weight b ≡ (if b then 1 else 0)
-      one true = refl
-      one false = refl
+  taken p below = (sym (total-count (λ (v : View). flag_weight (hold v p).held) (holds_turn p) (λ v. flag_count (hold v p).held) s.views) ∙ sym (h.turns.columns p below).taken ∙ flag_count (s.partition p).taken, (h.turns.columns p below).free)
 
   pub maps_seen : MapsAreAsSeen s
   maps_seen i p v entries there below = (h.turns.cells i v p there below).seen entries

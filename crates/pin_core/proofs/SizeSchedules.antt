@@ -1,6 +1,6 @@
 -- What the law of sizes says in the field's words.
-use Rattle.std.proofs.Common.{◌≡◌, ◌≢◌, ℕ, suc, ◌<◌, ◌≤◌, Bool, true, false, cond, None, sym, refl, ◌∙◌, ⊎_elim, arith}
-use Rattle.std.specs.Prelude.{if◌then◌else◌}
+use Rattle.std.proofs.Common.{◌≡◌, ◌≢◌, ℕ, suc, ◌<◌, Bool, true, false, cond, None, sym, refl, ◌∙◌, ⊎_elim, arith}
+use Rattle.std.proofs.lemmas.Bool.{false≢true}
 use mathlib.Core.Option.{some}
 use lib.ListN.{get_elem?}
 use Rattle.pin_core.specs.declared.view.SizeRight.{SizeRight}
@@ -8,37 +8,31 @@ use Rattle.pin_core.specs.declared.view.SizeRight.TheVariants as size_right
 use Rattle.pin_core.specs.declared.view.SizeHold.{SizeHold}
 use Rattle.pin_core.specs.declared.view.View.{View}
 use Rattle.pin_core.specs.State.{State, SizeWord, size_hold, link, tag_fork, is_block}
-use Rattle.pin_core.specs.Tallies.{flag_weight}
 use Rattle.pin_core.specs.Invariant.{PinInvariant}
-use Rattle.pin_core.specs.Sizes.{SizeKind, load_size, share_size, exclude_size, unshare_size, unexclude_size, pass_frame, store_size, enter_extension, enter_cut, SizeAllowed, size_after, SizeTally, sharers, excluders, unstored, size_weight, shared_weight, exclusive_weight, size_shape, SizeLaw, SizeHoldLaw, IsNoted, SizesLaw}
+use Rattle.pin_core.specs.Sizes.{SizeKind, load_size, share_size, exclude_size, unshare_size, unexclude_size, pass_frame, store_size, enter_extension, enter_cut, SizeAllowed, size_after, SizeTally, sharers, excluders, size_weight, shared_weight, exclusive_weight, size_shape, SizeLaw, SizeHoldLaw, IsNoted, SizesLaw}
 use Rattle.pin_core.specs.Schedules.{IsReached, TagWordsAreBlocks, is_size_shared, is_size_exclusive, shares_size, excludes_size, SizeRights, SizesAreLogged, SeenBlocksStay}
 use Rattle.grid.specs.Shape.{put, tallies}
-use Rattle.grid.proofs.Sums.{term_le, total-count, total-none}
+use Rattle.grid.proofs.Sums.{total-count}
+use Rattle.pin_core.proofs.Tallies.{flag_count}
 use Rattle.pin_core.proofs.Opening.{opens}
 use Rattle.pin_core.proofs.Stepping.{remembered}
-use Rattle.pin_core.proofs.Sizing.{unmade_finds, shared_finds, unstored_few, logged_kept}
+use Rattle.pin_core.proofs.Sizing.{none_unstored, exclusive_stands, unmade_finds, shared_finds, logged_kept}
 use Rattle.pin_core.proofs.SizeSteps.{run_keeps_law, sizes_open}
 
 pub sizes_reached : (s : State) → IsReached s → SizesLaw s
 sizes_reached s r = run_keeps_law r.run (opens r.config r.page r.opens) (sizes_open r.config r.page)
 
-flags_differ : false ≡ true → ⊥
-flags_differ e = absurd (cc)
-
 pub tag_words : (s : State) → SizesLaw s → TagWordsAreBlocks s
 tag_words s h = record {
   noted = h.blocks;
   quiet = λ e f below named. ⊎_elim (λ (x : is_block s (s.frame f).tag ≡ true). x) (λ (n : IsNoted s f). let fork = tag_fork (s.frame f).tag in let at = h.noted n.0 f n.1 n.2 below n.3 in
-      absurd (flags_differ (sym (h.quiet e fork) ∙ stands (s.size fork) (size_hold n.1 fork) (tallies size_shape s.views fork) ((h.words (suc fork)).columns fork (omega arith)) (term_le (λ (z : View). size_weight excluders (size_hold z fork)) s.views n.0 n.1 n.2) at.may.right))) (h.blocks f below named);
+      absurd (false≢true (sym (h.quiet e fork) ∙ exclusive_stands s h n.0 fork n.1 n.2 at.may.right))) (h.blocks f below named);
 }
-  where
-    stands : (w : SizeWord) (h : SizeHold) (t : SizeTally → ℕ) → SizeLaw w t → size_weight excluders h ≤ t excluders → h.right ≡ size_right.Exclusive → w.exclusive ≡ true
-    stands w h t q le e = grind (arith, q, le, e)
 
 pub rights : (s : State) (fork : ℕ) → SizesLaw s → SizeRights s fork
 rights s fork h = let c = (h.words (suc fork)).columns fork (omega arith) in record {
   sharers = c.shared ∙ total-count (λ (v : View). size_weight sharers (size_hold v fork)) (shares_size fork) (λ v. one (size_hold v fork).right) s.views;
-  exclusive = sym (total-count (λ (v : View). size_weight excluders (size_hold v fork)) (excludes_size fork) (λ v. alone (size_hold v fork).right) s.views) ∙ sym c.exclusive ∙ flag (s.size fork).exclusive;
+  exclusive = sym (total-count (λ (v : View). size_weight excluders (size_hold v fork)) (excludes_size fork) (λ v. alone (size_hold v fork).right) s.views) ∙ sym c.exclusive ∙ flag_count (s.size fork).exclusive;
   apart = c.excludes;
 }
   where
@@ -52,19 +46,12 @@ rights s fork h = let c = (h.words (suc fork)).columns fork (omega arith) in rec
     alone size_right.Shared = refl
     alone size_right.Exclusive = refl
 
-    flag : (b : Bool) → flag_weight b ≡ (if b then 1 else 0)
-    flag true = refl
-    flag false = refl
-
 -- Without an exclusive right a size word is the fork's size by the log
 pub free_is_logged : (s : State) (fork : ℕ) → SizesLaw s → (s.size fork).exclusive ≡ false → (s.size fork).blocks ≡ (s.size fork).logged
-free_is_logged s fork h e = let c = (h.words (suc fork)).columns fork (omega arith) in c.stored (none (none_has (s.size fork) (tallies size_shape s.views fork) c e))
+free_is_logged s fork h e = let c = (h.words (suc fork)).columns fork (omega arith) in c.stored (none_unstored s h fork (none_has (s.size fork) (tallies size_shape s.views fork) c e))
   where
     none_has : (w : SizeWord) (t : SizeTally → ℕ) → SizeLaw w t → w.exclusive ≡ false → t excluders ≡ 0
     none_has w t c e = grind (arith, c, e)
-
-    none : tallies size_shape s.views fork excluders ≡ 0 → tallies size_shape s.views fork unstored ≡ 0
-    none e = total-none (λ (u : View). size_weight unstored (size_hold u fork)) s.views (λ j u here. let x = unstored_few (s.size fork) (size_hold u fork) ((h.words (suc fork)).cells j u fork here (omega arith)) in let y = term_le (λ (z : View). size_weight excluders (size_hold z fork)) s.views j u here in omega arith)
 
 pub logged : (s : State) (fork : ℕ) → SizesLaw s → SizesAreLogged s fork
 logged s fork h = record {
@@ -88,10 +75,7 @@ seen_blocks s p h i f v there below e = let c = p.grid.cells i v f there below i
 module _ (s : State) (h : SizesLaw s) (quiet : s.resizes ≡ false) where
   -- no view has an exclusive right
   pub no_exclusive : (i fork : ℕ) (v : View) → get_elem? s.views i ≡ some v → (size_hold v fork).right ≡ size_right.Exclusive → ⊥
-  no_exclusive i fork v there e = flags_differ (sym (h.quiet quiet fork) ∙ stands (s.size fork) (size_hold v fork) (tallies size_shape s.views fork) ((h.words (suc fork)).columns fork (omega arith)) (term_le (λ (z : View). size_weight excluders (size_hold z fork)) s.views i v there) e)
-    where
-      stands : (w : SizeWord) (h : SizeHold) (t : SizeTally → ℕ) → SizeLaw w t → size_weight excluders h ≤ t excluders → h.right ≡ size_right.Exclusive → w.exclusive ≡ true
-      stands w h t q le e = grind (arith, q, le, e)
+  no_exclusive i fork v there e = false≢true (sym (h.quiet quiet fork) ∙ exclusive_stands s h i fork v there e)
 
   -- no view notes a frame
   pub none_noted : (i f : ℕ) (v : View) → get_elem? s.views i ≡ some v → f < s.frames → (link v f).noted ≡ false

@@ -1,5 +1,7 @@
 -- Each step of every kind keeps what holds of the sizes of forks.
-use Rattle.std.proofs.Common.{◌≡◌, ◌≢◌, ◌⊎◌, ℕ, suc, ◌+◌, ◌<◌, ◌≤◌, Bool, true, false, List, [], ◌∷◌, ◌++◌, Some, None, Contains, ◌&&◌, nat_le, ne_eqb, length, set, sym, refl, ap, ◌∙◌, subst, inl, inr, ⊎_elim, arith}
+use Rattle.std.proofs.Common.{◌≡◌, ◌≢◌, ◌⊎◌, ℕ, suc, ◌+◌, ◌<◌, ◌≤◌, Bool, true, false, List, [], ◌∷◌, ◌++◌, Some, Contains, ◌&&◌, nat_le, ne_eqb, length, set, sym, refl, ap, ◌∙◌, subst, inl, inr, ⊎_elim, arith}
+use Rattle.std.proofs.lemmas.Bool.{false≢true}
+use Rattle.std.proofs.lemmas.Option.{none-some}
 use mathlib.Core.Logic.{dite}
 use mathlib.Core.Option.{some, some-injective}
 use native.Mathlib.Decide.{ℕ_discrete}
@@ -22,10 +24,7 @@ use Rattle.grid.proofs.Lists.{at_set, at_end, at_only, at_longer, set_here, set_
 use Rattle.grid.proofs.Sums.{term_le, terms_le}
 use Rattle.pin_core.proofs.Views.{link_new}
 use Rattle.pin_core.proofs.Stepping.{relinked, untagged, step_keeps}
-use Rattle.pin_core.proofs.Sizing.{noted_stays, unmade_finds, excludes_others, size_keeps_law}
-
-flags_differ : false ≡ true → ⊥
-flags_differ e = absurd (cc)
+use Rattle.pin_core.proofs.Sizing.{rights_differ, noted_stays, exclusive_stands, unmade_finds, excludes_others, size_keeps_law}
 
 -- A view changes, with the frames and the partitions, and with what it notes and has seen; no tag and no right changes: what a crate above has to show of a kind of its own
 module _ (s : State) (h : SizesLaw s) (i : ℕ) (v w : View) (frame' : ℕ → Frame) (part' : ℕ → Partition) (there : get_elem? s.views i ≡ some v) (sizes : w.sizes ≡ v.sizes) where
@@ -75,12 +74,12 @@ module _ (s : State) (h : SizesLaw s) (i : ℕ) (v w : View) (frame' : ℕ → F
         (λ same. subst (λ (z : ℕ). IsAtSize changed w (frame' z).tag) (sym same) (let at = at_size (ap (λ (z : ℕ). (link w z).noted) (sym same) ∙ now) in record { may = may_same (tag_fork (frame' g).tag) at.may; at = at.at }))
         (λ o. subst (λ (z : ℕ). IsAtSize changed w z) (sym (tags f o)) (let at = h.noted i f v there below (sym (ap (λ (x : Link). x.noted) (links f o)) ∙ now) in record { may = may_same (tag_fork (s.frame f).tag) at.may; at = at.at }))))
         (λ (t : (j ≢ i) × (get_elem? s.views j ≡ some u)). dite (ℕ_discrete f g)
-        (λ same. let x = (others j u t.0 t.1).0 in let y = subst (λ (z : ℕ). (link u z).noted ≡ true) same e in absurd (flags_differ (sym x ∙ y)))
+        (λ same. let x = (others j u t.0 t.1).0 in let y = subst (λ (z : ℕ). (link u z).noted ≡ true) same e in absurd (false≢true (sym x ∙ y)))
         (λ o. subst (λ (z : ℕ). IsAtSize changed u z) (sym (tags f o)) (let at = h.noted j f u t.1 below e in record { may = record { right = at.may.right; unmade = at.may.unmade }; at = at.at }))) (at_set s.views i j w u here);
     insides = λ j f u here below e. dite (ℕ_discrete f g)
         (λ same. ⊎_elim
-        (λ (t : (j ≡ i) × (w ≡ u)). absurd (flags_differ (sym unseen ∙ ap (λ (z : ℕ). (link w z).inside) (sym same) ∙ ap (λ (x : View). (link x f).inside) t.1 ∙ e)))
-        (λ (t : (j ≢ i) × (get_elem? s.views j ≡ some u)). let x = (others j u t.0 t.1).1 in let y = subst (λ (z : ℕ). (link u z).inside ≡ true) same e in absurd (flags_differ (sym x ∙ y))) (at_set s.views i j w u here))
+        (λ (t : (j ≡ i) × (w ≡ u)). absurd (false≢true (sym unseen ∙ ap (λ (z : ℕ). (link w z).inside) (sym same) ∙ ap (λ (x : View). (link x f).inside) t.1 ∙ e)))
+        (λ (t : (j ≢ i) × (get_elem? s.views j ≡ some u)). let x = (others j u t.0 t.1).1 in let y = subst (λ (z : ℕ). (link u z).inside ≡ true) same e in absurd (false≢true (sym x ∙ y))) (at_set s.views i j w u here))
         (λ o. ap (is_block s) (tags f o) ∙ ⊎_elim
         (λ (t : (j ≡ i) × (w ≡ u)). h.insides i f v there below (ap (λ (x : Link). x.inside) (sym (links f o)) ∙ ap (λ (x : View). (link x f).inside) t.1 ∙ e))
         (λ (t : (j ≢ i) × (get_elem? s.views j ≡ some u)). h.insides j f u t.1 below e) (at_set s.views i j w u here));
@@ -94,18 +93,22 @@ module _ (s : State) (h : SizesLaw s) (i : ℕ) (v w : View) (frame' : ℕ → F
       old_hold : (j fork : ℕ) (u : View) → get_elem? (set s.views i w) j ≡ some u → (k : ℕ) × (x : View) × (get_elem? s.views k ≡ some x) × (size_hold u fork ≡ size_hold x fork)
       old_hold j fork u here = ⊎_elim (λ (t : (j ≡ i) × (w ≡ u)). (i, v, there, ap (λ (x : View). size_hold x fork) (sym t.1) ∙ same_hold fork)) (λ (t : (j ≢ i) × (get_elem? s.views j ≡ some u)). (j, u, t.1, refl)) (at_set s.views i j w u here)
 
+-- a view that doesn't pin a frame neither notes it nor has seen it inside
+unpinned_link : (fr : Frame) (l : Link) → LinkLaw fr l → l.role ≡ Absent → (l.noted ≡ false) × (l.inside ≡ false)
+unpinned_link fr l h e = (not_noted fr l h e, not_inside fr l h e)
+  where
+    not_noted : (fr : Frame) (l : Link) → LinkLaw fr l → l.role ≡ Absent → l.noted ≡ false
+    not_noted fr l h e = grind (arith, h, e)
+
+    not_inside : (fr : Frame) (l : Link) → LinkLaw fr l → l.role ≡ Absent → l.inside ≡ false
+    not_inside fr l h e = grind (arith, h, e)
+
 -- beside the one pin of a frame no other view notes it, or has seen it inside
 alone_link : (fr : Frame) (l m : Link) (t : Tally → ℕ) → FrameLaw fr t → LinkLaw fr m → weigh pins l + weigh pins m ≤ t pins → IsAlone fr l → (m.noted ≡ false) × (m.inside ≡ false)
-alone_link fr l m t q d le a = let absent = no_pin fr l m t q le a in (not_noted fr m d absent, not_inside fr m d absent)
+alone_link fr l m t q d le a = unpinned_link fr m d (no_pin fr l m t q le a)
   where
     no_pin : (fr : Frame) (l m : Link) (t : Tally → ℕ) → FrameLaw fr t → weigh pins l + weigh pins m ≤ t pins → IsAlone fr l → m.role ≡ Absent
     no_pin fr l m t q le a = grind (arith, q, le, a)
-
-    not_noted : (fr : Frame) (m : Link) → LinkLaw fr m → m.role ≡ Absent → m.noted ≡ false
-    not_noted fr m d e = grind (arith, d, e)
-
-    not_inside : (fr : Frame) (m : Link) → LinkLaw fr m → m.role ≡ Absent → m.inside ≡ false
-    not_inside fr m d e = grind (arith, d, e)
 
 -- a view that gives a frame a tag notes none there
 unnoted_link : (fr : Frame) (l : Link) → LinkLaw fr l → fr.tag ≡ no_tag → l.noted ≡ false
@@ -114,9 +117,6 @@ unnoted_link fr l h e = grind (arith, h, e)
 -- a cut is passed for under an exclusive right
 cutting_excludes : (w : SizeWord) (h : SizeHold) (n : ℕ) → SizeHoldLaw w h → h.cut_to ≡ Some n → h.right ≡ size_right.Exclusive
 cutting_excludes w h n c e = grind (arith, c, e)
-
-exclusive_stands : (w : SizeWord) (h : SizeHold) (t : SizeTally → ℕ) → SizeLaw w t → size_weight excluders h ≤ t excluders → h.right ≡ size_right.Exclusive → w.exclusive ≡ true
-exclusive_stands w h t q le e = grind (arith, q, le, e)
 
 sharing_excludes : (w : SizeWord) (x y : SizeHold) (t : SizeTally → ℕ) → SizeLaw w t → size_weight sharers x ≤ t sharers → size_weight excluders y ≤ t excluders → x.right ≡ size_right.Shared → y.right ≡ size_right.Exclusive → ⊥
 sharing_excludes w x y t q a b e f = grind (arith, q, a, b, e, f)
@@ -145,12 +145,12 @@ inside_by_kind : (k : Kind) (fr : Frame) (l : Link) → (link_after k fr l).insi
 inside_by_kind load_state fr l e = e
 inside_by_kind (pin ring) fr l e = e
 inside_by_kind (pin_mapped tag ring) fr l e = e
-inside_by_kind unpin fr l e = absurd (flags_differ e)
+inside_by_kind unpin fr l e = absurd (false≢true e)
 inside_by_kind lock_header fr l e = e
 inside_by_kind unlock_header fr l e = e
-inside_by_kind (store_tag tag) fr l e = absurd (flags_differ e)
-inside_by_kind (store_new_tag tag) fr l e = absurd (flags_differ e)
-inside_by_kind erase_tag fr l e = absurd (flags_differ e)
+inside_by_kind (store_tag tag) fr l e = absurd (false≢true e)
+inside_by_kind (store_new_tag tag) fr l e = absurd (false≢true e)
+inside_by_kind erase_tag fr l e = absurd (false≢true e)
 inside_by_kind load_tag fr l e = e
 inside_by_kind pin_victim fr l e = e
 inside_by_kind lower_usage fr l e = e
@@ -203,27 +203,21 @@ module _ (s : State) (h : SizesLaw s) (p : PinInvariant s) (i f : ℕ) (v : View
       right = cutter j fork n u here to
 
       by_flag : (b : Bool) → s.resizes ≡ b → is_cut fork n tag ≡ false
-      by_flag false e = let x = h.quiet e fork in let y = exclusive_stands (s.size fork) (size_hold u fork) (tallies size_shape s.views fork) ((h.words (suc fork)).columns fork (omega arith)) (term_le (λ (z : View). size_weight excluders (size_hold z fork)) s.views j u here) right in absurd (flags_differ (sym x ∙ y))
+      by_flag false e = let x = h.quiet e fork in let y = exclusive_stands s h j fork u here right in absurd (false≢true (sym x ∙ y))
       by_flag true e = let room = a.room e in other_fork fork n tag (λ same. sharing_excludes (s.size fork) (size_hold v fork) (size_hold u fork) (tallies size_shape s.views fork) ((h.words (suc fork)).columns fork (omega arith))
           (term_le (λ (z : View). size_weight sharers (size_hold z fork)) s.views i v there) (term_le (λ (z : View). size_weight excluders (size_hold z fork)) s.views j u here) (subst (λ (z : ℕ). (size_hold v z).right ≡ size_right.Shared) same room.right) right)
 
   new_passes : (tag : ℕ) → MayEnterNew s v tag → (j fork n : ℕ) (u : View) → get_elem? s.views j ≡ some u → (size_hold u fork).cut_to ≡ Some n → is_cut fork n tag ≡ false
   new_passes tag a j fork n u here to = other_fork fork n tag (λ same. dite (ℕ_discrete j i)
-      (λ e. let is : u ≡ v = some-injective u v (sym here ∙ ap (λ (z : ℕ). get_elem? s.views z) e ∙ there) in some_none n (sym a.unpassed ∙ ap (λ (z : ℕ). (size_hold v z).cut_to) same ∙ ap (λ (x : View). (size_hold x fork).cut_to) (sym is) ∙ to))
+      (λ e. let is : u ≡ v = some-injective u v (sym here ∙ ap (λ (z : ℕ). get_elem? s.views z) e ∙ there) in none-some n (sym a.unpassed ∙ ap (λ (z : ℕ). (size_hold v z).cut_to) same ∙ ap (λ (x : View). (size_hold x fork).cut_to) (sym is) ∙ to))
       (λ o. rights_differ (sym (excludes_others s h i fork v there j u o here (subst (λ (z : ℕ). (size_hold v z).right ≡ size_right.Exclusive) same a.may.right)) ∙ cutter j fork n u here to)))
-    where
-      some_none : (n : ℕ) → None ≡ Some n → ⊥
-      some_none n e = absurd (cc)
-
-      rights_differ : size_right.Unheld ≡ size_right.Exclusive → ⊥
-      rights_differ e = absurd (cc)
 
   pub kind_keeps_law : (k : Kind) → Allowed k (s.frame f) (link v f) → AllowedAround k s v f → SizesLaw (state_after k s i f v)
-  kind_keeps_law (store_tag tag) a around = let part' = (state_after (store_tag tag) s i f v).partition in tag_step (store_tag tag) part' a.alone refl (λ named. inl around.block) (λ e. absurd (flags_differ (sym (bare tag a) ∙ e)))
+  kind_keeps_law (store_tag tag) a around = let part' = (state_after (store_tag tag) s i f v).partition in tag_step (store_tag tag) part' a.alone refl (λ named. inl around.block) (λ e. absurd (false≢true (sym (bare tag a) ∙ e)))
       (λ j fork n u here to has named. store_passes tag around j fork n u here to)
   kind_keeps_law (store_new_tag tag) a around = let part' = (state_after (store_new_tag tag) s i f v).partition in tag_step (store_new_tag tag) part' a.alone refl (λ named. inr refl)
       (λ e. record { may = around.may; at = around.at ∙ (unmade_finds s h i (tag_fork tag) v there around.may).0 }) (λ j fork n u here to has named. new_passes tag around j fork n u here to)
-  kind_keeps_law erase_tag a around = let part' = (state_after erase_tag s i f v).partition in tag_step erase_tag part' a.alone refl (λ named. absurd (named refl)) (λ e. absurd (flags_differ e)) (λ j fork n u here to has named. absurd (named refl))
+  kind_keeps_law erase_tag a around = let part' = (state_after erase_tag s i f v).partition in tag_step erase_tag part' a.alone refl (λ named. absurd (named refl)) (λ e. absurd (false≢true e)) (λ j fork n u here to has named. absurd (named refl))
   kind_keeps_law load_state a around = plain_step load_state s.partition refl (λ tag e. absurd (cc)) (λ e. absurd (cc))
   kind_keeps_law (pin ring) a around = plain_step (pin ring) s.partition refl (λ tag e. absurd (cc)) (λ e. absurd (cc))
   kind_keeps_law (pin_mapped tag ring) a around = plain_step (pin_mapped tag ring) s.partition refl (λ tag e. absurd (cc)) (λ e. absurd (cc))
@@ -247,11 +241,11 @@ views_grow s h number base n m l = let b : View = new_view number base n m l in 
   blocks = λ f below named. ⊎_elim (λ (e : is_block s (s.frame f).tag ≡ true). inl e) (λ (e : IsNoted s f). inr (e.0, e.1, at_longer s.views (b ∷ []) e.0 e.1 e.2, e.3)) (h.blocks f below named);
   noted = λ j f u here below e. ⊎_elim
       (λ (x : get_elem? s.views j ≡ some u). let at = h.noted j f u x below e in record { may = record { right = at.may.right; unmade = at.may.unmade }; at = at.at })
-      (λ (x : (b ≡ u) × (j ≡ length s.views)). absurd (flags_differ (sym (bare_noted f) ∙ ap (λ (y : View). (link y f).noted) x.0 ∙ e))) (at_end s.views b u j here);
+      (λ (x : (b ≡ u) × (j ≡ length s.views)). absurd (false≢true (sym (bare_noted f) ∙ ap (λ (y : View). (link y f).noted) x.0 ∙ e))) (at_end s.views b u j here);
   insides = λ j f u here below e. ⊎_elim (λ (x : get_elem? s.views j ≡ some u). h.insides j f u x below e)
-      (λ (x : (b ≡ u) × (j ≡ length s.views)). absurd (flags_differ (sym (bare_inside f) ∙ ap (λ (y : View). (link y f).inside) x.0 ∙ e))) (at_end s.views b u j here);
+      (λ (x : (b ≡ u) × (j ≡ length s.views)). absurd (false≢true (sym (bare_inside f) ∙ ap (λ (y : View). (link y f).inside) x.0 ∙ e))) (at_end s.views b u j here);
   passed = λ j g k f u here to has below named. ⊎_elim (λ (x : get_elem? s.views j ≡ some u). h.passed j g k f u x to has below named)
-      (λ (x : (b ≡ u) × (j ≡ length s.views)). absurd (none_cut k (ap (λ (y : View). (size_hold y g).cut_to) x.0 ∙ to))) (at_end s.views b u j here);
+      (λ (x : (b ≡ u) × (j ≡ length s.views)). absurd (none-some k (ap (λ (y : View). (size_hold y g).cut_to) x.0 ∙ to))) (at_end s.views b u j here);
   quiet = h.quiet;
 }
   where
@@ -266,27 +260,15 @@ views_grow s h number base n m l = let b : View = new_view number base n m l in 
     bare_inside : (f : ℕ) → (link (new_view number base n m l) f).inside ≡ false
     bare_inside f = ap (λ (x : Link). x.inside) (link_new n m l number base f)
 
-    none_cut : (k : ℕ) → None ≡ Some k → ⊥
-    none_cut k e = absurd (cc)
-
 split_keeps_law : (s : State) (v : View) → SizesLaw s → get_elem? s.views 0 ≡ some v → SizesLaw (split_state s v)
 split_keeps_law s v h there = let w : View = record v { next = v.next + 1 } in
     views_grow (record s { views = set s.views 0 w }) (frames_keep s h 0 v w s.frame s.partition there refl (λ f. refl) (λ f below. refl) (λ f below e. e)) v.next s.base (length v.links) (length v.partitions) (length v.lanes)
-
-unpinned_link : (fr : Frame) (l : Link) → LinkLaw fr l → l.role ≡ Absent → (l.noted ≡ false) × (l.inside ≡ false)
-unpinned_link fr l h e = (no_note fr l h e, no_sight fr l h e)
-  where
-    no_note : (fr : Frame) (l : Link) → LinkLaw fr l → l.role ≡ Absent → l.noted ≡ false
-    no_note fr l h e = grind (arith, h, e)
-
-    no_sight : (fr : Frame) (l : Link) → LinkLaw fr l → l.role ≡ Absent → l.inside ≡ false
-    no_sight fr l h e = grind (arith, h, e)
 
 join_keeps_law : (s : State) (j : ℕ) (v u : View) → SizesLaw s → PinInvariant s → get_elem? s.views 0 ≡ some v → j ≢ 0 → get_elem? s.views j ≡ some u → HoldsNothing u → SizesLaw (joined_state s v j u)
 join_keeps_law s j v u h p there other here free = let w : View = joined_view v u in let t : State = record s { views = set s.views 0 w } in
     frames_keep t (frames_keep s h 0 v w s.frame s.partition there refl (λ f. refl) (λ f below. refl) (λ f below e. e)) j u emptied_view s.frame s.partition (set_else s.views 0 j w other ∙ here) (sym free.sizes) (λ f. refl)
     (λ f below. ap (λ (x : Link). x.noted) (link_new 0 0 0 0 0 f) ∙ sym (unpinned_link (s.frame f) (link u f) (p.grid.cells j u f here below) (free.frames f).no_pin).0)
-    (λ f below e. absurd (flags_differ (sym (ap (λ (x : Link). x.inside) (link_new 0 0 0 0 0 f)) ∙ e)))
+    (λ f below e. absurd (false≢true (sym (ap (λ (x : Link). x.inside) (link_new 0 0 0 0 0 f)) ∙ e)))
 
 pub step_keeps_law : {e : Event} {s t : State} → Step e s t → PinInvariant s → SizesLaw s → SizesLaw t
 step_keeps_law (touches {s = s} i f k v there live inside a around) p h = kind_keeps_law s h p i f v there live inside k a around
@@ -316,11 +298,8 @@ sizes_open c page = let w : View = first_view c.base c.frames c.partitions c.lan
     cells = λ i v g there below. subst (λ (x : View). SizeHoldLaw (opened_size (c.sizes g)) (size_hold x g)) (at_only w v i there).0 (no_law (opened_size (c.sizes g)));
   };
   blocks = λ f below named. absurd (named refl);
-  noted = λ i f v there below e. absurd (flags_differ (sym (ap (λ (x : Link). x.noted) (link_new c.frames c.partitions c.lanes 0 c.base f)) ∙ ap (λ (x : View). (link x f).noted) (at_only w v i there).0 ∙ e));
-  insides = λ i f v there below e. absurd (flags_differ (sym (ap (λ (x : Link). x.inside) (link_new c.frames c.partitions c.lanes 0 c.base f)) ∙ ap (λ (x : View). (link x f).inside) (at_only w v i there).0 ∙ e));
-  passed = λ i g n f v there to has below named. absurd (none_cut n (ap (λ (x : View). (size_hold x g).cut_to) (at_only w v i there).0 ∙ to));
+  noted = λ i f v there below e. absurd (false≢true (sym (ap (λ (x : Link). x.noted) (link_new c.frames c.partitions c.lanes 0 c.base f)) ∙ ap (λ (x : View). (link x f).noted) (at_only w v i there).0 ∙ e));
+  insides = λ i f v there below e. absurd (false≢true (sym (ap (λ (x : Link). x.inside) (link_new c.frames c.partitions c.lanes 0 c.base f)) ∙ ap (λ (x : View). (link x f).inside) (at_only w v i there).0 ∙ e));
+  passed = λ i g n f v there to has below named. absurd (none-some n (ap (λ (x : View). (size_hold x g).cut_to) (at_only w v i there).0 ∙ to));
   quiet = λ e g. refl;
 }
-  where
-    none_cut : (k : ℕ) → None ≡ Some k → ⊥
-    none_cut k e = absurd (cc)

@@ -1,8 +1,8 @@
 -- Each step keeps what holds of the sizes of forks, and so does each list of steps.
 use Rattle.std.proofs.Common.{◌≡◌, ◌≢◌, ◌⊎◌, ℕ, zero, suc, ◌+◌, ◌<◌, ◌≤◌, Bool, true, false, List, [], ◌∷◌, Option, Some, None, Contains, cond, nat_lt, nat_le, nat_eq, ◌&&◌, eq-eqb, ne_eqb, length, set, slice_set, slice_index_or, get_or-set_same, get_or-set_other, sym, refl, ap, ◌∙◌, subst, inl, inr, ⊎_elim, arith}
-use Rattle.std.proofs.lemmas.Bool.{lt-ltb, ltb-true, leb-false}
+use Rattle.std.proofs.lemmas.Bool.{false≢true, lt-ltb, ltb-true, leb-false}
 use Rattle.std.proofs.lemmas.Nat.{div-add-mod'}
-use Rattle.std.proofs.lemmas.Option.{same_Some}
+use Rattle.std.proofs.lemmas.Option.{same_Some, none-some}
 use mathlib.Core.Logic.{dite}
 use mathlib.Core.Option.{some, some-injective}
 use native.Mathlib.Decide.{ℕ_discrete}
@@ -168,18 +168,15 @@ fewer n m size views le g = record { columns = λ f below. g.columns f (omega ar
 alone_weight : (w : SizeWord) (h m : SizeHold) (t : SizeTally → ℕ) → SizeLaw w t → ((k : SizeTally) → size_weight k h + size_weight k m ≤ t k) → h.right ≡ size_right.Exclusive → m.right ≡ size_right.Unheld
 alone_weight w h m t q le e = grind (arith, q, le sharers, le excluders, e)
 
--- a sum of rights that aren't exclusive has no change that isn't stored
-pub unstored_few : (w : SizeWord) (h : SizeHold) → SizeHoldLaw w h → size_weight unstored h ≤ size_weight excluders h
+-- a change that isn't in the size word yet was made under the exclusive right
+unstored_few : (w : SizeWord) (h : SizeHold) → SizeHoldLaw w h → size_weight unstored h ≤ size_weight excluders h
 unstored_few w h c = grind (arith, c)
 
-two_rights : size_right.Unheld ≡ size_right.Exclusive → ⊥
-two_rights e = absurd (cc)
+pub rights_differ : size_right.Unheld ≡ size_right.Exclusive → ⊥
+rights_differ e = absurd (cc)
 
 shared_right : size_right.Shared ≡ size_right.Exclusive → ⊥
 shared_right e = absurd (cc)
-
-two_flags : false ≡ true → ⊥
-two_flags e = absurd (cc)
 
 -- a tag is told by its fork and its block there
 pub tag_is : (a b : ℕ) → tag_fork a ≡ tag_fork b → tag_block a ≡ tag_block b → a ≡ b
@@ -202,10 +199,6 @@ set_noted (x ∷ xs) zero zero l e = e
 set_noted (x ∷ xs) zero (suc f) l e = refl
 set_noted (x ∷ xs) (suc g) zero l e = refl
 set_noted (x ∷ xs) (suc g) (suc f) l e = set_noted xs g f l e
-
--- a view in a list, one of whose views was changed, with what was there before
-set_at : (views : List View) (i : ℕ) (v w : View) → get_elem? views i ≡ some v → (j : ℕ) (u : View) → get_elem? (set views i w) j ≡ some u → ((j ≡ i) × (w ≡ u)) ⊎ ((j ≢ i) × (get_elem? views j ≡ some u))
-set_at views i v w there j u e = at_set views i j w u e
 
 -- a view that notes a frame is still there, if the one that steps notes what it noted
 pub noted_stays : (views : List View) (i : ℕ) (v w : View) (f : ℕ) → get_elem? views i ≡ some v → (link w f).noted ≡ (link v f).noted
@@ -255,19 +248,23 @@ module _ (s : State) (h : SizesLaw s) (i fork : ℕ) (v w : View) (w' : SizeWord
         (λ (t : (j ≡ i) × (w ≡ u)). let was : (link v f).noted ≡ true = sym (noteds f) ∙ ap (λ (x : View). (link x f).noted) t.1 ∙ e in let at = h.noted i f v there below was in
         subst (λ (x : View). IsAtSize next x (s.frame f).tag) t.1 (record { may = may_still (tag_fork (s.frame f).tag) (keeps f below was) at.may; at = at.at ∙ sym (same_logged (tag_fork (s.frame f).tag)) }))
         (λ (t : (j ≢ i) × (get_elem? s.views j ≡ some u)). let at = h.noted j f u t.1 below e in record { may = record { right = at.may.right; unmade = at.may.unmade }; at = at.at ∙ sym (same_logged (tag_fork (s.frame f).tag)) })
-        (set_at s.views i v w there j u here);
+        (at_set s.views i j w u here);
     insides = λ j f u here below e. block_still (s.frame f).tag (⊎_elim
         (λ (t : (j ≡ i) × (w ≡ u)). insides f below (ap (λ (x : View). (link x f).inside) t.1 ∙ e))
-        (λ (t : (j ≢ i) × (get_elem? s.views j ≡ some u)). h.insides j f u t.1 below e) (set_at s.views i v w there j u here));
+        (λ (t : (j ≢ i) × (get_elem? s.views j ≡ some u)). h.insides j f u t.1 below e) (at_set s.views i j w u here));
     passed = λ j g n f u here to has below named. ⊎_elim
         (λ (t : (j ≡ i) × (w ≡ u)). dite (ℕ_discrete g fork)
         (λ same. let now : size_hold u g ≡ hold = ap (λ (x : View). size_hold x g) (sym t.1) ∙ ap (λ (z : ℕ). size_hold w z) same ∙ moved.here in
         subst (λ (z : ℕ). is_cut z n (s.frame f).tag ≡ false) (sym same) (passes n f (ap (λ (x : SizeHold). x.cut_to) (sym now) ∙ to) (subst (λ (x : SizeHold). Contains x.passed f) now has) below named))
         (λ o. let now : size_hold u g ≡ size_hold v g = ap (λ (x : View). size_hold x g) (sym t.1) ∙ moved.else g o in
         h.passed i g n f v there (ap (λ (x : SizeHold). x.cut_to) (sym now) ∙ to) (subst (λ (x : SizeHold). Contains x.passed f) now has) below named))
-        (λ (t : (j ≢ i) × (get_elem? s.views j ≡ some u)). h.passed j g n f u t.1 to has below named) (set_at s.views i v w there j u here);
+        (λ (t : (j ≢ i) × (get_elem? s.views j ≡ some u)). h.passed j g n f u t.1 to has below named) (at_set s.views i j w u here);
     quiet = λ e g. dite (ℕ_discrete g fork) (λ same. ap (λ (x : SizeWord). x.exclusive) ((puts s.size fork w' g).same same) ∙ quiet e) (λ o. ap (λ (x : SizeWord). x.exclusive) ((puts s.size fork w' g).other o) ∙ h.quiet e g);
   }
+
+-- if no view has the exclusive right on a fork's size, each change of it is in its word
+pub none_unstored : (s : State) → SizesLaw s → (fork : ℕ) → tallies size_shape s.views fork excluders ≡ 0 → tallies size_shape s.views fork unstored ≡ 0
+none_unstored s h fork e = total-none (λ (u : View). size_weight unstored (size_hold u fork)) s.views (λ j u here. let x = unstored_few (s.size fork) (size_hold u fork) ((h.words (suc fork)).cells j u fork here (omega arith)) in let y = term_le (λ (z : View). size_weight excluders (size_hold z fork)) s.views j u here in omega arith)
 
 -- Backend i, whose view is v, makes a step at the size of a fork
 module _ (s : State) (h : SizesLaw s) (i fork : ℕ) (v : View) (there : get_elem? s.views i ≡ some v) where
@@ -288,13 +285,17 @@ module _ (s : State) (h : SizesLaw s) (i fork : ℕ) (v : View) (there : get_ele
   weighs : (k : SizeTally) → size_weight k (size_hold v fork) ≤ tallies size_shape s.views fork k
   weighs k = term_le (λ (u : View). size_weight k (size_hold u fork)) s.views i v there
 
+  -- while a view has the exclusive right, the word's bit is set
+  pub exclusive_stands : (size_hold v fork).right ≡ size_right.Exclusive → (s.size fork).exclusive ≡ true
+  exclusive_stands right = stands (s.size fork) (size_hold v fork) (tallies size_shape s.views fork) column (weighs excluders) right
+    where
+      stands : (w : SizeWord) (x : SizeHold) (t : SizeTally → ℕ) → SizeLaw w t → size_weight excluders x ≤ t excluders → x.right ≡ size_right.Exclusive → w.exclusive ≡ true
+      stands w x t c le e = grind (arith, c, le, e)
+
   -- a view with a shared right has found the fork's size by the log
   pub shared_finds : (size_hold v fork).right ≡ size_right.Shared → (size_hold v fork).blocks ≡ (s.size fork).logged
-  shared_finds right = let c = column in let d = cell in finds (s.size fork) (size_hold v fork) (tallies size_shape s.views fork) c d (weighs sharers) right none
+  shared_finds right = let c = column in let d = cell in finds (s.size fork) (size_hold v fork) (tallies size_shape s.views fork) c d (weighs sharers) right (none_unstored s h fork)
     where
-      none : tallies size_shape s.views fork excluders ≡ 0 → tallies size_shape s.views fork unstored ≡ 0
-      none e = total-none (λ (u : View). size_weight unstored (size_hold u fork)) s.views (λ j u here. let x = unstored_few (s.size fork) (size_hold u fork) ((h.words (suc fork)).cells j u fork here (omega arith)) in let y = term_le (λ (z : View). size_weight excluders (size_hold z fork)) s.views j u here in omega arith)
-
       finds : (w : SizeWord) (x : SizeHold) (t : SizeTally → ℕ) → SizeLaw w t → SizeHoldLaw w x → size_weight sharers x ≤ t sharers → x.right ≡ size_right.Shared → (t excluders ≡ 0 → t unstored ≡ 0) → x.blocks ≡ w.logged
       finds w x t c d le right none = grind (arith, c, d, le, right, none)
 
@@ -363,7 +364,7 @@ module _ (s : State) (h : SizesLaw s) (i fork : ℕ) (v : View) (there : get_ele
   mine : (j f : ℕ) (u : View) → (size_hold v fork).right ≡ size_right.Exclusive → get_elem? s.views j ≡ some u → f < s.frames → (link u f).noted ≡ true → tag_fork (s.frame f).tag ≡ fork → (link v f).noted ≡ true
   mine j f u right here below noted of = dite (ℕ_discrete j i)
       (λ e. ap (λ (x : View). (link x f).noted) (some-injective v u (sym there ∙ ap (λ (z : ℕ). get_elem? s.views z) (sym e) ∙ here)) ∙ noted)
-      (λ o. let x = excludes_others j u o here right in let y = (subst (λ (z : ℕ). MayResize s u z) of (h.noted j f u here below noted).may).right in absurd (two_rights (sym x ∙ y)))
+      (λ o. let x = excludes_others j u o here right in let y = (subst (λ (z : ℕ). MayResize s u z) of (h.noted j f u here below noted).may).right in absurd (rights_differ (sym x ∙ y)))
 
   pub other_logged : (k : SizeKind) (g : ℕ) → g ≢ fork → (put s.size fork (size_after k (s.size fork)) g).logged ≡ (s.size g).logged
   other_logged k g o = ap (λ (x : SizeWord). x.logged) ((puts s.size fork (size_after k (s.size fork)) g).other o)
@@ -385,7 +386,7 @@ module _ (s : State) (h : SizesLaw s) (i fork : ℕ) (v : View) (there : get_ele
       (subst (λ (x : List ℕ). Contains x f) passed_same (subst (λ (x : SizeHold). Contains x.passed f) now has)) below named))
       (λ o. let now : size_hold u g ≡ size_hold v g = ap (λ (x : View). size_hold x g) (sym t.1) ∙ (resized k fork s v).else g o in
       h.passed i g n f v there (ap (λ (x : SizeHold). x.cut_to) (sym now) ∙ to) (subst (λ (x : SizeHold). Contains x.passed f) now has) below named))
-      (λ (t : (j ≢ i) × (get_elem? s.views j ≡ some u)). h.passed j g n f u t.1 to has below named) (set_at s.views i v (view_sized k fork s v) there j u here)
+      (λ (t : (j ≢ i) × (get_elem? s.views j ≡ some u)). h.passed j g n f u t.1 to has below named) (at_set s.views i j (view_sized k fork s v) u here)
 
   quiet_after : (k : SizeKind) → (size_after k (s.size fork)).exclusive ≡ (s.size fork).exclusive → s.resizes ≡ false → (g : ℕ) → (put s.size fork (size_after k (s.size fork)) g).exclusive ≡ false
   quiet_after k same e g = dite (ℕ_discrete g fork) (λ is. ap (λ (x : SizeWord). x.exclusive) ((puts s.size fork (size_after k (s.size fork)) g).same is) ∙ same ∙ h.quiet e fork) (λ o. ap (λ (x : SizeWord). x.exclusive) ((puts s.size fork (size_after k (s.size fork)) g).other o) ∙ h.quiet e g)
@@ -415,7 +416,7 @@ module _ (s : State) (h : SizesLaw s) (i fork : ℕ) (v : View) (there : get_ele
     inside_named : (j f : ℕ) (u : View) → get_elem? (set s.views i (view_sized (enter_cut n end) fork s v)) j ≡ some u → f < s.frames → (link u f).inside ≡ true → (s.frame f).tag ≢ no_tag
     inside_named j f u here below e = ⊎_elim
         (λ (t : (j ≡ i) × (view_sized (enter_cut n end) fork s v ≡ u)). named_by (s.frame f) (link v f) (p.grid.cells i v f there below) (ap (λ (x : View). (link x f).inside) t.1 ∙ e))
-        (λ (t : (j ≢ i) × (get_elem? s.views j ≡ some u)). named_by (s.frame f) (link u f) (p.grid.cells j u f t.1 below) e) (set_at s.views i v (view_sized (enter_cut n end) fork s v) there j u here)
+        (λ (t : (j ≢ i) × (get_elem? s.views j ≡ some u)). named_by (s.frame f) (link u f) (p.grid.cells j u f t.1 below) e) (at_set s.views i j (view_sized (enter_cut n end) fork s v) u here)
 
     pub cut_law : SizesLaw cut_state
     cut_law = let w : View = view_sized (enter_cut n end) fork s v in record {
@@ -425,8 +426,8 @@ module _ (s : State) (h : SizesLaw s) (i fork : ℕ) (v : View) (there : get_ele
           (λ (t : (j ≡ i) × (w ≡ u)). let was : (link v f).noted ≡ true = ap (λ (x : View). (link x f).noted) t.1 ∙ e in let o = unnoted i f v there below was in let at = h.noted i f v there below was in
           subst (λ (x : View). IsAtSize cut_state x (s.frame f).tag) t.1 (cut_noted w f o (other_may (enter_cut n end) (tag_fork (s.frame f).tag) o at.may) at.at))
           (λ (t : (j ≢ i) × (get_elem? s.views j ≡ some u)). let at = h.noted j f u t.1 below e in cut_noted u f (unnoted j f u t.1 below e) (record { right = at.may.right; unmade = at.may.unmade }) at.at)
-          (set_at s.views i v w there j u here);
-      insides = λ j f u here below e. cut_block f below (inside_named j f u here below e) (⊎_elim (λ (t : (j ≡ i) × (w ≡ u)). h.insides i f v there below (ap (λ (x : View). (link x f).inside) t.1 ∙ e)) (λ (t : (j ≢ i) × (get_elem? s.views j ≡ some u)). h.insides j f u t.1 below e) (set_at s.views i v w there j u here));
+          (at_set s.views i j w u here);
+      insides = λ j f u here below e. cut_block f below (inside_named j f u here below e) (⊎_elim (λ (t : (j ≡ i) × (w ≡ u)). h.insides i f v there below (ap (λ (x : View). (link x f).inside) t.1 ∙ e)) (λ (t : (j ≢ i) × (get_elem? s.views j ≡ some u)). h.insides j f u t.1 below e) (at_set s.views i j w u here));
       passed = passed_after (enter_cut n end) refl refl;
       quiet = quiet_after (enter_cut n end) refl;
     }
@@ -484,33 +485,29 @@ module _ (s : State) (h : SizesLaw s) (i fork : ℕ) (v : View) (there : get_ele
           subst (λ (x : View). IsAtSize grown_state x (s.frame f).tag) t.1 (grown_at grown_view f other (other_may grown (tag_fork (s.frame f).tag) other at.may) at.at))
           (λ (t : (j ≢ i) × (get_elem? s.views j ≡ some u)). let at = h.noted j f u t.1 below e in
           grown_at u f (λ of. dite (ℕ_discrete f g)
-          (λ same. let x = excludes_others j u t.0 t.1 a.may.right in let y = (subst (λ (z : ℕ). MayResize s u z) of at.may).right in two_rights (sym x ∙ y))
+          (λ same. let x = excludes_others j u t.0 t.1 a.may.right in let y = (subst (λ (z : ℕ). MayResize s u z) of at.may).right in rights_differ (sym x ∙ y))
           (λ o. only j f u t.1 below e o of)) (record { right = at.may.right; unmade = at.may.unmade }) at.at)
-          (set_at s.views i v grown_view there j u here);
+          (at_set s.views i j grown_view u here);
       insides = λ j f u here below e. dite (ℕ_discrete f g)
           (λ same. subst (λ (z : ℕ). is_block grown_state (s.frame z).tag ≡ true) (sym same) new_block)
           (λ o. grown_block (s.frame f).tag (⊎_elim
           (λ (t : (j ≡ i) × (grown_view ≡ u)). h.insides i f v there below (sym (ap (λ (x : Link). x.inside) (get_or-set_other v.links g f (extended_link (link v g)) idle o)) ∙ ap (λ (x : View). (link x f).inside) t.1 ∙ e))
-          (λ (t : (j ≢ i) × (get_elem? s.views j ≡ some u)). h.insides j f u t.1 below e) (set_at s.views i v grown_view there j u here)));
+          (λ (t : (j ≢ i) × (get_elem? s.views j ≡ some u)). h.insides j f u t.1 below e) (at_set s.views i j grown_view u here)));
       passed = passed_after grown refl refl;
       quiet = quiet_after grown refl;
     }
-
-  -- a shared right or none has to do with no cut
-  no_cut : {A : Type 0} (n : ℕ) → None ≡ Some n → A
-  no_cut n e = absurd (cc)
 
   pub size_keeps_law : (k : SizeKind) → PinInvariant s → v.emptied ≡ false → SizeAllowed k s v fork → SizesLaw (state_sized k s i fork v)
   size_keeps_law load_size p live a = plain_change load_size (λ g end e. absurd (cc)) a refl (λ f below e. h.insides i f v there below e)
       (λ f below noted of. let x = noted_may f below noted of in (x.right, x.unmade)) same_passes (λ e. h.quiet e fork)
   size_keeps_law share_size p live a = plain_change share_size (λ g end e. absurd (cc)) a refl (λ f below e. h.insides i f v there below e)
-      (λ f below noted of. absurd (two_rights (sym a.unheld ∙ (noted_may f below noted of).right))) (λ n f e. no_cut n e) (λ e. h.quiet e fork)
+      (λ f below noted of. absurd (rights_differ (sym a.unheld ∙ (noted_may f below noted of).right))) (λ n f e. absurd (none-some n e)) (λ e. h.quiet e fork)
   size_keeps_law exclude_size p live a = plain_change exclude_size (λ g end e. absurd (cc)) a refl (λ f below e. h.insides i f v there below e)
-      (λ f below noted of. absurd (two_rights (sym a.free.unheld ∙ (noted_may f below noted of).right))) (λ n f e. no_cut n e) (λ e. absurd (two_flags (sym e ∙ a.allowed)))
+      (λ f below noted of. absurd (rights_differ (sym a.free.unheld ∙ (noted_may f below noted of).right))) (λ n f e. absurd (none-some n e)) (λ e. absurd (false≢true (sym e ∙ a.allowed)))
   size_keeps_law (unshare_size seen) p live a = plain_change (unshare_size seen) (λ g end e. absurd (cc)) a refl (sees_block seen p live a)
-      (λ f below noted of. absurd (shared_right (sym a.right ∙ (noted_may f below noted of).right))) (λ n f e. no_cut n e) (λ e. h.quiet e fork)
+      (λ f below noted of. absurd (shared_right (sym a.right ∙ (noted_may f below noted of).right))) (λ n f e. absurd (none-some n e)) (λ e. h.quiet e fork)
   size_keeps_law unexclude_size p live a = plain_change unexclude_size (λ g end e. absurd (cc)) a refl (λ f below e. h.insides i f v there below e)
-      (λ f below noted of. absurd (a.unnoted f below noted of)) (λ n f e. no_cut n e) (λ e. refl)
+      (λ f below noted of. absurd (a.unnoted f below noted of)) (λ n f e. absurd (none-some n e)) (λ e. refl)
   size_keeps_law (pass_frame f n) p live a = plain_change (pass_frame f n) (λ g end e. absurd (cc)) a refl (λ f below e. h.insides i f v there below e)
       (λ f below noted of. let x = noted_may f below noted of in (x.right, x.unmade)) (passes_frame f n a) (λ e. h.quiet e fork)
   size_keeps_law store_size p live a = plain_change store_size (λ g end e. absurd (cc)) a refl (λ f below e. h.insides i f v there below e)
