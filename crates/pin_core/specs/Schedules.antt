@@ -1,5 +1,5 @@
 -- What every list of events keeps, in the field's words.
-use Rattle.std.specs.Prelude.{◌≡◌, ◌≢◌, ◌⊎◌, ℕ, ◌<◌, ◌≤◌, Bool, true, false, List, [], ◌∷◌, Option}
+use Rattle.std.specs.Prelude.{◌≡◌, ◌≢◌, ℕ, ◌<◌, ◌≤◌, Bool, true, false, List, [], ◌∷◌, Option}
 use Rattle.std.specs.Prelude.{Some, None, ◌↔◌, count_by, if◌then◌else◌}
 use mathlib.Core.Option.{some}
 use lib.ListN.{get_elem?}
@@ -15,7 +15,7 @@ use Rattle.pin_core.specs.State.{size_hold, pins_frame, opening}
 use Rattle.pin_core.specs.Invariant.{HasTag}
 use Rattle.pin_core.specs.Maps.{IsPair}
 use Rattle.pin_core.specs.Turns.{found}
-use Rattle.pin_core.specs.Sizes.{IsNoted}
+use Rattle.pin_core.specs.Sizes.{TagsAreBlocks}
 use Rattle.pin_core.specs.Kinds.{unpin}
 use Rattle.pin_core.specs.Steps.{Event, at, Run}
 
@@ -117,8 +117,7 @@ TagWordsAreTags s = (f : ℕ) → f < s.frames → (s.frame f).tag ≢ no_tag
 pub record TagWordsAreBlocks (s : State) : Type 0 where
   -- a tag word that isn't all ones is of a block of the relations, or of a new block, which a
   -- backend notes
-  pub noted : (f : ℕ) → f < s.frames → (s.frame f).tag ≢ no_tag
-      → (is_block s (s.frame f).tag ≡ true) ⊎ IsNoted s f
+  pub noted : TagsAreBlocks s
   -- if forks don't grow and shrink, a tag word that isn't all ones is of a block of the relations
   pub quiet : s.resizes ≡ false → (f : ℕ) → f < s.frames → (s.frame f).tag ≢ no_tag
       → is_block s (s.frame f).tag ≡ true
