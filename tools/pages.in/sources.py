@@ -139,20 +139,27 @@ def names_brought_in(lines):
     return scope
 
 
-def read_parts(kind, lines, pattern):
-    """The fields or cases in some lines, each with the comment above it. The pattern has groups for
-    the name and the text; a line that doesn't match it belongs to the part before."""
-    parts, comments = [], []
+def under_heads(lines, pattern):
+    """For each line that matches the pattern: the match, the text of the comments above it, and the
+    lines below it that belong to it."""
+    found, comments = [], []
     for line in lines:
-        found = pattern.match(line)
+        head = pattern.match(line)
         if is_comment(line):
             comments.append(line)
-        elif found:
-            parts.append(Part(kind, found[1], found[2], comment_text(comments)))
+        elif head:
+            found.append((head, comment_text(comments), []))
             comments = []
-        elif parts:
-            parts[-1].text += " " + line.strip()
-    return parts
+        elif found:
+            found[-1][2].append(line)
+    return found
+
+
+def read_parts(kind, lines, pattern):
+    """The fields or cases in some lines, each with the comment above it. The pattern has groups for
+    the name and the text."""
+    return [Part(kind, head[1], " ".join([head[2], *(x.strip() for x in more)]), comment)
+            for head, comment, more in under_heads(lines, pattern)]
 
 
 # ---- specs/ ----
@@ -283,18 +290,12 @@ def read_function(item, lines):
 
 def read_contract(lines):
     """The clauses in some lines, and the comments between them."""
-    parts, comments = [], []
-    for line in lines:
-        clause = CLAUSE.match(line)
-        if is_comment(line):
-            comments.append(line)
-        elif clause:
-            if comments:
-                parts.append(Part("comment", "", "", comment_text(comments)))
-            parts.append(Part(clause[1], clause[2], line[4:], ""))
-            comments = []
-        elif line:
-            parts[-1].text += "\n" + line[4:]
+    parts = []
+    for head, comment, more in under_heads(lines, CLAUSE):
+        if comment:
+            parts.append(Part("comment", "", "", comment))
+        text = "\n".join(x[4:] for x in [head.string, *more] if x)
+        parts.append(Part(head[1], head[2], text, ""))
     if parts:
         parts[-1].text = parts[-1].text.rstrip(";")             # of a trait's function
     return parts
