@@ -127,15 +127,20 @@ def refuse_two(items, path):
         raise SystemExit(f"{path}: no blank line above `{items[1].strip()}`: run rt fmt, then tools/pages")
 
 
-def names_brought_in(lines):
-    """What lines like `use MODULE.{A, B}` and `use MODULE as A` bring in."""
+USE = re.compile(r"^(?:ghost )?use ([\w.]+)(?:\.\{([^}]*)\}| as (\w+));?$", re.M)
+
+
+def names_brought_in(text):
+    """What lines like `use MODULE.{A, B as C}` and `use MODULE as A` bring in: the module of each
+    name, and its name there."""
     scope = {}
-    for line in lines:
-        found = re.match(r" *(?:ghost )?use ([\w.]+)(?:\.\{(.*)\}| as (\w+));?$", line)
-        if found and found[3]:
-            scope[found[3]] = (found[1], "")
-        elif found and found[2]:
-            scope.update((name, (found[1], name)) for name in found[2].split(", "))
+    for module, names, alone in USE.findall(text):
+        if alone:
+            scope[alone] = (module, "")
+        for name in names.split(","):
+            there, _, here = name.strip().partition(" as ")
+            if there:
+                scope[here or there] = (module, there)
     return scope
 
 
@@ -174,7 +179,7 @@ CASE = re.compile(r" *([\w'?]+) : (.*)")
 def read_specs(crate, path):
     """The definitions in a file of specs/."""
     text = read(path)
-    scope = names_brought_in(text.split("\n"))
+    scope = names_brought_in(text)
     module = "Rattle." + path[len("crates/"):-len(".antt")].replace("/", ".")
     items, modules = [], []     # modules: the lines of those that are open, with their indentation
     for block in re.split(r"\n\n+", text.strip("\n")):
@@ -234,7 +239,7 @@ def read_source(crate, path):
     lines = text.split("\n")
     head = comment_text(x for x in lines if x.startswith("//!"))
     file = Item("file", os.path.basename(path), head, "", "", crate, path, {}, public=False)
-    scope = names_brought_in(x for x in lines if not x.startswith(" "))
+    scope = names_brought_in(text)
     return [file, *read_items(text, crate, path, scope)]
 
 
@@ -314,7 +319,7 @@ def read_body(item, lines):
     """The items in the body of an impl or a trait, whose lines these are."""
     first = next(at for at, x in enumerate(lines) if x.endswith(("{", "{}"))) + 1
     body = [re.sub("^    ", "", x) for x in lines[first:-1]]
-    item.scope = {**item.scope, **names_brought_in(body)}
+    item.scope = {**item.scope, **names_brought_in("\n".join(body))}
     return read_items("\n".join(body), item.crate, item.path, item.scope, item)
 
 
