@@ -32,10 +32,11 @@ class Citations:
     def in_text(self, text, scope):
         """What a clause or a definition cites, in its order. Names that it binds, and the labels of
         records, cite nothing."""
-        text = re.sub(r'(--|//)[^\n]*|"[^"\n]*"', "", text)
+        text = re.sub(r'(--|//)[^\n]*|"[^"\n]*"', "", text)       # without comments and strings
         binders = re.findall(r"[({]([\w ]+) :", text) + re.findall(r"λ ([\w ]+)\.", text)
         bound = set(" ".join(binders).split())
         found = []
+        # Names, perhaps with dots in them, that aren't labels of records (`a = ..`).
         for word in re.findall(r"(?<![\w.])[A-Za-z_][\w'?]*(?:\.[A-Za-z_]\w*)*(?! =[^=])", text):
             first, _, rest = word.partition(".")
             if first in scope and first not in bound:

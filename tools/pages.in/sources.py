@@ -283,7 +283,9 @@ def read_item(lines, head, crate, path, scope):
 
 
 def read_function(item, lines):
-    """Finds the signature and the contract of a function: what stands before its body."""
+    """Finds the signature and the contract of a function: what stands before its body, which begins
+    with a brace at the beginning of a line, or at the end of one that isn't indented. A function of a
+    trait may end in a semicolon instead."""
     end = next((at for at, x in enumerate(lines) if re.match(r"\{|\S.*[{};]$", x)), len(lines))
     first = next((at for at in range(end) if CLAUSE.match(lines[at])), end)
     while first and re.match(r" {4}//|$", lines[first - 1]):    # comments above the first clause
@@ -307,7 +309,8 @@ def read_contract(lines):
 
 
 def read_impl_head(item):
-    """Finds whose functions an impl has, and of which trait."""
+    """Finds whose functions an impl has, and of which trait: the words of its first line without the
+    type parameters, which are taken out from the innermost brackets on."""
     head = item.text.partition("{")[0].partition("\nwhere")[0].replace("->", "")
     while re.search(r"<[^<>]*>", head):
         head = re.sub(r"<[^<>]*>", "", head)
