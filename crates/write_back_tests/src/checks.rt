@@ -1,6 +1,9 @@
 //! What the tests compare with. A test calls these in place of `assert_eq!` and `assert!`: each of
 //! those is proved where it stands, with all that it may print, and takes the prover a second; a
 //! call takes it some hundredths.
+//!
+//! Each crate with tests that compare has its own copy, since no library may have the bound
+//! `Abort`, by which a check ends the test. Change all copies alike.
 use std::fmt::{Debug, Display};
 use std::process::Abort;
 
