@@ -119,13 +119,14 @@ fn grow_on(
     Ok(())
 }
 
-/// The files before, and in the end.
+/// The files before they grow.
 const BEFORE: [(&str, &[(u8, usize)]); 3] = [
     ("rows", &[(1, 8192), (2, 8192)]),
     ("rows.1", &[(3, 8192)]),
     ("index", &[(4, 8192)]),
 ];
 
+/// The files in the end.
 const GROWN: [(&str, &[(u8, usize)]); 8] = [
     ("rows", &[(1, 8192), (2, 8192)]),
     ("rows.1", &[(3, 8192), (0, 8192)]),
@@ -156,8 +157,8 @@ fn refusal(
     host.relations(alloc, entries, 2, 1).err()
 }
 
-/// Two relations, or two forks, don't share a file: neither by its path nor by a link, nor as a segment
-/// that isn't there yet.
+/// Two relations, or two forks, don't share a file: neither by its path nor by a link, nor as a
+/// segment that isn't there yet.
 #[test]
 fn entries_have_their_own_files(rt: HostRuntime) -> Result<(), Fail> {
     let alloc = rt.alloc();

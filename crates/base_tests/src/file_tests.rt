@@ -15,7 +15,8 @@ use std::sync::atomic::{AtomicU32, Ordering};
 use std::test::Fail;
 use std::{fs, io};
 
-/// Real files, which have their sizes, with syncs that are counted together. One of the syncs fails.
+/// Real files, which have their sizes, with syncs that are counted together. One of the syncs
+/// fails.
 #[derive(Drop)]
 struct CountedFiles<'a> {
     rt: &'a HostRuntime,
@@ -154,7 +155,8 @@ where
     (synced, syncs.load(Ordering::SeqCst))
 }
 
-/// Syncs each lane three times. What the failed sync was to make durable may be lost, so no later one succeeds.
+/// Syncs each lane three times. What the failed sync was to make durable may be lost, so no later
+/// one succeeds.
 fn sync_lanes<R: Files>(rt: &impl Abort, lanes: &mut [FileLane<'_, R>], syncs: &AtomicU32)
 where
     R::File: FileExt,
@@ -169,7 +171,7 @@ where
     }
 }
 
-/// The lanes of the relation at a path are synced.
+/// Syncs the lanes of the relation at a path.
 fn sync_files(
     rt: &impl Abort,
     alloc: Global,

@@ -102,7 +102,8 @@ fn use_relation(
     Ok((host.read_faults(), host.write_faults()))
 }
 
-/// Files, what two lanes do with them as `use_relation` says, what it returns, and what the files have then.
+/// Files, what two lanes do with them as `use_relation` says, what it returns, and what the files
+/// have then.
 #[derive(Clone, Copy)]
 struct Growth<'a> {
     before: &'a [(&'a str, &'a [(u8, usize)])],
@@ -241,7 +242,8 @@ type Beside = (
     ([Result<usize, Failed>; 2], [u8; 8]),
 );
 
-/// Reads logs while the relation is open: another name of its file, one that isn't there, and one that is.
+/// Reads logs while the relation is open: another name of its file, one that isn't there, and one
+/// that is.
 fn read_beside(alloc: Global, host: &mut FileHost<HostRuntime>) -> Result<Beside, HostError> {
     let lanes = host.relation(alloc, "redone", 2, 1)?.lanes;
     let refused = [

@@ -74,7 +74,8 @@ fn lane_plan(alloc: Global) -> Result<LanePlan, AllocError> {
     })
 }
 
-/// The second opening of a source fails, the second call of each does, and a call gives three bytes at most.
+/// The second opening of a source fails, the second call of each does, and a call gives three bytes
+/// at most.
 fn source_plan(alloc: Global) -> Result<SourcePlan, AllocError> {
     Ok(SourcePlan::new(failing(alloc, 2)?, failing(alloc, 2)?, 3))
 }
@@ -134,7 +135,7 @@ fn use_relation(rt: &impl Abort, alloc: Global, host: &mut MemHost) -> Result<()
     Ok(())
 }
 
-/// The byte at this place, 0 past the end.
+/// The byte at a place, 0 past the end.
 fn byte_at(bytes: &[u8], place: usize) -> u8 {
     match bytes.get(place) {
         Some(byte) => *byte,
@@ -142,7 +143,7 @@ fn byte_at(bytes: &[u8], place: usize) -> u8 {
     }
 }
 
-/// Those at these places.
+/// The bytes at these places, 0 past the end.
 fn bytes_at(bytes: &[u8], places: [usize; 4]) -> [u8; 4] {
     let [first, second, third, fourth] = places;
     [

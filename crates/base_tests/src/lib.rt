@@ -1,5 +1,5 @@
-//! Tests of the crates at the bottom, on values worked out by hand: tags, state words, rings, logs and hosts, failures
-//! that leave a part, and real files. There is nothing in it to call.
+//! Tests of the crates at the bottom, on values worked out by hand: tags, state words, rings, logs
+//! and hosts, failures that leave a part, and real files. There is nothing in it to call.
 #![tactic(auto)]
 
 #[cfg(test)]

@@ -1,5 +1,5 @@
-//! Failures that leave a part, a writer that takes little, a file that counts its syncs, and sources
-//! of which a call fails.
+//! Failures that leave a part, a writer that takes little, a file that counts its syncs, and
+//! sources of which a call fails.
 use crate::checks::{check, check_eq};
 use log_device::{
     Failed, FaultPlan, FileLog, FileSource, LogDevice, LogPlan, MemLog, MemSink, MemSource, Sink,
@@ -91,7 +91,8 @@ fn sink_over_a_writer(rt: HostRuntime) {
     check_eq!(rt; sink.faults(), 1);
 }
 
-/// A file that takes no bytes but those of its first write, and counts its syncs, one of which fails.
+/// A file that takes no bytes but those of its first write, and counts its syncs, one of which
+/// fails.
 #[derive(Drop)]
 struct CountedFile<'a> {
     full: bool,

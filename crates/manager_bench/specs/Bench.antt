@@ -12,7 +12,7 @@ use Rattle.backend_pass.specs.Managers.{Belongs}
 use Rattle.backend_pass.specs.Passes.{PassState}
 
 module _ {L G : Type 0} (contents : L → Option Pages) where
-  -- It is the pass number i of the manager's three
+  -- The pass is number i of the manager's three
   pub record IsNumber (m : Manager L G) (i : ℕ) (p : PassState) : Type 0 where
     pub belongs : Belongs contents m p
     pub number : p.view.number ≡ i
@@ -22,13 +22,13 @@ module _ {L G : Type 0} (contents : L → Option Pages) where
     pub rest : i ≡ 0 → p.queue.known.parts + 3 ≡ all_parts + 1
     pub part : i ≢ 0 → p.queue.known.parts ≡ 1
 
-  -- and it has neither tokens nor content locks
+  -- The pass is number i of the three, and has neither tokens nor content locks
   pub record IsFree (m : Manager L G) (i : ℕ) (p : PassState) : Type 0 where
     pub is : IsNumber m i p
     pub spent : p.tokens ≡ no_tokens
     pub unlocked : (f : ℕ) → HasLock Unlocked f p
 
-  -- It has this token alone, this content lock of its frame, and no other one
+  -- The pass has this token alone, this content lock of its frame, and no other content lock
   pub record HasOnly (lock : Content) (pinned : Pinned) (m : Manager L G) (i : ℕ)
       (p : PassState) : Type 0 where
     pub is : IsNumber m i p
@@ -38,6 +38,6 @@ module _ {L G : Type 0} (contents : L → Option Pages) where
     pub others : (f : ℕ) → f ≢ pinned.frame → HasLock Unlocked f p
 
 module _ {L G : Type 0} where
-  -- It is so in a manager over lanes that don't tell what they hold
+  -- The pass is free in a manager over lanes that don't tell what they hold
   abbrev pub IsFreeIn : Manager L G → ℕ → PassState → Type 0
   IsFreeIn m i p = IsFree (λ _. None) m i p

@@ -16,7 +16,7 @@ pub struct Bench<L: BlockLane, G: LogDevice> {
     pub first: Pass,
     pub second: Pass,
     pub third: Pass,
-    /// Empty, with room for them.
+    /// Empty, with room for the three passes.
     pub passes: Vec<Pass>,
     ghost room: { (passes.items ≡ []) × (3 ≤ vec_capacity passes) },
 }
@@ -32,7 +32,7 @@ pub fn catalog(alloc: Global, blocks: u32) -> Result<Catalog, CatalogError> {
     Catalog::build(alloc, &[entry])
 }
 
-/// The name of one of its blocks.
+/// The tag of a block of its main fork.
 pub fn block(number: u32) -> Tag {
     Tag {
         rel: RelNo(0),

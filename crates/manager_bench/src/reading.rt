@@ -35,7 +35,7 @@ pub fn pin<L: BlockLane, G: LogDevice, R: Wait>(
     pass.read_buffer(manager, rt, tag, ring)
 }
 
-/// Releases it.
+/// Releases a block.
 pub fn unpin<L: BlockLane, G: LogDevice, R: Wait>(
     manager: &Manager<L, G>,
     rt: &R,

@@ -22,7 +22,7 @@ logs_cross = search (sendable, crosses, over.crosses) depth 30
 pub managers_shared : (b : log_device.Ghosts log.the_row.Denot) → IsSync (manager.the_row lane.the_row log.the_row test_lane.ghosts b)
 managers_shared b = passes.managers_shared lane.the_row log.the_row test_lane.ghosts b lanes_cross logs_cross
 
--- what captures five values may cross threads where they may
+-- what captures five values may cross threads if they may
 pub five_sent : (ν : Sym) (A B C D E : RattleType) → IsSend A → IsSend B → IsSend C → IsSend D → IsSend E → IsSend (TupleAt ν (A ∷ B ∷ C ∷ D ∷ E ∷ []))
 five_sent ν A B C D E a b c d e = search (sendable, crosses) depth 20
 

@@ -9,25 +9,25 @@ use Rattle.backend_pass.specs.Locks.{HasLock}
 use Rattle.backend_pass.specs.Managers.{Belongs}
 use Rattle.backend_pass.specs.Passes.{KeepsLocks, PassState, SamePass}
 
--- It has this token, and no content lock of its frame
+-- The pass has this token, and no content lock of its frame
 pub record HasToken (pinned : Pinned) (p : PassState) : Type 0 where
   pub token : IsPinnedFor pinned.tag pinned.frame p.tokens
   pub unlocked : HasLock Unlocked pinned.frame p
 
 module _ {L G : Type 0} (contents : L → Option Pages) where
-  -- It has no content lock
+  -- The pass has no content lock
   pub record IsUnlocked (m : Manager L G) (p : PassState) : Type 0 where
     pub belongs : Belongs contents m p
     pub unlocked : (f : ℕ) → HasLock Unlocked f p
 
-  -- Calls left it with the tokens and the content locks that it had
+  -- Calls left the pass with the tokens and the content locks that it had
   pub record Returns (m : Manager L G) (p q : PassState) : Type 0 where
     pub belongs : Belongs contents m q
     pub same : SamePass p q
     pub tokens : q.tokens ≡ p.tokens
     pub locks : KeepsLocks p q
 
-  -- Calls left it without one token of the frame f, and with the others and the content locks that it had
+  -- Calls left the pass with all its tokens but one of the frame f, and with its content locks
   pub record ReturnsWithout (m : Manager L G) (f : ℕ) (p q : PassState) : Type 0 where
     pub belongs : Belongs contents m q
     pub same : SamePass p q

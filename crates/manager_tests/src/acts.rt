@@ -52,11 +52,12 @@ pub enum Pair {
     CopyAroundPut,
     /// The second tries the content lock of this block, which the first has exclusively.
     LockBesideExclusive(u32),
-    /// And one that the first shares.
+    /// The second tries the content lock of this block, which the first shares.
     LockBesideShared(u32),
     /// The first tries the cleanup lock of block 0, which the second pins.
     CleanBeside,
-    /// And with two tokens of this block, and with one.
+    /// The first tries the cleanup lock of this block, which the second pins, with two tokens of
+    /// it, and with one.
     CleanTwiceBeside(u32),
     /// Each copies the pages of all blocks up to this one, in a thread of its own.
     CopyAll(u32),
@@ -75,7 +76,7 @@ pub enum All {
     CopyBeside(u32),
 }
 
-/// What is done.
+/// What is done, and by which passes.
 #[derive(Clone, Copy)]
 pub enum Act {
     First(Own),
@@ -85,7 +86,7 @@ pub enum Act {
     Three(All),
 }
 
-/// What came of it; None if a block wasn't read, or there was no memory.
+/// What came of an act; None if a block wasn't read, or there was no memory.
 #[derive(Clone, Copy, PartialEq, Debug)]
 pub enum Answer {
     Read(Result<Access, ReadError>),
@@ -111,9 +112,9 @@ pub enum Answer {
 pub struct Pages {
     /// The page that is put.
     pub put: Page,
-    /// Those that are copied before a put and after it.
+    /// The pages that are copied before a put and after it.
     pub copies: (Page, Page),
-    /// The one that is copied under a content lock.
+    /// The page that is copied under a content lock.
     pub shared: Page,
 }
 
@@ -132,7 +133,7 @@ impl Pages {
     }
 }
 
-/// A pass does this alone.
+/// Does what a pass does alone.
 fn perform_own<R: Wait>(
     manager: &TestManager,
     rt: &R,
@@ -166,7 +167,7 @@ fn perform_own<R: Wait>(
     }
 }
 
-/// The first pass and the second one do this.
+/// Does what the first pass and the second one do together.
 fn perform_pair<R: Threads + Wait + Sync>(
     manager: &TestManager,
     rt: &R,
@@ -203,7 +204,7 @@ fn perform_pair<R: Threads + Wait + Sync>(
     }
 }
 
-/// All three do this.
+/// Does what all three passes do together.
 fn perform_three<R: Threads + Wait + Sync>(
     manager: &TestManager,
     rt: &R,

@@ -258,7 +258,7 @@ fn put(lsn: Lsn) -> Answer {
     Answer::Put(Some(Ok(lsn)))
 }
 
-/// One that was refused.
+/// A put that was refused.
 fn put_refused(why: PutError) -> Answer {
     Answer::Put(Some(Err(why)))
 }

@@ -19,12 +19,12 @@ static REDONE: [&str; 5] = [
     "log 0/16B3740 0/16BB7C0 entries 4\nblocks 4 redone\n",
 ];
 
-/// A call that fails, of a device's calls the one with this number; the status; of how many pages the
-/// record was redone; and which one was torn.
+/// A call that fails, of a device's calls the one with this number; the status; of how many pages
+/// the record was redone; and which one was torn.
 type Row = (Call, u64, u8, usize, Option<usize>);
 
-/// Each call of a recovery of one page. Its log is read in four pieces: the head, the record in two, and
-/// nothing after it.
+/// Each call of a recovery of one page. Its log is read in four pieces: the head, the record in
+/// two, and nothing after it.
 static FAULTS: [Row; 9] = [
     (Call::Opening, 1, 4, 0, None),
     (Call::SourceOpening, 1, 4, 0, None),
@@ -37,7 +37,7 @@ static FAULTS: [Row; 9] = [
     (Call::Put, 1, 7, 1, None),
 ];
 
-/// What is put of the text: half of it where the put fails, as the sink takes it, and else nothing.
+/// What is put of the text: half of it if the put fails, as the sink takes it, and else nothing.
 fn text_put(status: u8) -> &'static str {
     match status {
         7 => "log 0/16B3740 0/16B5760 e",
@@ -64,8 +64,9 @@ fn recovery_by(log: Option<&[u8]>) -> (u8, &'static str, &'static str) {
     }
 }
 
-/// Fails the test unless what is left of a relation here, with these bytes of the log of its rewrite, is
-/// recovered where no call fails: each page that has a whole record is that one, and no other is.
+/// Fails the test unless what is left of a relation here, with these bytes of the log of its
+/// rewrite, is recovered if no call fails: each page that has a whole record is that one, and no
+/// other is.
 pub(crate) fn check_recovery<R: Abort + Threads + Wait + Sync>(
     rt: &R,
     alloc: Global,
@@ -87,7 +88,8 @@ pub(crate) fn check_recovery<R: Abort + Threads + Wait + Sync>(
     Ok(())
 }
 
-/// Fails the test unless a recovery in which the row's call fails ends so, and one after it is whole.
+/// Fails the test unless a recovery in which the row's call fails ends so, and one after it is
+/// whole.
 fn check_fault<R: Abort + Threads + Wait + Sync>(
     rt: &R,
     alloc: Global,
@@ -123,8 +125,8 @@ fn two_pages(alloc: Global, first: &[u8], second: &[u8]) -> Result<Vec<u8>, Fail
     Ok(bytes)
 }
 
-/// A relation of three blocks, in segments of two, gets block 5 where it may have three segments. Where it
-/// may have two, nothing is written.
+/// A relation of three blocks, in segments of two, gets block 5 if it may have three segments. If
+/// it may have two, nothing is written.
 #[test]
 fn a_relation_grows_into_its_room(rt: HostRuntime) -> Result<(), Fail> {
     let alloc = rt.alloc();

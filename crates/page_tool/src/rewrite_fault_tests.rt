@@ -19,13 +19,13 @@ const TEXT: &str =
 /// The log that an older rewrite left.
 const OLD_LOG: &[u8] = b"old";
 
-/// A call that fails, of a device's calls the one with this number; the status; how many of the first
-/// pages are rewritten; which one was torn; and how many bytes FILE has of the whole rewrite's log: none
-/// where it is the old one.
+/// A call that fails, of a device's calls the one with this number; the status; how many of the
+/// first pages are rewritten; which one was torn; and how many bytes FILE has of the whole
+/// rewrite's log: none if it is the old one.
 type Row = (Call, u64, u8, usize, Option<usize>, Option<usize>);
 
-/// Each call of a rewrite of four pages, as they come. A record has 8224 bytes, and the log takes half of
-/// a piece whose append fails.
+/// Each call of a rewrite of four pages, as they come. A record has 8224 bytes, and the log takes
+/// half of a piece whose append fails.
 static FAULTS: [Row; 24] = [
     // The survey reads each page.
     (Call::Opening, 1, 4, 0, None, None),
@@ -59,7 +59,7 @@ static FAULTS: [Row; 24] = [
     (Call::Put, 2, 0, 4, None, Some(32912)),
 ];
 
-/// What is put of the text: half of it where the put fails, as the sink takes it.
+/// What is put of the text: half of it if the put fails, as the sink takes it.
 fn text_put(status: u8) -> &'static str {
     match status {
         0 => TEXT,
@@ -68,7 +68,7 @@ fn text_put(status: u8) -> &'static str {
     }
 }
 
-/// Rewrites these pages where these calls fail, with a log, if there is one.
+/// Rewrites these pages on a host of which these calls fail, with a log, if there is one.
 fn rewrite_over<R: Threads + Wait + Sync>(
     rt: &R,
     alloc: Global,
@@ -79,8 +79,8 @@ fn rewrite_over<R: Threads + Wait + Sync>(
     answer_of(rt, alloc, LINE, stored(&[pages], log), failing)
 }
 
-/// Fails the test unless a rewrite in which the row's call fails ends so, and what it leaves is recovered.
-/// The count of write faults rises with status 5 alone.
+/// Fails the test unless a rewrite in which the row's call fails ends so, and what it leaves is
+/// recovered. The count of write faults rises with status 5 alone.
 fn check_fault<R: Abort + Threads + Wait + Sync>(
     rt: &R,
     alloc: Global,

@@ -88,7 +88,7 @@ fn plan(alloc: Global, failing: &[u64]) -> Result<FaultPlan, Fail> {
     Ok(FaultPlan::new(failing.to_vec(alloc)?))
 }
 
-/// Three of them.
+/// Three plans.
 fn plans(alloc: Global, failing: [&[u64]; 3]) -> Result<[FaultPlan; 3], Fail> {
     let [first, second, third] = failing;
     Ok([
@@ -204,8 +204,8 @@ fn host_of(alloc: Global, before: Before, failing: Failing) -> Result<Box<MemHos
     Ok(Box::new(alloc, host)?)
 }
 
-/// Whether a block has its page with dead line pointers; of the first blocks, so many, whether it has the
-/// rewritten one.
+/// Whether a block has its page with dead line pointers; of the first blocks, so many, whether it
+/// has the rewritten one.
 fn is_left(block: usize, page: &[u8], rewritten: usize) -> bool {
     if block < rewritten {
         return page == rewritten_page(block).as_slice();
@@ -272,7 +272,7 @@ impl Answer {
         same
     }
 
-    /// The bytes of the relation, where it has one segment.
+    /// The bytes of the relation, if it has one segment.
     pub(crate) fn relation_bytes(&self) -> &[u8] {
         match self.relation.as_slice() {
             [segment] => segment.as_slice(),
@@ -280,8 +280,8 @@ impl Answer {
         }
     }
 
-    /// Whether the relation has so many pages with dead line pointers, of which the first ones, so many,
-    /// are rewritten. Of the torn block any page will do.
+    /// Whether the relation has so many pages with dead line pointers, of which the first ones, so
+    /// many, are rewritten. Of the torn block any page will do.
     pub(crate) fn has_pages(&self, count: usize, rewritten: usize, torn: Option<usize>) -> bool {
         let bytes = self.relation_bytes();
         let mut same = bytes.len() % 8192 == 0 && bytes.len() / 8192 == count;
@@ -357,8 +357,8 @@ fn sink(alloc: Global, room: usize, failing: &[u64]) -> Result<MemSink, Fail> {
     Ok(MemSink::new(alloc, room, plan(alloc, failing)?)?)
 }
 
-/// Runs a command line, whose words stand apart by blanks, on a host that has this and where these calls
-/// fail. Its output goes to a sink, and isn't in the answer.
+/// Runs a command line, its words separated by blanks, on a host that has this, and of which these
+/// calls fail. Its output goes to a sink, and isn't in the answer.
 pub(crate) fn answer_to<R: Threads + Wait + Sync, G: Gate + Sync, O: Sink + Send>(
     rt: &R,
     alloc: Global,

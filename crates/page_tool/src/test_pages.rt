@@ -14,8 +14,8 @@ const ONE_ITEM_BACK: [u8; 16] = [
     0x00, 0x00, 0x00, 0x00, 0x00, 0x00, 0x00, 0x00, 0x01, 0x02, 0x03, 0x04, 0x00, 0x00, 0x00, 0x00,
 ];
 
-/// Those of a page with three line pointers, of which the first and the third are dead: log position
-/// 0/16B3740, lower 36, upper 8176.
+/// Those of a page with three line pointers, of which the first and the third are dead: log
+/// position 0/16B3740, lower 36, upper 8176.
 const DEAD_ITEMS_FRONT: [u8; 36] = [
     0x00, 0x00, 0x00, 0x00, 0x40, 0x37, 0x6b, 0x01, 0x00, 0x00, 0x00, 0x00, 0x24, 0x00, 0xf0, 0x1f,
     0x00, 0x20, 0x04, 0x20, 0x00, 0x00, 0x00, 0x00, 0x00, 0x80, 0x01, 0x00, 0xf0, 0x9f, 0x08, 0x00,
@@ -86,7 +86,7 @@ pub(crate) fn repeated(alloc: Global, page: &[u8; 8192], count: u32) -> Result<V
     Ok(bytes)
 }
 
-/// The page with dead line pointers after its rewrite, where it is this block of the relation.
+/// The page with dead line pointers after its rewrite, if it is this block of the relation.
 pub(crate) fn rewritten_page(block: usize) -> [u8; 8192] {
     let mut page = page_of(&REWRITTEN_FRONT, &REWRITTEN_BACK);
     if let Some((_, _, end)) = RECORDS.get(block) {
@@ -95,7 +95,8 @@ pub(crate) fn rewritten_page(block: usize) -> [u8; 8192] {
     page
 }
 
-/// Appends the record of a block, of 8224 bytes, to a log: the page is what a rewrite makes of it there.
+/// Appends the record of a block, of 8224 bytes, to a log: the page is what a rewrite makes of it
+/// there.
 fn append_record(log: &mut Vec<u8>, block: u8, start: u32) -> Result<(), Fail> {
     log.extend_from_slice(&LOG_FRONT[16..36])?;
     log.extend_from_slice(&u32::from(block).to_le_bytes())?;
@@ -104,7 +105,8 @@ fn append_record(log: &mut Vec<u8>, block: u8, start: u32) -> Result<(), Fail> {
     Ok(())
 }
 
-/// A log with a head of 16 bytes and the record of a block: for block 0 that of a rewrite of one such page.
+/// A log with a head of 16 bytes and the record of a block: for block 0 that of a rewrite of one
+/// such page.
 pub(crate) fn one_page_log(alloc: Global, block: u8) -> Result<Vec<u8>, Fail> {
     let mut log = Vec::new(alloc);
     log.extend_from_slice(&LOG_FRONT[..16])?;

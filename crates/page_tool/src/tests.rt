@@ -21,13 +21,14 @@ const TURNS: u32 = 10_000_000;
 #[derive(Clone, Copy)]
 enum Holds {
     Nobody,
-    /// The first, before each of its blocks, until another one has come, and these until the first has.
+    /// The first, before each of its blocks, until another one has come, and these until the first
+    /// has.
     Each,
     /// The one that takes block 0, until block 8 was called, with which the next chunk begins.
     BlockZero,
 }
 
-/// Waits until this was set; false where it gave up.
+/// Waits until this was set; false if it gave up.
 fn has_come(came: &AtomicBool) -> bool {
     for _ in 0..TURNS {
         if came.load(Ordering::SeqCst) {
@@ -45,8 +46,8 @@ fn wait_a_while() {
     }
 }
 
-/// Holds workers. It counts the pins of blocks below 64, and adds up 1 << block of each: 64 pins that add up
-/// to all ones are one of each block.
+/// Holds workers. It counts the pins of blocks below 64, and adds up 1 << block of each: 64 pins
+/// that add up to all ones are one of each block.
 #[derive(Drop)]
 struct HoldingGate {
     holds: Holds,
@@ -142,8 +143,8 @@ fn answer_over<R: Threads + Wait + Sync>(
     answer_at(rt, alloc, command, pages(&[bytes]), NONE_FAIL, gate)
 }
 
-/// Runs a command by one worker, and by so many that are held: each block is pinned once, and the output
-/// is the same.
+/// Runs a command by one worker, and by so many that are held: each block is pinned once, and the
+/// output is the same.
 fn check_held<R: Abort + Threads + Wait + Sync>(
     rt: &R,
     alloc: Global,
@@ -204,8 +205,8 @@ fn a_sample_pins_its_blocks(rt: HostRuntime) -> Result<(), Fail> {
     Ok(())
 }
 
-/// Holds the first worker before its first block until the other one has read a page, and then for a
-/// while.
+/// Holds the first worker before its first block until the other one has read a page, and then for
+/// a while.
 #[derive(Drop)]
 struct SecondWorkerGate {
     other_read: AtomicBool,
@@ -227,8 +228,9 @@ impl Gate for SecondWorkerGate {
     }
 }
 
-/// The second worker's first record isn't written, and the first worker finds the log down: the status is
-/// that of a log fault, and no page is written. Half of a record follows the head of the log.
+/// The second worker's first record isn't written, and the first worker finds the log down: the
+/// status is that of a log fault, and no page is written. Half of a record follows the head of the
+/// log.
 #[test]
 fn the_log_is_down_for_the_others(rt: HostRuntime) -> Result<(), Fail> {
     let alloc = rt.alloc();
@@ -330,9 +332,9 @@ fn output_begins_at_once(rt: HostRuntime) -> Result<(), Fail> {
     Ok(())
 }
 
-/// Holds block 0 until block 39 was called, and then for some turns more. Of two workers, one has the
-/// first chunk then, and the other the next four, of which the window takes the texts of three. It
-/// notes whether a block after those was called meanwhile.
+/// Holds block 0 until block 39 was called, and then for some turns more. Of two workers, one has
+/// the first chunk then, and the other the next four, of which the window takes the texts of three.
+/// It notes whether a block after those was called meanwhile.
 #[derive(Drop)]
 struct FullWindowGate {
     came: AtomicBool,
@@ -380,8 +382,8 @@ fn a_full_window_holds_workers_up(rt: HostRuntime) -> Result<(), Fail> {
 /// How many backends scan, and which put fails: that of a chunk's text, or that of the totals.
 static FAILING_PUTS: [(u32, u64); 4] = [(1, 51), (1, 101), (7, 51), (7, 101)];
 
-/// The text of each chunk of 800 pages goes out in one piece, and the totals in another: what was put before
-/// a piece that fails stays.
+/// The text of each chunk of 800 pages goes out in one piece, and the totals in another: what was
+/// put before a piece that fails stays.
 #[test]
 fn later_pieces_may_fail(rt: HostRuntime) -> Result<(), Fail> {
     let alloc = rt.alloc();
@@ -400,8 +402,8 @@ fn later_pieces_may_fail(rt: HostRuntime) -> Result<(), Fail> {
     Ok(())
 }
 
-/// Scans of three new pages, which are one chunk, the calls that fail, the status, and what is printed: of
-/// a chunk that wasn't read to its end nothing.
+/// Scans of three new pages, which are one chunk, the calls that fail, the status, and what is
+/// printed: of a chunk that wasn't read to its end nothing.
 static FAULTS: [(&str, Failing, u8, &str, &str); 4] = [
     (
         "scan base/5/16384 --lanes 1",

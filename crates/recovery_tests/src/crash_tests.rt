@@ -47,7 +47,8 @@ impl Found {
     }
 }
 
-/// The bytes of a block as it was found, if it is there. A block without a record is as it was before.
+/// The bytes of a block as it was found, if it is there. A block without a record is as it was
+/// before.
 fn bytes_found((item, lsn): (u8, Lsn), after: Kept, found: Found) -> Option<[u8; 8192]> {
     let before = page_bytes(item, lsn);
     if after.lsn == lsn {
@@ -73,7 +74,7 @@ fn put_found(
     }
 }
 
-/// Recovers three lanes by the log that is left, where the blocks 0 and 1 were found so.
+/// Recovers three lanes by the log that is left, with the blocks 0 and 1 as they were found.
 fn recover_crashed(
     rt: &impl Abort,
     alloc: Global,

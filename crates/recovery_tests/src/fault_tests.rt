@@ -42,8 +42,8 @@ fn a_read_fails(rt: HostRuntime) -> Result<(), Fail> {
     Ok(())
 }
 
-/// Writes that fail, and the items and positions of the blocks 0 and 1 then. Of a torn page the position
-/// is new, and the item that of the page before.
+/// Writes that fail, and the items and positions of the blocks 0 and 1 then. Of a torn page the
+/// position is new, and the item that of the page before.
 static TORN: [(u32, (u8, Lsn), (u8, Lsn)); 3] = [
     (1, (100, 12320), (101, 2048)),
     (2, (1, 12320), (101, 20544)),

@@ -31,7 +31,8 @@ fn one_relation(alloc: Global) -> Result<Catalog, CatalogError> {
     Catalog::build(alloc, &[relation])
 }
 
-/// A log that begins at 4096, with a record of each of these blocks, whose items are 1, 2 and so on.
+/// A log that begins at 4096, with a record of each of these blocks, whose items are 1, 2 and so
+/// on.
 fn log_of(alloc: Global, blocks: &[u32]) -> Result<Vec<u8>, AllocError> {
     let mut records = Vec::new(alloc);
     let mut position: Lsn = 4096;
@@ -209,8 +210,8 @@ fn a_partial_block_is_no_block(rt: HostRuntime) -> Result<(), Fail> {
     Ok(())
 }
 
-/// The first segment is short, so that the next one's blocks are none of the relation's: they become
-/// new pages up to the record's, and stay after it.
+/// The first segment is short, so that the next one's blocks are none of the relation's: they
+/// become new pages up to the record's, and stay after it.
 #[test]
 fn a_stale_segment_comes_back(rt: HostRuntime) -> Result<(), Fail> {
     let segments: [&[Run]; 2] = [&[Run::Same(1, 8292)], &[Run::Same(9, 16384)]];

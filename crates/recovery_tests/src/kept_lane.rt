@@ -7,7 +7,7 @@ use segment_store::{BlockLane, LaneHistory};
 use std::alloc::{AllocError, Global};
 use std::collections::BTreeMap;
 
-/// Which write of a lane fails, and which sync, counted from 1; none where this is 0.
+/// Which write of a lane fails, and which sync, counted from 1; none if this is 0.
 #[derive(Clone, Copy)]
 pub struct Failing {
     pub write: u32,

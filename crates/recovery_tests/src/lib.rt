@@ -1,5 +1,6 @@
-//! Tests of recovery: logs cut at any byte, blocks as a crash may leave them, devices that fail, and bytes that are no
-//! records. `bench` has the lanes and what they should hold afterwards, `log_bytes` writes the logs by hand.
+//! Tests of recovery: logs cut at any byte, blocks as a crash may leave them, devices that fail,
+//! and bytes that are no records. `bench` has the lanes and what they should hold afterwards,
+//! `log_bytes` writes the logs by hand.
 #![tactic(auto)]
 
 #[cfg(test)]

@@ -113,8 +113,8 @@ pub fn log_bytes(
     Ok(bytes)
 }
 
-/// A log that begins at 4096, with records of the blocks 0, 1, and 0 again, which end at 12320, 20544
-/// and 28768.
+/// A log that begins at 4096, with records of the blocks 0, 1, and 0 again, which end at 12320,
+/// 20544 and 28768.
 pub fn three_records(alloc: Global) -> Result<Vec<u8>, AllocError> {
     let records = [
         Record::new(4096, 0, 1),

@@ -43,8 +43,8 @@ fn recover_one(
     Ok(answer)
 }
 
-/// What a recovery of the lane answers, the lane's pages of block 0 and of that block then, and how many
-/// writes and syncs failed.
+/// What a recovery of the lane answers, the lane's pages of block 0 and of that block then, and how
+/// many writes and syncs failed.
 #[derive(Clone, Copy, PartialEq, Debug)]
 struct Recovered {
     answer: Result<Redone, RecoverError>,

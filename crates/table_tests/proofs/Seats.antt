@@ -50,7 +50,7 @@ pub rests_unpinned : {L G : Type 0} (t : FrameTable L G) (s s' s'' : Seat (Value
 rests_unpinned t s s' s'' f h ring e r a touches pinned b after unpinned = rests_still t s s'' f r (same_seat_on s s' s'' a b) (touches_on f s.me.0 s'.me.0 s''.me.0 touches (subst (λ (x : ℕ). Touches x s'.me.0 s''.me.0) e after))
     (free_unpinned ring (link s.me.0 f) (link s'.me.0 f) (link s''.me.0 f) pinned (subst (λ (x : ℕ). Looked (unpinned_link (link s'.me.0 x)) (link s''.me.0 x)) e unpinned) (r.free.frames f))
 
--- no tag word is stored where no header is held
+-- no tag word is stored if no header is held
 pub settled : (k : FrameKind) (f found : ℕ) (v w : View) → Did k f v w found → (link v f).header ≡ None → (link v f).pending ≡ false
 settled k f found v w d none = of_pending (link v f).pending refl
   where

@@ -46,7 +46,7 @@ pub struct Copied {
     pub place: Lsn,
 }
 
-/// What came of it.
+/// What came of an act.
 #[derive(Clone, Copy, PartialEq, Debug)]
 pub enum Answer {
     Put(Option<Result<Lsn, PutError>>),

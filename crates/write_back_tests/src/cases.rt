@@ -140,7 +140,7 @@ pub fn checkpoint(upto: Lsn, written: u32) -> Answer {
     Answer::Checkpoint(Ok(Checkpoint { upto, written }))
 }
 
-/// One that was refused.
+/// A checkpoint that was refused.
 pub fn refused(why: CheckpointError) -> Answer {
     Answer::Checkpoint(Err(why))
 }

@@ -30,6 +30,6 @@ uses_shared = search (sendable, crosses, over.crosses) depth 20
 pub jobs_shared : IsSync jobs.the_row
 jobs_shared = search (sendable, crosses, over.crosses) depth 20
 
--- what captures four values may cross threads where they may
+-- what captures four values may cross threads if they may
 pub four_sent : (ν : Sym) (A B C D : RattleType) → IsSend A → IsSend B → IsSend C → IsSend D → IsSend (TupleAt ν (A ∷ B ∷ C ∷ D ∷ []))
 four_sent ν A B C D a b c d = search (sendable, crosses) depth 20
