@@ -377,7 +377,7 @@ class Rewrite:
         )
 
     def limit_line(self):
-        """The line of the error stream where the log could pass the last position."""
+        """The line of the error stream if the log could pass the last position."""
         largest = position_text(self.largest)
         return f"page_tool: log position limit: page {largest}, blocks {len(self.pages)}\n"
 
@@ -388,7 +388,7 @@ class Rewrite:
         return record_bytes(self.relation, block, start, self.results[block].page)
 
     def records(self, log):
-        """The whole records of a log by their blocks, where it is a prefix of a log of this rewrite.
+        """The whole records of a log by their blocks, if it is a prefix of a log of this rewrite.
 
         Such a log has the head, and then the records of changed blocks in any order, each once and
         each at the end of the one before, the last one maybe cut short. Anything else is Damaged.
@@ -423,7 +423,7 @@ class Rewrite:
         return None
 
     def check_done(self, pages, log):
-        """Raises Damaged where these aren't the pages and the log of a rewrite that ended well."""
+        """Raises Damaged if these aren't the pages and the log of a rewrite that ended well."""
         if len(log) != LOG_HEAD_SIZE + RECORD_SIZE * len(self.changed):
             raise Damaged(f"the log has {len(log)} bytes")
         records = self.records(log)
@@ -492,7 +492,7 @@ def built_program(given=None):
             sys.exit(f"{given} is no program")
         return os.path.realpath(found)
     top = repository()
-    # The script at the top builds the program where it isn't built yet, and says so on standard error.
+    # The script at the top builds the program if it isn't built yet, and says so on standard error.
     sample = f"{top}/crates/page_tool/data/base/5/16384"
     tried = subprocess.run([f"{top}/page_tool", "scan", sample], stdout=subprocess.DEVNULL)
     if tried.returncode != DONE:
@@ -504,6 +504,6 @@ def add_program(parser):
     parser.add_argument(
         "--program",
         metavar="PROGRAM",
-        help="the program page_tool (default: the one of this repository, which is built where it"
+        help="the program page_tool (default: the one of this repository, which is built if it"
         " isn't built yet)",
     )
