@@ -41,7 +41,7 @@ pub fn block(number: u32) -> Tag {
     }
 }
 
-/// A manager of so many frames over these devices.
+/// A manager of so many frames over these devices. A start that is refused is an `AllocError`, too.
 pub fn start_over<L: BlockLane + Drop, G: LogDevice + Drop>(
     alloc: Global,
     frames: u32,

@@ -44,7 +44,7 @@ fn try_clean<L: BlockLane, G: LogDevice>(
     }
 }
 
-/// Takes it, and gives it up. Why it was not taken.
+/// Takes the cleanup lock, and gives it up. Why it was not taken.
 pub fn clean<L: BlockLane, G: LogDevice, R: Wait>(
     manager: &Manager<L, G>,
     rt: &R,

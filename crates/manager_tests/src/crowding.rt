@@ -16,12 +16,13 @@ use std::sync::Wait;
 pub struct Crowded {
     /// The words that each frame was seen with.
     pub census: Option<[u64; 16]>,
+    /// What came of a read by a pass without tokens.
     pub refused: Result<Access, ReadError>,
-    /// By a pass that has eight tokens.
+    /// Why a pass that has eight tokens didn't read the block.
     pub full: Option<ReadError>,
-    /// What that pass saw of the block's hint.
+    /// What the pass with eight tokens saw of the block's hint.
     pub unused: HintSeen,
-    /// Once block 0 was released.
+    /// What came of a read once block 0 was released.
     pub freed: Result<Access, ReadError>,
 }
 

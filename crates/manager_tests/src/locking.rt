@@ -16,7 +16,7 @@ pub struct Refusals {
     pub exclusive: Option<TryLock>,
 }
 
-/// Tries to share it.
+/// Tries to share a content lock, and gives it up. Why it was not shared.
 fn share_now<L: BlockLane, G: LogDevice>(
     manager: &Manager<L, G>,
     pass: &mut Pass,
@@ -32,7 +32,7 @@ fn share_now<L: BlockLane, G: LogDevice>(
     }
 }
 
-/// Tries to take it exclusively.
+/// Tries to take a content lock exclusively, and gives it up. Why it was not taken.
 fn exclude_now<L: BlockLane, G: LogDevice>(
     manager: &Manager<L, G>,
     pass: &mut Pass,
@@ -48,7 +48,7 @@ fn exclude_now<L: BlockLane, G: LogDevice>(
     }
 }
 
-/// Tries both. None if the block isn't read.
+/// Tries the content lock of a block both ways. None if the block isn't read.
 pub fn try_both<L: BlockLane, G: LogDevice, R: Wait>(
     manager: &Manager<L, G>,
     rt: &R,
@@ -91,7 +91,7 @@ pub fn try_beside_exclusive<L: BlockLane, G: LogDevice, R: Wait>(
     refusals
 }
 
-/// And while the first shares it.
+/// The same by a second pass while the first shares the lock.
 pub fn try_beside_shared<L: BlockLane, G: LogDevice, R: Wait>(
     manager: &Manager<L, G>,
     rt: &R,

@@ -57,7 +57,7 @@ fn ask_twice<L: BlockLane, G: LogDevice, R: Wait>(
     (Some(refused), later)
 }
 
-/// By the third pass of a manager.
+/// Does so by the third pass of a manager.
 fn ask_by_third<L: BlockLane, G: LogDevice, R: Wait>(
     manager: &Manager<L, G>,
     rt: &R,

@@ -144,7 +144,7 @@ fn sync_once<R: Wait>(
     }
 }
 
-/// Does so so many times. Where the last checkpoint began; None if one was refused.
+/// Makes so many rounds or checkpoints. Where the last checkpoint began; None if one was refused.
 fn sync_often<R: Wait>(
     manager: &TestManager,
     rt: &R,
