@@ -1,12 +1,11 @@
--- Which paths name a file of a relation.
-use Rattle.std.specs.Prelude.{ℕ, ◌+◌, ◌-◌, ◌*◌, ◌^◌, Bool, true, false, not, ◌&&◌, ◌==◌, nat_eq, nat_le, nat_lt, List, [], ◌∷◌, length, take, drop, fold, slice_index, Option, Some, None, if◌then◌else◌}
-use Rattle.std.specs.List.{after_last, list_all, starts_with}
+-- The relation's number that a path ends with.
+use Rattle.std.specs.Prelude.{ℕ, ◌+◌, ◌-◌, ◌*◌, ◌^◌, Bool, true, false, not, ◌&&◌, ◌==◌, nat_lt}
+use Rattle.std.specs.Prelude.{List, length, take, fold, slice_index, Option, Some, None}
+use Rattle.std.specs.Prelude.{if◌then◌else◌}
+use Rattle.std.specs.List.{after_last, list_all}
 use Rattle.block_tag.specs.declared.tag.Fork.{Fork}
 use Rattle.block_tag.specs.declared.tag.Fork.TheVariants.{Main, Fsm, Vm, Init}
-use Rattle.segment_store.specs.Paths.{fork_of}
-
-abbrev pub is_digit : ℕ → Bool
-is_digit byte = nat_le 48 byte && nat_le byte 57
+use Rattle.segment_store.specs.Paths.{fork_of, is_digit}
 
 -- the number that digits are in decimal
 abbrev pub number_value : List ℕ → ℕ
@@ -44,12 +43,3 @@ relation_number path = if is_relation_path path then Some (number_value (number_
 abbrev pub is_main_fork : Fork → Bool
 is_main_fork Main = true
 is_main_fork _ = false
-
--- what follows the path of a relation in the names of its files: nothing, or `.` and digits, one at least
-abbrev pub is_file_end : List ℕ → Bool
-is_file_end [] = true
-is_file_end (byte ∷ digits) = byte == 46 && (nat_lt 0 (length digits) && list_all is_digit digits)
-
--- the file is one of the relation at the path: the path itself, or the path followed by `.` and digits
-unfoldable pub is_file_of : List ℕ → List ℕ → Bool
-is_file_of path file = starts_with nat_eq file path && is_file_end (drop (length path) file)

@@ -3,8 +3,8 @@ use Rattle.std.specs.Prelude.{ℕ, List, Option, Some, None, codes, option_and_t
 use Rattle.std.specs.Str.{bytes_eq}
 use Rattle.clap.specs.Words.{Row, Text, fault_of, first_of, subcommand_of}
 use Rattle.clap.specs.Walk.{is_empty}
-use Rattle.segment_store.specs.Paths.{fork_of}
-use Rattle.command_line.specs.RelationPath.{is_file_of, is_main_fork, is_relation_path}
+use Rattle.segment_store.specs.Paths.{fork_of, is_file_of}
+use Rattle.command_line.specs.RelationPath.{is_main_fork, is_relation_path}
 use Rattle.command_line.specs.Numbers.{HasOptionsInRange, LiesIn, blocks_range, lanes_range, number_in, options_in, seed_range, segment_blocks_range}
 use Rattle.command_line.specs.Grammar.{tool_app}
 use Rattle.command_line.specs.declared.numbers.Options.{Options}

@@ -8,9 +8,10 @@ use crate::grammar::parse;
 use crate::numbers::{
     BLOCKS, LANES, Options, SEED, SEGMENT_BLOCKS, number_in, options_in, text_in,
 };
-use crate::relation_path::{is_file_of, is_main_path, is_relation_path};
+use crate::relation_path::{is_main_path, is_relation_path};
 use clap::error::ErrorKind;
 use clap::{ArgMatches, Error};
+use segment_store::is_file_of;
 use std::alloc::{AllocError, Global};
 
 /// A command of the tool.

@@ -1,11 +1,11 @@
-//! Which paths name a file of a relation.
+//! The relation's number that a path ends with.
 ghost use Rattle.std.specs.Prelude.{◌≡◌, ◌^◌, ◌-◌, Some, None, if◌then◌else◌, min};
 ghost use Rattle.std.specs.List.{list_all};
-ghost use Rattle.command_line.specs.RelationPath.{file_name, fork_length, is_digit, is_file_end, is_file_of, is_main_fork, is_relation_number, is_relation_path, number_value, relation_number};
+ghost use Rattle.command_line.specs.RelationPath.{file_name, fork_length, is_main_fork, is_relation_number, is_relation_path, number_value, relation_number};
 ghost use Rattle.segment_store.specs.Paths.{fork_of};
 
 use block_tag::Fork;
-use segment_store::fork_of_path;
+use segment_store::{fork_of_path, has_only_digits};
 
 /// How many bytes of a file's name stand for its fork.
 fn fork_length(fork: Fork) -> usize
@@ -41,13 +41,6 @@ fn number_value(digits: &[u8]) -> u64
             .saturating_add(u64::from(digit.saturating_sub(b'0')));
     }
     value
-}
-
-/// Whether each byte is a decimal digit.
-fn has_only_digits(bytes: &[u8]) -> bool
-    ensures { result ≡ list_all is_digit bytes.now }
-{
-    bytes.iter().all(|byte| b'0' <= *byte && *byte <= b'9')
 }
 
 /// The number that digits are, where it is a relation's.
@@ -91,30 +84,4 @@ pub(crate) fn is_main_path(path: &str) -> bool
         Fork::Main => true,
         Fork::Fsm | Fork::Vm | Fork::Init => false,
     }
-}
-
-/// Whether this may follow a relation's path in the name of its file: nothing, or `.` and digits.
-fn is_file_end(end: &[u8]) -> bool
-    ensures { result ≡ is_file_end end.now }
-{
-    match end {
-        [] => true,
-        [b'.', digits @ ..] => !digits.is_empty() && has_only_digits(digits),
-        _ => false,
-    }
-}
-
-/// Whether a file is one of the relation at this path.
-/// They are compared as text. A dot needs at least one digit after it: `16384.` and `16384.x` may
-/// be logs.
-#[tactic(auto, unfolding(crate::specs::RelationPath::is_file_of))]
-pub(crate) fn is_file_of(path: &str, file: &str) -> bool
-    ensures { result ≡ is_file_of path.now file.now }
-{
-    let path = path.as_bytes();
-    let file = file.as_bytes();
-    if !file.starts_with(path) {
-        return false;
-    }
-    is_file_end(&file[path.len()..])
 }

@@ -8,7 +8,8 @@ use Rattle.block_tag.specs.declared.tag.Fork.TheVariants.{Main}
 use Rattle.block_tag.specs.declared.tag.Tag.{Tag}
 use Rattle.block_tag.specs.Catalogue.{IsCatalogue, earlier_twin}
 use Rattle.block_tag.specs.Names.{unpacked_tag}
-use Rattle.command_line.specs.RelationPath.{is_digit, is_relation_number, is_relation_path, number_part, number_value, relation_number}
+use Rattle.segment_store.specs.Paths.{is_digit}
+use Rattle.command_line.specs.RelationPath.{is_relation_number, is_relation_path, number_part, number_value, relation_number}
 use Rattle.table_rule.specs.Blocks.{log_name, name_in, name_of}
 use Rattle.relation_commands.specs.RecoverFiles.{word_at}
 use Rattle.relation_commands.specs.Starting.{names_of, relation_entry}

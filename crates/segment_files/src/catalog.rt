@@ -6,13 +6,13 @@
 //! name of their directory, and links that other programs make meanwhile.
 ghost use Rattle.std.specs.Prelude.{◌≡◌, ◌+◌, IfOk, OnOk, length};
 ghost use Rattle.std.specs.Bool.{OnFalse};
-ghost use Rattle.std.specs.List.{list_all, list_any};
-ghost use Rattle.segment_files.specs.Catalog.{HaveNoClashes, clashes, is_digit, is_file_end, is_file_of};
+ghost use Rattle.std.specs.List.{list_any};
+ghost use Rattle.segment_files.specs.Catalog.{HaveNoClashes, clashes};
 
 use crate::opening::{FileIdentity, Segments, open_files};
 use crate::shared::SharedFiles;
 use block_tag::{Fork, RelNo};
-use segment_store::HostError;
+use segment_store::{HostError, is_file_of};
 use std::alloc::Global;
 use std::rt::Files;
 
@@ -32,35 +32,6 @@ pub struct OpenedCatalog<L> {
     pub lanes: Vec<L>,
 }
 
-/// Whether each byte is a decimal digit.
-fn has_only_digits(bytes: &[u8]) -> bool
-    ensures { result ≡ list_all is_digit bytes.now }
-{
-    bytes.iter().all(|byte| b'0' <= *byte && *byte <= b'9')
-}
-
-/// Whether this may follow a relation's path in the name of its file: nothing, or `.` and digits.
-fn is_file_end(end: &[u8]) -> bool
-    ensures { result ≡ is_file_end end.now }
-{
-    match end {
-        [] => true,
-        [b'.', digits @ ..] => !digits.is_empty() && has_only_digits(digits),
-        _ => false,
-    }
-}
-
-/// Whether a file is one of the relation at this path, by its name.
-#[tactic(auto, unfolding(crate::specs::Catalog::is_file_of))]
-fn is_file_of(path: &[u8], file: &[u8]) -> bool
-    ensures { result ≡ is_file_of path.now file.now }
-{
-    if !file.starts_with(path) {
-        return false;
-    }
-    is_file_end(&file[path.len()..])
-}
-
 impl CatalogFile<'_> {
     /// Whether both entries are of one fork of a relation, or one's path is a segment's of the other.
     fn clashes(&self, other: &CatalogFile<'_>) -> bool
@@ -69,9 +40,7 @@ impl CatalogFile<'_> {
         if self.rel == other.rel && self.fork.number() == other.fork.number() {
             return true;
         }
-        let path = self.path.as_bytes();
-        let other = other.path.as_bytes();
-        is_file_of(path, other) || is_file_of(other, path)
+        is_file_of(self.path, other.path) || is_file_of(other.path, self.path)
     }
 
     /// Whether the entry clashes with one of these.

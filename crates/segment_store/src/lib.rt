@@ -27,5 +27,5 @@ pub use memory_file::MemFile;
 pub use memory_host::MemHost;
 pub use memory_lane::{LanePlan, MemLane};
 pub use memory_logs::MemLogs;
-pub use paths::fork_of_path;
+pub use paths::{fork_of_path, has_only_digits, is_file_of};
 pub use source_plan::SourcePlan;
