@@ -5,4 +5,5 @@ pub mod Plan
 pub mod Memory
 pub mod MemoryLog
 pub mod Sources
+pub mod Taken
 pub mod MemorySource

@@ -13,6 +13,7 @@ mod memory;
 mod memory_log;
 mod memory_source;
 mod plan;
+mod source;
 
 pub use count::{CallCount, FaultCount};
 pub use device::{Failed, LogDevice, Sink, Source};
@@ -21,3 +22,4 @@ pub use memory::MemSink;
 pub use memory_log::{LogPlan, MemLog};
 pub use memory_source::MemSource;
 pub use plan::FaultPlan;
+pub use source::fill;

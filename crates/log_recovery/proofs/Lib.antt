@@ -10,7 +10,6 @@ pub mod Twice
 pub mod Decided
 pub mod LeftLogs
 pub mod Crash
-pub mod Filling
 pub mod Taking
 pub mod Lanes
 pub mod Faults

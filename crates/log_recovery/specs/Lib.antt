@@ -1,5 +1,4 @@
 pub mod Records
-pub mod Taken
 pub mod Redo
 pub mod Steps
 pub mod Laws

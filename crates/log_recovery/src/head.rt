@@ -6,8 +6,7 @@ ghost use Rattle.log_recovery.specs.Steps.{Begins};
 
 use crate::error::RecoverError;
 use crate::records::position_in;
-use crate::source::fill;
-use log_device::Source;
+use log_device::{Source, fill};
 use page_layout::Lsn;
 
 /// The mark with which a log begins.

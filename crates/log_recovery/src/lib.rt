@@ -11,7 +11,6 @@ mod laws;
 mod records;
 mod recovering;
 mod redo;
-mod source;
 
 pub use error::RecoverError;
 pub use laws::{

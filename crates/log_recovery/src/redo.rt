@@ -10,9 +10,8 @@ ghost use Rattle.log_recovery.specs.Steps.{HasNoRecord, HaveRedone, IsNextImage,
 use crate::error::RecoverError;
 use crate::head::LAST_POSITION;
 use crate::records::{IMAGE_SIZE, image_in};
-use crate::source::fill;
 use block_tag::{Catalog, Tag};
-use log_device::{Failed, Source};
+use log_device::{Failed, Source, fill};
 use page_layout::{Lsn, Page};
 use segment_store::BlockLane;
 use std::alloc::Global;

@@ -3,10 +3,12 @@ ghost use Rattle.std.specs.Prelude.{◌≡◌, ◌<◌, ◌≤◌, [], IfOk, IfS
 ghost use Rattle.log_device.specs.Faults.{HasCause};
 ghost use Rattle.log_device.specs.Sources.{Takes};
 
-use log_device::{Failed, Source};
+use crate::device::{Failed, Source};
 
 /// Fills the piece with the next bytes, as many as there are, and says how many it took.
-pub(crate) fn fill<S: Source>(source: &mut S, piece: &mut [u8]) -> Result<usize, Failed>
+///
+/// Before a failed call it may have taken some.
+pub fn fill<S: Source>(source: &mut S, piece: &mut [u8]) -> Result<usize, Failed>
     ensures size { length piece.new ≡ length piece.old }
     ensures within { IfOk result (λ n. n ≤ length piece.old) }
     ensures taken { IfOk result (λ n. Takes n piece.new (S.left source.old) (S.left source.new)) }

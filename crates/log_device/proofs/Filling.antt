@@ -3,7 +3,7 @@ use Rattle.std.proofs.Common.{◌≡◌, ℕ, ◌+◌, ◌-◌, ◌<◌, ◌≤�
 use Rattle.std.proofs.lemmas.List.{take_at, drop_at, take-append-le}
 use borrow.Rule.Slice.PartMut.{put_mid, post_of, same_len_mid, mid_of}
 use Rattle.log_device.specs.Sources.{Takes}
-use Rattle.log_recovery.specs.Taken.{IsTakenUpto}
+use Rattle.log_device.specs.Taken.{IsTakenUpto}
 
 -- the first bytes of what was put there
 put_first : (at k n : ℕ) (xs ys : List ℕ) → at ≤ length xs → n ≤ length ys → take (at + n) (put_mid at k xs ys) ≡ take at xs ++ take n ys
