@@ -1,6 +1,6 @@
 //! A log over a file, a sink over a writer, and a source over a reader, whose contents aren't known.
 ghost use Rattle.std.specs.Prelude.{◌≡◌, ◌+◌, ◌≤◌, ◌<◌, ⊤, None, IfOk, OnErr, OnOk, length, take};
-ghost use Rattle.std.specs.Io.KnownBytes.{Appends, Consumes};
+ghost use Rattle.std.specs.Io.KnownBytes.{Appends, Consumes, IsAtEnd};
 ghost use Rattle.log_device.specs.Bytes.{Puts};
 ghost use Rattle.log_device.specs.Calls.{calls_counted};
 ghost use Rattle.log_device.specs.Faults.{HasCause};
@@ -159,7 +159,10 @@ impl<F: Read + Drop> Source for FileSource<F> {
         ensures size { length piece.new ≡ length piece.old }
         ensures within { IfOk result (λ n. n ≤ length piece.old) }
         ensures faults { HasCause self.old.faults.count self.new.faults.count result }
-        ensures read { IfOk result (λ n. Consumes (F.remaining self.old.file) (F.remaining self.new.file) (take n piece.new)) }
+        ensures read { IfOk result (λ n. Consumes (F.remaining self.old.file)
+            (F.remaining self.new.file) (take n piece.new)) }
+        ensures at_end { IfOk result (λ n. n ≡ 0 → 0 < length piece.old
+            → IsAtEnd (F.remaining self.new.file)) }
     {
         if let Ok(count) = self.file.read(piece) {
             return Ok(count);

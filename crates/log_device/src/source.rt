@@ -7,7 +7,7 @@ use crate::device::{Failed, Source};
 
 /// Fills the piece with the next bytes, as many as there are, and says how many it took.
 ///
-/// Before a failed call it may have taken some.
+/// If it fails, it may have taken some before.
 pub fn fill<S: Source>(source: &mut S, piece: &mut [u8]) -> Result<usize, Failed>
     ensures size { length piece.new ≡ length piece.old }
     ensures within { IfOk result (λ n. n ≤ length piece.old) }
