@@ -1,7 +1,7 @@
 //! The relation's number that a path ends with.
 ghost use Rattle.std.specs.Prelude.{◌≡◌, ◌^◌, ◌-◌, Some, None, if◌then◌else◌, min};
 ghost use Rattle.std.specs.List.{list_all};
-ghost use Rattle.command_line.specs.RelationPath.{file_name, fork_length, is_main_fork, is_relation_number, is_relation_path, number_value, relation_number};
+ghost use Rattle.command_line.specs.RelationPath.{file_name, fork_length, is_relation_number, number_value, relation_number};
 ghost use Rattle.segment_store.specs.Paths.{fork_of};
 
 use block_tag::Fork;
@@ -61,27 +61,10 @@ fn number_of_digits(digits: &[u8]) -> Option<u32>
 /// The number of the relation that a path names: the decimal number that its last part is, with or
 /// without a fork, as `GetRelationPath` writes it. None where it is none.
 #[tactic(auto, unfolding(crate::specs::RelationPath::is_relation_path))]
-pub fn relation_number(path: &str) -> Option<u32>
+pub(crate) fn relation_number(path: &str) -> Option<u32>
     ensures { result ≡ relation_number path.now }
 {
     let name = file_name(path.as_bytes());
     let end = name.len().saturating_sub(fork_length(fork_of_path(path)));
     number_of_digits(&name[..end])
-}
-
-/// Whether the last part of a path is a relation's number, with or without a fork.
-pub(crate) fn is_relation_path(path: &str) -> bool
-    ensures { result ≡ is_relation_path path.now }
-{
-    relation_number(path).is_some()
-}
-
-/// Whether a path names a main fork.
-pub(crate) fn is_main_path(path: &str) -> bool
-    ensures { result ≡ is_main_fork (fork_of path.now) }
-{
-    match fork_of_path(path) {
-        Fork::Main => true,
-        Fork::Fsm | Fork::Vm | Fork::Init => false,
-    }
 }

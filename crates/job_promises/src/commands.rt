@@ -1,11 +1,9 @@
 //! Commands of `page_tool`, whose errors are its statuses.
 ghost use Rattle.std.specs.Prelude.{◌≡◌};
-ghost use Rattle.block_tag.specs.declared.tag.Fork.TheVariants.{Main};
 ghost use Rattle.command_line.specs.Numbers.{HasOptionsInRange};
-ghost use Rattle.segment_store.specs.Paths.{fork_of};
-ghost use Rattle.relation_commands.specs.declared.request.Request.TheVariants.{List, Rewrite};
+ghost use Rattle.command_line.specs.declared.request.Request.TheVariants.{List, Rewrite};
 ghost use Rattle.relation_commands.specs.Answers.{EndsCommand, counts_of};
-ghost use Rattle.relation_commands.specs.Request.{asked};
+ghost use Rattle.command_line.specs.Request.{asked};
 
 use log_device::Sink;
 use page_jobs::Gate;
@@ -41,8 +39,7 @@ pub fn rewrite_file<'a, H: Host, R: Threads + Wait + Sync, O: Sink, G: Gate + Sy
     out: &mut O,
     gate: &G,
 ) -> Result<(), ToolError<'a>>
-    requires range { HasOptionsInRange request.now.options }
-    requires main { fork_of request.now.path.now ≡ Main }
+    requires { HasOptionsInRange request.now.options }
     ensures { let faults = counts_of H.read_faults H.write_faults H.log_faults O.faults in
         EndsCommand (asked (Rewrite request.now)) (H.contents host.old) (H.logs host.old)
         (faults host.old out.old) (faults host.new out.new) result }

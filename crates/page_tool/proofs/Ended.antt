@@ -17,7 +17,7 @@ use Rattle.relation_commands.specs.Answers.{ArePastLimit, BadLogIf, CrowdedIf, E
 use Rattle.relation_commands.specs.Limits.{PassesLimit, largest_lsn}
 use Rattle.relation_commands.specs.RecoverFiles.{ForLogOf}
 use Rattle.relation_commands.specs.RecoverTexts.{recover_text}
-use Rattle.relation_commands.specs.Request.{Asked, LoggedAsked, is_rewriting, listing, options_of, path_of, recovering, rewriting, sampling}
+use Rattle.command_line.specs.Request.{Asked, LoggedAsked, is_rewriting, listing, options_of, path_of, recovering, rewriting, sampling}
 use Rattle.relation_commands.specs.RewriteFiles.{BecomesOf, HostFiles}
 use Rattle.relation_commands.specs.Status.{status_of_error}
 use Rattle.relation_commands.proofs.Stepping.{becomes_also}

@@ -10,7 +10,7 @@ use Rattle.relation_commands.specs.declared.error.ToolError.TheVariants.{Usage, 
 use Rattle.relation_commands.specs.declared.limits.PositionLimit.{PositionLimit}
 use Rattle.relation_commands.specs.declared.limits.PositionLimit.TheVariants.{OfLog}
 use Rattle.relation_commands.specs.Answers.{Ends, FaultCounts, IsAbsent, IsOverLimit, Said, SaysAs, SaysStatus, pages_asked, status_line}
-use Rattle.relation_commands.specs.Request.{Asked}
+use Rattle.command_line.specs.Request.{Asked}
 use Rattle.relation_commands.specs.Status.{bad_log_text, crowded_text, error_line, status_of_error, tool_line}
 
 -- the position limit that a refusal names; any where it names none

@@ -3,7 +3,8 @@ ghost use Rattle.std.specs.Prelude.{◌≡◌, ◌≢◌, ◌≤◌, ◌⊎◌, 
 ghost use Rattle.log_device.specs.Bytes.{Puts};
 ghost use Rattle.relation_commands.specs.declared.error.ToolError.{ToolError};
 ghost use Rattle.relation_commands.specs.Answers.{BadLogIf, CountsLater, CrowdedIf, Ends, FailsNone, FaultIf, IsComplete, IsNoRewrite, LeavesFiles, LimitIf, MissingIf, PrintsAtEnd, PutsLogOf, SaysAs, SaysStatus, UsageIf, WritesNoPath, Wrote, WroteLogOf, counts_of, text_asked};
-ghost use Rattle.relation_commands.specs.Request.{NamesNoPath, options_of, request_in};
+ghost use Rattle.command_line.specs.Request.{NamesNoPath, options_of};
+ghost use Rattle.command_line.specs.Spelled.{request_in};
 ghost use Rattle.relation_commands.specs.RewriteFiles.{BecomesOf, files_in};
 ghost use Rattle.relation_commands.specs.Status.{status_of, status_of_error};
 

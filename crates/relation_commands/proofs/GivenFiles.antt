@@ -23,7 +23,7 @@ use Rattle.relation_commands.specs.declared.rewriting.RewriteError.{RewriteError
 use Rattle.relation_commands.specs.declared.rewriting.RewriteError.TheVariants.{ReadFault, WriteFault, LogFault, OutFault, Memory, OverLimit}
 use Rattle.relation_commands.specs.declared.starting.RelationFork.{RelationFork}
 use Rattle.relation_commands.specs.Limits.{log_base}
-use Rattle.relation_commands.specs.Request.{LoggedAsked}
+use Rattle.command_line.specs.Request.{LoggedAsked}
 use Rattle.relation_commands.specs.RewriteCommand.{AreSurveyed, IsLogRefusal, IsPutRefusal, IsSurveyRefusal, LeavesByEnd, OpensLog}
 use Rattle.relation_commands.specs.RewriteFiles.{BecomesOf, BeginsHead, BeginsLog, Changes, HostFiles, IsHeadBegun, IsRewrittenAt, KeepsFiles, KeepsPaths, RewritesFiles, files_of, fork_at, log_opened, main_rule, pages_at, relation_at, rewrote, untouched, with_blocks}
 use Rattle.relation_commands.specs.RewriteResults.{IsRewrittenFile, LeavesEither}

@@ -1,7 +1,6 @@
 mod Paths
 mod Counting
 mod Surveyed
-mod MainFork
 mod GivingBack
 pub mod GivenFiles
 mod Putting

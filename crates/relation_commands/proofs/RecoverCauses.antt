@@ -14,11 +14,12 @@ use Rattle.log_recovery.specs.declared.error.RecoverError.TheVariants as recover
 use Rattle.log_recovery.specs.declared.recovering.Redone.{Redone}
 use Rattle.log_recovery.specs.Records.{HasBadHead}
 use Rattle.log_recovery.specs.Redo.{AnyRose}
-use Rattle.relation_commands.specs.declared.request.RecoverRequest.{RecoverRequest}
+use Rattle.command_line.specs.declared.request.RecoverRequest.{RecoverRequest}
 use Rattle.relation_commands.specs.Answers.{EndsCommand, HasGoodHead, HasLog, HasPositionsAt, PutsLogOf, counts}
 use Rattle.relation_commands.specs.RecoverCommand.{EndsRedo}
 use Rattle.relation_commands.specs.RecoverTexts.{recover_text}
-use Rattle.relation_commands.specs.Request.{Asked, IsCrowded, LoggedAsked, listing, recover_asked, recover_options, recovering, rewriting, sampling}
+use Rattle.command_line.specs.Request.{Asked, LoggedAsked, listing, recover_asked, recover_options, recovering, rewriting, sampling}
+use Rattle.relation_commands.specs.Crowded.{IsCrowded}
 use Rattle.relation_commands.proofs.Counting.{added_none, added_some, rose_after, rose_from_none, sum_of_map, sum_same}
 use Rattle.relation_commands.proofs.Putting.{puts_nothing}
 use Rattle.relation_commands.proofs.RecoverGiven.{recover_result}

@@ -43,7 +43,7 @@ use Rattle.log_recovery.proofs.Decided.{read_somehow}
 use Rattle.log_recovery.proofs.ReadLogs.{is_log, one_log}
 use Rattle.relation_commands.specs.RecoverCommand.{EndsRedo, TellsLogOf}
 use Rattle.relation_commands.specs.RecoverFiles.{AreFirstIn, ForLogOf, IsEnteredIn, IsRecoveredAt, RecoverLeaves, RecoversFiles, RecoversTo, catalog_of, left_alone, longer_pages, redone_upto, with_more, word_at}
-use Rattle.relation_commands.specs.Request.{LoggedAsked}
+use Rattle.command_line.specs.Request.{LoggedAsked}
 use Rattle.relation_commands.specs.declared.error.ToolError.{ToolError}
 use Rattle.relation_commands.specs.declared.rewriting.RewriteError.{RewriteError}
 use Rattle.relation_commands.specs.declared.rewriting.RewriteError.TheVariants.{ReadFault, WriteFault, LogFault, OutFault, Memory, OverLimit}

@@ -29,7 +29,7 @@ use Rattle.log_recovery.proofs.ReadLogs.{is_log, one_log}
 use Rattle.log_recovery.proofs.Twice.{settled}
 use Rattle.page_jobs.proofs.Standing.{inside, taken, there}
 use Rattle.relation_commands.specs.Limits.{log_base}
-use Rattle.relation_commands.specs.Request.{LoggedAsked}
+use Rattle.command_line.specs.Request.{LoggedAsked}
 use Rattle.relation_commands.specs.RecoverFiles.{AreFirstIn, IsEnteredIn, IsRecoveredAt, RecoverLeaves, RecoversTo, left_alone, redone_upto, catalog_of, longer_pages, with_more, word_at}
 use Rattle.relation_commands.specs.RecoverRewrite.{CompletesRecovery, IsRecoveredBlock, KeepsFilesLeft, LosesEntered, RecoversAgain, RecoversFilesLeft, recovery_of}
 use Rattle.relation_commands.specs.RewriteFiles.{HostFiles, pages_at, relation_at, with_blocks}

@@ -29,7 +29,7 @@ use Rattle.relation_commands.specs.declared.starting.RelationFork.{RelationFork}
 use Rattle.relation_commands.specs.Answers.{ArePastLimit}
 use Rattle.relation_commands.specs.Limits.{largest_lsn, log_base, rounded_up}
 use Rattle.relation_commands.specs.Listings.{NoneFails}
-use Rattle.relation_commands.specs.Request.{LoggedAsked}
+use Rattle.command_line.specs.Request.{LoggedAsked}
 use Rattle.relation_commands.specs.RewriteCommand.{AreSurveyed, IsPutRefusal, MeetsLimit, StaysBelowLimit}
 use Rattle.relation_commands.specs.RewriteFiles.{BecomesOf, BeginsHead, BeginsLog, Changes, HostFiles, IsRewrittenAt, KeepsFiles, KeepsPaths, RewriteLeaves, RewritesFiles, files_of, fork_at, log_opened, pages_at, rewrote, untouched}
 use Rattle.relation_commands.specs.RewriteTexts.{rewrite_lines, rewrite_text}

@@ -2,7 +2,7 @@ pub mod Limits
 pub mod Rounds
 pub mod Listings
 pub mod Starting
-pub mod Request
+pub mod Crowded
 pub mod RewriteTexts
 pub mod RecoverTexts
 pub mod Samples

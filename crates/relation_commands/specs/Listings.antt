@@ -9,8 +9,8 @@ use Rattle.segment_store.specs.Lanes.{HoldPages, mark_in, tag_at}
 use Rattle.segment_store.specs.Paths.{PathMarks, Paths}
 use Rattle.segment_store.specs.Relation.{relation_of}
 use Rattle.pin_core.specs.State.{Page}
-use Rattle.relation_commands.specs.declared.listing.Listing.{Listing}
-use Rattle.relation_commands.specs.declared.listing.Listing.TheVariants.{Scan, Dump}
+use Rattle.command_line.specs.declared.request.Listing.{Listing}
+use Rattle.command_line.specs.declared.request.Listing.TheVariants.{Scan, Dump}
 
 -- the text of a relation of these pages
 abbrev pub text_of : Listing → List Page → List ℕ

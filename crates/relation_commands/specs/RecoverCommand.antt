@@ -9,7 +9,7 @@ use Rattle.log_recovery.specs.declared.error.RecoverError.TheVariants as recover
 use Rattle.log_recovery.specs.declared.recovering.Redone.{Redone}
 use Rattle.log_recovery.specs.Records.{HasBadHead}
 use Rattle.log_recovery.specs.Redo.{AnyRose, IsRecovered, LeavesPart, MarksNone, NoneFell, Tells}
-use Rattle.relation_commands.specs.Request.{LoggedAsked}
+use Rattle.command_line.specs.Request.{LoggedAsked}
 use Rattle.relation_commands.specs.RecoverFiles.{ForLogOf}
 
 module _ {L S : Type 0} (contents : L → Option Pages) (failed room : L → Marks)

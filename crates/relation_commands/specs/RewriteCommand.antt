@@ -14,7 +14,7 @@ use Rattle.relation_commands.specs.declared.rewriting.RewriteError.TheVariants.{
 use Rattle.relation_commands.specs.declared.starting.RelationFork.{RelationFork}
 use Rattle.relation_commands.specs.Answers.{ArePastLimit, CountsLater, FaultCounts, IsOverLimit}
 use Rattle.relation_commands.specs.Limits.{PassesLimit, largest_lsn, log_base}
-use Rattle.relation_commands.specs.Request.{LoggedAsked}
+use Rattle.command_line.specs.Request.{LoggedAsked}
 use Rattle.relation_commands.specs.RewriteFiles.{HostFiles, RewritesFiles, fork_at, pages_at}
 use Rattle.relation_commands.specs.Rewriting.{ArePages, HavePages}
 use Rattle.relation_commands.specs.Status.{rewrite_tool_error, status_of_error}

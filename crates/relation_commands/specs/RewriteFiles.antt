@@ -16,7 +16,7 @@ use Rattle.page_jobs.specs.Rewrites.{Rule, rule_of}
 use Rattle.relation_commands.specs.declared.starting.RelationFork.{RelationFork}
 use Rattle.relation_commands.specs.Limits.{log_base}
 use Rattle.relation_commands.specs.Listings.{NoneFails}
-use Rattle.relation_commands.specs.Request.{LoggedAsked}
+use Rattle.command_line.specs.Request.{LoggedAsked}
 use Rattle.relation_commands.specs.RewriteResults.{IsRewrittenFile, LeavesEither}
 use Rattle.relation_commands.specs.Starting.{names_of}
 

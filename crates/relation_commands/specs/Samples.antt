@@ -7,7 +7,7 @@ use Rattle.page_jobs.specs.Printed.{totals_line}
 use Rattle.sample_relation.specs.Relations.{sample_relation}
 use Rattle.relation_commands.specs.declared.error.ToolError.{ToolError}
 use Rattle.relation_commands.specs.declared.error.ToolError.TheVariants.{Crowded, OutFault, Memory}
-use Rattle.relation_commands.specs.Request.{IsCrowded, crowding_of}
+use Rattle.relation_commands.specs.Crowded.{IsCrowded, crowding_of}
 use Rattle.relation_commands.specs.RewriteResults.{after_rewrite}
 use Rattle.relation_commands.specs.RewriteTexts.{rewrite_text}
 

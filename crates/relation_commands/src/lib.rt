@@ -14,21 +14,20 @@ mod lines;
 mod listing;
 mod listing_command;
 mod recover_command;
-mod request;
 mod rewrite_command;
 mod rewriting;
 mod sampling;
 mod starting;
 
+pub use command_line::{
+    ListRequest, Listing, RecoverRequest, Request, RewriteRequest, SampleRequest, read_request,
+};
 pub use error::{Crowding, ToolError};
 pub use laws::{logs_are_told, recoveries_are_repeated, rewrites_are_recovered};
 pub use limits::PositionLimit;
-pub use listing::{Listing, ListingError};
+pub use listing::ListingError;
 pub use listing_command::list_relation;
 pub use recover_command::recover_relation;
-pub use request::{
-    ListRequest, RecoverRequest, Request, RewriteRequest, SampleRequest, read_request,
-};
 pub use rewrite_command::rewrite_relation;
 pub use rewriting::RewriteError;
 pub use sampling::sample;

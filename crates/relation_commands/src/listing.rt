@@ -24,7 +24,7 @@ use crate::beside::Rounds;
 use crate::starting::{RelationFork, new_log, start};
 use backend_pass::{Manager, Pass};
 use block_tag::RelNo;
-use command_line::Options;
+use command_line::{Listing, Options};
 use log_device::{MemLog, Sink};
 use page_jobs::{Gate, JobEnd, JobError, Totals, dump, scan};
 use page_layout::{Lsn, ScanTotals};
@@ -32,13 +32,6 @@ use segment_store::BlockLane;
 use std::alloc::Global;
 use std::sync::Wait;
 use std::thread::Threads;
-
-/// What is printed of each block: a line, or also one of each of its line pointers.
-#[derive(Clone, Copy, PartialEq, Eq, Debug)]
-pub enum Listing {
-    Scan,
-    Dump,
-}
 
 /// Why a listing ended before its end.
 #[derive(Clone, Copy, PartialEq, Eq, Debug)]

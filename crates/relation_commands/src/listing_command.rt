@@ -7,17 +7,16 @@ ghost use Rattle.segment_store.specs.Paths.{fork_of};
 ghost use Rattle.relation_commands.specs.Answers.{EndsCommand, counts_of, pages_asked, text_asked};
 ghost use Rattle.relation_commands.specs.Causes.{HasListingCause};
 ghost use Rattle.relation_commands.specs.Listings.{NoneFails, text_of};
-ghost use Rattle.relation_commands.specs.Request.{asked};
+ghost use Rattle.command_line.specs.Request.{asked};
 ghost use Rattle.relation_commands.specs.Status.{status_of_error};
 
 use crate::error::{ToolError, crowding_in};
 use crate::listing::{Listed, ListingEnd, ListingError, list};
-use crate::request::{ListRequest, Request};
 use crate::starting::RelationFork;
-use command_line::relation_number;
+use command_line::{ListRequest, Request};
 use log_device::Sink;
 use page_jobs::Gate;
-use segment_store::{Host, Opened, fork_of_path};
+use segment_store::{Host, Opened};
 use std::alloc::Global;
 use std::sync::Wait;
 use std::thread::Threads;
@@ -45,11 +44,9 @@ fn list_opened<H: Host, R: Threads + Wait + Sync, O: Sink + Send, G: Gate + Sync
         Puts (text_of request.now.listing (pages_asked (asked (Request.List request.now)) paths))
         (O.bytes out.old) (O.bytes out.new) result) }
 {
-    let path = request.path;
     let relation = RelationFork {
-        // The words were refused where the path has no number.
-        number: relation_number(path).unwrap_or(0),
-        fork: fork_of_path(path),
+        number: request.number,
+        fork: request.fork,
         blocks: opened.blocks,
     };
     let options = &request.options;

@@ -6,23 +6,21 @@ ghost use Rattle.segment_store.specs.Lanes.{HoldTheirs};
 ghost use Rattle.segment_store.specs.Logs.{IsOpenedSource};
 ghost use Rattle.segment_store.specs.Opening.{IsOpened};
 ghost use Rattle.segment_store.specs.Paths.{fork_of};
-ghost use Rattle.block_tag.specs.declared.tag.Fork.TheVariants.{Main};
 ghost use Rattle.relation_commands.specs.Answers.{CountsLater, EndsCommand, PutsLogOf, counts};
 ghost use Rattle.relation_commands.specs.RecoverCommand.{EndsRedo, TellsLogOf};
 ghost use Rattle.relation_commands.specs.RecoverFiles.{RecoversFiles, catalog_of};
 ghost use Rattle.relation_commands.specs.RecoverTexts.{redone_lines};
-ghost use Rattle.relation_commands.specs.Request.{asked, options_of, recover_asked, recovering};
+ghost use Rattle.command_line.specs.Request.{asked, options_of, recover_asked, recovering};
 ghost use Rattle.relation_commands.specs.RewriteCommand.{IsPutRefusal};
 ghost use Rattle.relation_commands.specs.RewriteFiles.{BecomesOf, files_in};
 ghost use Rattle.relation_commands.specs.Status.{status_of, status_of_error};
 
 use crate::error::ToolError;
 use crate::lines::put_lines;
-use crate::request::{RecoverRequest, Request};
 use crate::rewriting::RewriteError;
 use crate::starting::RelationFork;
 use block_tag::Fork;
-use command_line::relation_number;
+use command_line::{RecoverRequest, Request};
 use log_device::{Sink, Source};
 use log_recovery::{RecoverError, Redone, recover};
 use page_layout::{Page, Position};
@@ -32,18 +30,17 @@ use std::alloc::Global;
 /// Redoes what is read of a log over lanes that hold blocks of the relation at a path.
 fn redo_lanes<L: BlockLane, S: Source>(
     alloc: Global,
-    path: &str,
+    request: &RecoverRequest,
     lanes: &mut [L],
     source: &mut S,
 ) -> Result<Redone, RecoverError>
     requires some { 0 < length lanes.old }
     requires placed { HoldTheirs (map L.contents lanes.old) }
     ensures { EndsRedo L.contents L.failed_writes L.room L.read_faults L.write_faults
-        S.left S.faults (catalog_of path.now) lanes.old lanes.new source.old source.new result }
+        S.left S.faults (catalog_of request.now.path.now) lanes.old lanes.new source.old source.new result }
 {
     let relation = RelationFork {
-        // The words were refused where the path has no number.
-        number: relation_number(path).unwrap_or(0),
+        number: request.number,
         fork: Fork::Main,
         // Records name a relation by its numbers, however many blocks it has.
         // So FILE is the same log in a second recovery, when PATH has grown.
@@ -69,7 +66,6 @@ fn redo_and_give_back<'a, H: Host>(
     mut source: H::Source,
     host: &mut H,
 ) -> Result<Redone, ToolError<'a>>
-    requires main { fork_of request.now.path.now ≡ Main }
     requires range { (1 ≤ request.now.lanes) × (1 ≤ request.now.seg_blocks) }
     requires open_at { IfSome (H.contents host.old) (λ _. H.open_at host.old
         ≡ record { path = request.now.path.now; seg_blocks = request.now.seg_blocks }) }
@@ -97,7 +93,7 @@ fn redo_and_give_back<'a, H: Host>(
     ensures log_faults { H.log_faults host.new ≡ H.log_faults host.old }
 {
     let mut lanes = opened.lanes;
-    let end = redo_lanes(alloc, request.path, &mut lanes, &mut source);
+    let end = redo_lanes(alloc, request, &mut lanes, &mut source);
     host.give_back(lanes, None, Some(source));
     end.map_err(|error| ToolError::from_recovery(error, request.log))
 }
@@ -109,7 +105,6 @@ fn redo_opened<'a, H: Host>(
     opened: Opened<H::Lane>,
     host: &mut H,
 ) -> Result<Redone, ToolError<'a>>
-    requires main { fork_of request.now.path.now ≡ Main }
     requires range { (1 ≤ request.now.lanes) × (1 ≤ request.now.seg_blocks) }
     requires open_at { IfSome (H.contents host.old) (λ _. H.open_at host.old
         ≡ record { path = request.now.path.now; seg_blocks = request.now.seg_blocks }) }
@@ -151,7 +146,6 @@ fn redo_relation<'a, H: Host>(
     request: &RecoverRequest<'a>,
     host: &mut H,
 ) -> Result<Redone, ToolError<'a>>
-    requires main { fork_of request.now.path.now ≡ Main }
     requires range { (1 ≤ request.now.lanes) × (1 ≤ request.now.seg_blocks) }
     ensures later { CountsLater
         (counts (H.read_faults host.old) (H.write_faults host.old) (H.log_faults host.old) 0)
@@ -211,7 +205,6 @@ pub fn recover_relation<'a, H: Host, O: Sink>(
     out: &mut O,
 ) -> Result<(), ToolError<'a>>
     requires range { HasOptionsInRange (options_of (asked (Request.Recover request.now))) }
-    requires main { fork_of request.now.path.now ≡ Main }
     ensures later { CountsLater
         (counts (H.read_faults host.old) (H.write_faults host.old) (H.log_faults host.old)
         (O.faults out.old))

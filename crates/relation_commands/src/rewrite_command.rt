@@ -15,23 +15,21 @@ ghost use Rattle.table_rule.specs.Shows.{IsNewLog, devices};
 ghost use Rattle.page_jobs.specs.Survey.{AreOnlyRead};
 ghost use Rattle.relation_commands.specs.Answers.{CountsLater, EndsCommand, counts};
 ghost use Rattle.relation_commands.specs.Limits.{largest_lsn, log_base};
-ghost use Rattle.relation_commands.specs.Request.{asked, rewrite_asked};
+ghost use Rattle.command_line.specs.Request.{asked, rewrite_asked};
 ghost use Rattle.relation_commands.specs.RewriteCommand.{AreSurveyed, HasFaultOf, IsLogRefusal, IsPutRefusal, IsSurveyRefusal, LeavesByEnd, MeetsLimit, OpensLog, StaysBelowLimit};
 ghost use Rattle.relation_commands.specs.RewriteFiles.{BecomesOf, IsHeadBegun, RewritesFiles, files_in, pages_at};
 ghost use Rattle.relation_commands.specs.RewriteTexts.{rewrite_lines, rewrite_text};
 ghost use Rattle.relation_commands.specs.Rewriting.{HavePages};
 ghost use Rattle.page_layout.specs.Outcomes.{rewrite_totals_of};
 ghost use Rattle.relation_commands.specs.Status.{log_error, status_of, status_of_error};
-ghost use Rattle.block_tag.specs.declared.tag.Fork.TheVariants.{Main};
 
 use crate::error::{ToolError, crowding_in};
 use crate::limits::log_base;
 use crate::lines::put_lines;
-use crate::request::{Request, RewriteRequest};
 use crate::rewriting::{RewriteEnd, RewriteError, rewrite_lanes};
 use crate::starting::RelationFork;
 use block_tag::Fork;
-use command_line::relation_number;
+use command_line::{Request, RewriteRequest};
 use log_device::Sink;
 use page_jobs::{Gate, survey};
 use page_layout::{Lsn, Page, Position, RewriteTotals};
@@ -160,7 +158,6 @@ fn rewrite_and_give_back<H: Host, R: Threads + Wait + Sync, T: Gate + Sync>(
 ) -> Result<RewriteTotals, RewriteError>
     requires range { HasOptionsInRange request.now.options }
     requires open_at { IfSome (H.contents host.old) (λ _. H.open_at host.old ≡ record { path = request.now.path.now; seg_blocks = request.now.options.seg_blocks }) }
-    requires main { fork_of request.now.path.now ≡ Main }
     requires surveyed { AreSurveyed H.Lane.contents H.Lane.failed_writes H.Lane.read_faults H.Lane.write_faults (H.contents host.old) (rewrite_asked request.now) relation base lanes.items }
     ensures cause { HasFaultOf (counts (H.read_faults host.old) (H.write_faults host.old) (H.log_faults host.old) 0)
         (counts (H.read_faults host.new) (H.write_faults host.new) (H.log_faults host.new) 0) result }
@@ -221,7 +218,6 @@ fn rewrite_surveyed<H: Host, R: Threads + Wait + Sync, O: Sink, T: Gate + Sync>(
 ) -> Result<(), RewriteError>
     requires range { HasOptionsInRange request.now.options }
     requires open_at { IfSome (H.contents host.old) (λ _. H.open_at host.old ≡ record { path = request.now.path.now; seg_blocks = request.now.options.seg_blocks }) }
-    requires main { fork_of request.now.path.now ≡ Main }
     requires surveyed { AreSurveyed H.Lane.contents H.Lane.failed_writes H.Lane.read_faults H.Lane.write_faults (H.contents host.old) (rewrite_asked request.now) relation base lanes.items }
     ensures cause { HasFaultOf (counts (H.read_faults host.old) (H.write_faults host.old) (H.log_faults host.old) (O.faults out.old))
         (counts (H.read_faults host.new) (H.write_faults host.new) (H.log_faults host.new) (O.faults out.new)) result }
@@ -251,7 +247,6 @@ fn rewrite_opened<H: Host, R: Threads + Wait + Sync, O: Sink, G: Gate + Sync>(
     gate: &G,
 ) -> Result<(), RewriteError>
     requires range { HasOptionsInRange request.now.options }
-    requires main { fork_of request.now.path.now ≡ Main }
     requires open_at { IfSome (H.contents host.old) (λ _. H.open_at host.old ≡ record { path = request.now.path.now; seg_blocks = request.now.options.seg_blocks }) }
     requires opened { IsOpened H.Lane.contents H.Lane.failed_writes H.Lane.unsynced H.Lane.room H.Lane.read_faults H.Lane.write_faults (H.contents host.old) (H.room host.old request.now.path.now request.now.options.seg_blocks) request.now.path.now (fork_of request.now.path.now) request.now.options.seg_blocks request.now.options.lanes opened }
     ensures cause { HasFaultOf (counts (H.read_faults host.old) (H.write_faults host.old) (H.log_faults host.old) (O.faults out.old))
@@ -266,8 +261,7 @@ fn rewrite_opened<H: Host, R: Threads + Wait + Sync, O: Sink, G: Gate + Sync>(
         (λ e. e ≢ RewriteError.OutFault → O.bytes out.new ≡ O.bytes out.old) }
 {
     let relation = RelationFork {
-        // The words were refused where the path has no number.
-        number: relation_number(request.path).unwrap_or(0),
+        number: request.number,
         fork: Fork::Main,
         blocks: opened.blocks,
     };
@@ -291,7 +285,6 @@ pub fn rewrite_relation<'a, H: Host, R: Threads + Wait + Sync, O: Sink, G: Gate 
     gate: &G,
 ) -> Result<(), ToolError<'a>>
     requires range { HasOptionsInRange request.now.options }
-    requires main { fork_of request.now.path.now ≡ Main }
     ensures later { CountsLater (counts (H.read_faults host.old) (H.write_faults host.old) (H.log_faults host.old) (O.faults out.old))
         (counts (H.read_faults host.new) (H.write_faults host.new) (H.log_faults host.new) (O.faults out.new)) }
     ensures ends { EndsCommand (asked (Request.Rewrite request.now)) (H.contents host.old) (H.logs host.old)

@@ -1,5 +1,5 @@
 use Rattle.relation_commands.specs.Answers.{text_asked}
-use Rattle.relation_commands.specs.Request.{request_in}
+use Rattle.command_line.specs.Spelled.{request_in}
 use Rattle.page_tool.proofs.Ended.{bad_log_ends, complete_ends, crowded_ends, done_bad_log, done_missing, fault_ends, limit_ends, missing_ends, refused_by, refused_files, said_some, text_refused, usage_ends, wrote_done, wrote_refused}
 use Rattle.page_tool.proofs.StatusLines.{said_as, said_nothing}
 use Rattle.page_tool.proofs.run.run.Goals as goal

@@ -16,7 +16,7 @@ returns-clause-contents g c =
     let lanes = map g.H.Lane.BlockLane.contents c.list-lanes.result.lanes.items in
     paths_stay _ _ _ at lanes c.give_back.ensures.contents c.requires.open_at
     (of_relation (λ pages. HoldPages (fork_of path) pages lanes) at (fork_of path) c.args.opened.blocks (map g.H.Lane.BlockLane.contents c.args.opened.lanes.items) _
-    c.requires.opened.blocks c.requires.opened.holds (rw (← c.fork_of_path.ensures) c.list-lanes.ensures.leaves.stay))
+    c.requires.opened.blocks c.requires.opened.holds (rw c.args.request.now.forked c.list-lanes.ensures.leaves.stay))
 
 pub returns-clause-text : goal.returns-clause-text
 returns-clause-text g c =
@@ -25,4 +25,4 @@ returns-clause-text g c =
     let at : OpenAt = record { path = path; seg_blocks = request.options.seg_blocks } in
     rw (done_as _ c.list-lanes.result.end c.map.result c.map.ensures.cases)
     (of_relation (λ pages. Puts (text_of request.listing pages) (g.O.Sink.bytes c.args.out.now) (g.O.Sink.bytes c.list-lanes.new.out) (as_done c.list-lanes.result.end)) at (fork_of path) c.args.opened.blocks (map g.H.Lane.BlockLane.contents c.args.opened.lanes.items) _
-    c.requires.opened.blocks c.requires.opened.holds (rw (← c.fork_of_path.ensures) c.list-lanes.ensures.text))
+    c.requires.opened.blocks c.requires.opened.holds (rw c.args.request.now.forked c.list-lanes.ensures.text))

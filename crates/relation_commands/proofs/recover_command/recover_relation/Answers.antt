@@ -1,4 +1,4 @@
-use Rattle.relation_commands.specs.Request.{recover_asked, recovering}
+use Rattle.command_line.specs.Request.{recover_asked, recovering}
 use Rattle.relation_commands.proofs.RecoverCauses.{puts_no_log}
 use Rattle.std.proofs.Common.{ℕ, subst, sym, rules}
 use Rattle.relation_commands.specs.RecoverFiles.{RecoversFiles}

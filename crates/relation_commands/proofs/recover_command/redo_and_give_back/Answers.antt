@@ -7,7 +7,7 @@ use Rattle.relation_commands.specs.declared.error.ToolError.{ToolError}
 use Rattle.relation_commands.specs.Answers.{EndsCommand, counts}
 use Rattle.relation_commands.specs.RecoverCommand.{EndsRedo}
 use Rattle.relation_commands.specs.RecoverFiles.{catalog_of}
-use Rattle.relation_commands.specs.Request.{recover_asked, recovering}
+use Rattle.command_line.specs.Request.{recover_asked, recovering}
 use Rattle.relation_commands.proofs.Counting.{added_none}
 use Rattle.relation_commands.proofs.RecoverCauses.{host_rose, recovery_ends}
 use Rattle.relation_commands.proofs.GivenFiles.{told}
@@ -29,7 +29,7 @@ returns-clause-files g c =
     let lane_laws = g.met.H.Lane.BlockLane g.world.𝓛 g.world.𝓜 g.world.𝓡 ((λ s x. x), (λ x. x), (λ x. x), λ x. x) in
     let is = mapped_error c.args.request.now.log _ c.redo_lanes-end.result c.map_err.result (λ e d post. search rules) c.map_err.ensures.cases in
     rw is (files_by g.H.Lane.BlockLane.contents g.H.Lane.BlockLane.failed_writes g.H.Lane.BlockLane.unsynced g.H.Lane.BlockLane.room g.H.Lane.BlockLane.read_faults g.H.Lane.BlockLane.write_faults
-    g.H.Source.Source.left g.H.Source.Source.faults lane_laws.whole lane_laws.has_room r c.requires.main c.requires.range.0 c.requires.range.1
+    g.H.Source.Source.left g.H.Source.Source.faults lane_laws.whole lane_laws.has_room r c.args.request.now.main c.requires.range.0 c.requires.range.1
     (told g.H.Host c.args.host.now) (g.H.Host.room c.args.host.now) c.args.opened c.requires.opened c.requires.open_at
     (told g.H.Host c.give_back.new.self) _ c.args.source c.redo_lanes-end.new.source
     (record { paths = back.contents; marks = back.failed; logs = back.logs }) c.requires.source c.args.request.now.log c.redo_lanes-end.result given

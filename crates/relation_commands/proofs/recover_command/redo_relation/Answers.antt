@@ -1,4 +1,4 @@
-use Rattle.relation_commands.specs.Request.{recover_asked}
+use Rattle.command_line.specs.Request.{recover_asked}
 use Rattle.relation_commands.specs.Status.{status_of}
 use Rattle.relation_commands.proofs.RecoverGiven.{recovered_opened}
 use Rattle.relation_commands.proofs.recover_command.redo_relation.Goals as goal

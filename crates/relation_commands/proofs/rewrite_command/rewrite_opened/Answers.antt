@@ -8,7 +8,7 @@ use Rattle.segment_store.proofs.PutBlocks.{take_prefix}
 use Rattle.pin_core.specs.State.{Page}
 use Rattle.page_jobs.specs.Survey.{AreOnlyRead}
 use Rattle.relation_commands.specs.Limits.{log_base}
-use Rattle.relation_commands.specs.Request.{rewrite_asked}
+use Rattle.command_line.specs.Request.{rewrite_asked}
 use Rattle.relation_commands.specs.RewriteCommand.{AreSurveyed}
 use Rattle.relation_commands.specs.RewriteFiles.{pages_at}
 use Rattle.relation_commands.specs.Rewriting.{HavePages}
@@ -25,13 +25,13 @@ rewrite_surveyed-requires-clause-surveyed g c κs within =
     let opened = c.requires.opened in
     let was = c.deref_mut.ensures.value in
     let same = subst (λ (ls : List g.row.H-Lane.Denot). AreOnlyRead g.H.Lane.BlockLane.contents g.H.Lane.BlockLane.failed_writes g.H.Lane.BlockLane.unsynced g.H.Lane.BlockLane.write_faults ls c.survey_base.new.lanes) was c.in-Ok.ensures.same in
-    let number_is = c.unwrap_or.ensures ∙ ap (λ (o : Option ℕ). unwrap_or o 0) c.relation_number.ensures in
-    let begins = subst (λ (ls : List g.row.H-Lane.Denot). (pages : List Page) → HavePages g.H.Lane.BlockLane.contents (record { number = c.unwrap_or.result; fork = Main; blocks = c.args.opened.blocks }) ls pages → c.in-Ok.base ≡ log_base pages) was c.in-Ok.ensures.base in
+    let number_is = sym (ap (λ (o : Option ℕ). unwrap_or o 0) c.args.request.now.numbered) in
+    let begins = subst (λ (ls : List g.row.H-Lane.Denot). (pages : List Page) → HavePages g.H.Lane.BlockLane.contents (record { number = c.args.request.now.number; fork = Main; blocks = c.args.opened.blocks }) ls pages → c.in-Ok.base ≡ log_base pages) was c.in-Ok.ensures.base in
     let so = surveyed g.H.Lane.BlockLane.contents g.H.Lane.BlockLane.failed_writes g.H.Lane.BlockLane.unsynced g.H.Lane.BlockLane.read_faults g.H.Lane.BlockLane.write_faults
-    r c.requires.main c.args.opened c.survey_base.new.lanes c.unwrap_or.result c.in-Ok.base number_is same begins known _ _ opened c.in-Ok.ensures.quiet
+    r c.args.request.now.main c.args.opened c.survey_base.new.lanes c.args.request.now.number c.in-Ok.base number_is same begins known _ _ opened c.in-Ok.ensures.quiet
     (sum_same g.H.Lane.BlockLane.write_faults c.args.opened.lanes.items c.survey_base.new.lanes same.writes_same ∙ opened.writes) c.in-Ok.ensures.within in
     subst (λ (ls : List g.row.H-Lane.Denot). AreSurveyed g.H.Lane.BlockLane.contents g.H.Lane.BlockLane.failed_writes g.H.Lane.BlockLane.read_faults g.H.Lane.BlockLane.write_faults known r
-    (record { number = c.unwrap_or.result; fork = Main; blocks = c.args.opened.blocks }) c.in-Ok.base ls)
+    (record { number = c.args.request.now.number; fork = Main; blocks = c.args.opened.blocks }) c.in-Ok.base ls)
     (sym (take_prefix c.survey_base.new.lanes (drop (length c.survey_base.new.lanes) c.args.opened.lanes.items) c.args.opened.lanes.len counted)) so
 
 pub returns-in-Err-clause-files : goal.returns-in-Err-clause-files

@@ -1,4 +1,4 @@
-use Rattle.relation_commands.specs.Request.{rewrite_asked}
+use Rattle.command_line.specs.Request.{rewrite_asked}
 use Rattle.relation_commands.specs.Status.{rewrite_tool_error, status_of_error}
 use Rattle.relation_commands.proofs.Stepping.{since_opened}
 use Rattle.relation_commands.proofs.rewrite_command.rewrite_relation.Goals as goal

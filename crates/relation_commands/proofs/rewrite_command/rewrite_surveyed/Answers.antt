@@ -1,6 +1,6 @@
 use Rattle.std.proofs.Common.{Ok}
 use Rattle.page_layout.specs.declared.outcomes.RewriteTotals.{RewriteTotals}
-use Rattle.relation_commands.specs.Request.{rewrite_asked}
+use Rattle.command_line.specs.Request.{rewrite_asked}
 use Rattle.relation_commands.specs.RewriteCommand.{LeavesByEnd}
 use Rattle.relation_commands.proofs.GivenFiles.{after_put}
 use Rattle.relation_commands.proofs.Stepping.{becomes_also, below_put, below_rewrite, refused_text, text_so}

@@ -1,19 +1,13 @@
--- What the words ask of the tool.
-use Rattle.std.specs.Prelude.{◌≡◌, ℕ, ◌+◌, ◌≤◌, Bool, true, false, List, map, Option, Some, None, option_map, string_bytes}
-use Rattle.std.specs.declared.string.String.{String}
-use Rattle.block_tag.specs.declared.tag.Fork.TheVariants.{Main}
-use Rattle.segment_store.specs.Paths.{fork_of}
+-- What a command line asks for, with its texts as bytes.
+use Rattle.std.specs.Prelude.{◌≡◌, ℕ, ◌≤◌, Bool, true, false, List, Option, Some, None}
 use Rattle.command_line.specs.declared.numbers.Options.{Options}
-use Rattle.relation_commands.specs.declared.error.Crowding.{Crowding}
-use Rattle.relation_commands.specs.declared.request.Request.{Request}
-use Rattle.relation_commands.specs.declared.request.Request.TheVariants as request
-use Rattle.relation_commands.specs.declared.request.ListRequest.{ListRequest}
-use Rattle.relation_commands.specs.declared.request.RewriteRequest.{RewriteRequest}
-use Rattle.relation_commands.specs.declared.request.RecoverRequest.{RecoverRequest}
-use Rattle.relation_commands.specs.declared.request.SampleRequest.{SampleRequest}
-use Rattle.relation_commands.specs.declared.listing.Listing.{Listing}
-use Rattle.relation_commands.specs.declared.listing.Listing.TheVariants.{Scan, Dump}
-use Rattle.command_line.specs.Spelled.{Spelled, command_of, scan, dump, rewrite, recover, sample}
+use Rattle.command_line.specs.declared.request.Request.{Request}
+use Rattle.command_line.specs.declared.request.Request.TheVariants as request
+use Rattle.command_line.specs.declared.request.ListRequest.{ListRequest}
+use Rattle.command_line.specs.declared.request.Listing.{Listing}
+use Rattle.command_line.specs.declared.request.RecoverRequest.{RecoverRequest}
+use Rattle.command_line.specs.declared.request.RewriteRequest.{RewriteRequest}
+use Rattle.command_line.specs.declared.request.SampleRequest.{SampleRequest}
 
 -- a scan or a dump of the relation at a path
 pub record ListingAsked : Type 0 where
@@ -104,13 +98,6 @@ is_writing (rewriting r) = true
 is_writing (recovering r) = true
 is_writing (sampling s) = false
 
--- a rewrite and a recovery are of a relation's main fork
-abbrev pub IsOfMainFork : Asked → Type 0
-IsOfMainFork (listing l) = Unit {0}
-IsOfMainFork (rewriting r) = fork_of r.path ≡ Main
-IsOfMainFork (recovering r) = fork_of r.path ≡ Main
-IsOfMainFork (sampling s) = Unit {0}
-
 -- the most blocks that a sample can have
 abbrev pub HasSampleSize : Asked → Type 0
 HasSampleSize (listing l) = Unit {0}
@@ -118,28 +105,7 @@ HasSampleSize (rewriting r) = Unit {0}
 HasSampleSize (recovering r) = Unit {0}
 HasSampleSize (sampling s) = s.blocks ≤ 16384
 
--- what a command asks for
-abbrev pub asked_by : Spelled → Asked
-asked_by (scan path options) = listing (record { path = path; options = options; listing = Scan })
-asked_by (dump path options) = listing (record { path = path; options = options; listing = Dump })
-asked_by (rewrite path log options) = rewriting (record { path = path; log = log; options = options })
-asked_by (recover path log lanes seg_blocks) =
-    recovering (record { path = path; log = log; options = recover_options lanes seg_blocks })
-asked_by (sample seed blocks options) = sampling (record { seed = seed; blocks = blocks; options = options })
-
--- what the words ask for; nothing where they are no command
-abbrev pub request_in : {Z : Type 0} → List (String Z) → Option Asked
-request_in words = option_map asked_by (command_of (map string_bytes words))
-
 -- no path is asked for: by a sample, or by words that are no command
 abbrev pub NamesNoPath : Option Asked → Type 0
 NamesNoPath None = Unit {0}
 NamesNoPath (Some a) = path_of a ≡ None
-
--- the backends need more frames: two are kept besides one for each
-abbrev pub IsCrowded : Options → Type 0
-IsCrowded o = o.frames ≤ o.backends + 2
-
--- the options that a refusal names
-abbrev pub crowding_of : Options → Crowding
-crowding_of o = record { backends = o.backends; frames = o.frames }
