@@ -15,7 +15,7 @@ is_twin a b = a.tablespace == b.tablespace && (a.database == b.database && a.rel
 abbrev pub blocks_of : RelEntry → Fork → ℕ
 blocks_of e fork = slice_index e.blocks (fork_number fork)
 
--- how many blocks a fork of the relation at this place has; none where there is no relation
+-- how many blocks a fork of the relation at this place has; none if there is no relation
 abbrev pub blocks_at : List RelEntry → ℕ → Fork → ℕ
 blocks_at entries place fork = unwrap_or (option_map (λ e. blocks_of e fork) (slice_get entries place)) 0
 

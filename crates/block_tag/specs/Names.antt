@@ -28,7 +28,7 @@ lane_number t lanes = hash_of t % lanes
 abbrev pub partition_number : Tag → ℕ
 partition_number t = hash_of t % 128
 
--- the segment of a block, for segments of so many blocks, and the block's place there
+-- the segment of a block, for segments of this many blocks, and the block's place there
 abbrev pub segment_of : ℕ → ℕ → ℕ
 segment_of seg_blocks block = block / seg_blocks
 

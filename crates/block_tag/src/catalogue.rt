@@ -131,7 +131,7 @@ impl Catalog {
         self.entries.get(rel.0 as usize).copied()
     }
 
-    /// How many blocks a fork of a relation has: none where the catalogue lacks the relation.
+    /// How many blocks a fork of a relation has: none if the catalogue lacks the relation.
     pub fn blocks(&self, rel: RelNo, fork: Fork) -> u32
         ensures { result ≡ blocks_at self.now rel.0 fork }
     {

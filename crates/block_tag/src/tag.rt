@@ -86,7 +86,7 @@ impl Tag {
             .wrapping_add(fork)
     }
 
-    /// The tag that a number is: none where its fork is above 3, its block 0xFFFFFFFF, or its relation 1024 or more.
+    /// The tag that a number is: none if its fork is above 3, its block 0xFFFFFFFF, or its relation 1024 or more.
     #[tactic(auto, unfolding(crate::specs::Names::unpacked_tag))]
     pub fn unpack(packed: u64) -> Option<Tag>
         ensures value { result ≡ unpacked_tag packed }

@@ -13,7 +13,7 @@ abbrev pub number_rule : NumberRange → Rule
 number_rule range =
     record (text_rule range.name) { parser = Some (parser.Unsigned range.least range.greatest) }
 
--- an option that is a number, `--name N`, with what it is where it isn't given
+-- an option that is a number, `--name N`, with what it is if it isn't given
 abbrev pub option_rule : NumberRange → Text → Rule
 option_rule range default = record (new_rule range.name) {
   long = Some range.name;

@@ -37,7 +37,7 @@ seed_range = record { name = codes "seed"; least = 0; greatest = 4294967295 }
 abbrev pub blocks_range : NumberRange
 blocks_range = record { name = codes "blocks"; least = 0; greatest = 16384 }
 
--- the number that a text writes where clap takes the text for one of the range: digits, which a plus may precede
+-- the number that a text writes if clap takes the text for one of the range: digits, which a plus may precede
 abbrev pub number_of : NumberRange → Text → Option ℕ
 number_of range text =
     if is_unsigned_in range.least range.greatest text

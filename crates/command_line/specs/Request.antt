@@ -21,7 +21,7 @@ pub record LoggedAsked : Type 0 where
   pub log : List ℕ
   pub options : Options
 
--- a rewrite in memory of so many blocks of the relation that is made from a seed
+-- a rewrite in memory of the first blocks of the relation that is made from a seed
 pub record SampleAsked : Type 0 where
   pub seed : ℕ
   pub blocks : ℕ

@@ -34,7 +34,7 @@ fn number_arg<'a>(alloc: Global, number: NumberArg) -> Arg<'a>
     ))
 }
 
-/// An option that is a number, and what it is where it isn't given.
+/// An option that is a number, and what it is if it isn't given.
 fn number_option<'a>(alloc: Global, number: NumberArg, default: &'a str) -> Arg<'a>
     ensures rule { rule_of result ≡ option_rule (range_of number) default.now }
     ensures local { result.global ≡ false }

@@ -81,7 +81,7 @@ pub(crate) fn text_in<'a>(matches: &ArgMatches<'a>, name: &str) -> Option<&'a st
     matches.get_str(name)
 }
 
-/// The number that a text writes, where it lies in the range.
+/// The number that a text writes, if it lies in the range.
 /// It is what clap's unsigned parser takes: `+5` and `007` are numbers; the empty text, `-1`, `0x1`
 /// and `1.0` are not.
 fn number_of(arg: NumberArg, text: &str) -> Option<u32>

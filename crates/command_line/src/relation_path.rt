@@ -1,6 +1,5 @@
 //! The relation's number that a path ends with.
 ghost use Rattle.std.specs.Prelude.{◌≡◌, ◌^◌, ◌-◌, Some, None, if◌then◌else◌, min};
-ghost use Rattle.std.specs.List.{list_all};
 ghost use Rattle.command_line.specs.RelationPath.{file_name, fork_length, is_relation_number, number_value, relation_number};
 ghost use Rattle.segment_store.specs.Paths.{fork_of};
 
@@ -43,7 +42,7 @@ fn number_value(digits: &[u8]) -> u64
     value
 }
 
-/// The number that digits are, where it is a relation's.
+/// The number that digits are, if it is a relation's.
 #[tactic(auto, unfolding(crate::specs::RelationPath::is_relation_number))]
 fn number_of_digits(digits: &[u8]) -> Option<u32>
     ensures { result ≡ (if is_relation_number digits.now then Some (number_value digits.now) else None) }
@@ -59,7 +58,7 @@ fn number_of_digits(digits: &[u8]) -> Option<u32>
 }
 
 /// The number of the relation that a path names: the decimal number that its last part is, with or
-/// without a fork, as `GetRelationPath` writes it. None where it is none.
+/// without a fork, as `GetRelationPath` writes it. None if it is none.
 #[tactic(auto, unfolding(crate::specs::RelationPath::is_relation_path))]
 pub(crate) fn relation_number(path: &str) -> Option<u32>
     ensures { result ≡ relation_number path.now }

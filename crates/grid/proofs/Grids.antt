@@ -1,4 +1,4 @@
--- A change of one view keeps a law of the grid where it keeps it at each column that the view touches.
+-- A change of one view keeps a law of the grid if it keeps it at each column that the view touches.
 use Rattle.std.proofs.Common.{◌≡◌, ◌≢◌, ℕ, ◌+◌, ◌<◌, ◌≤◌, List, [], ◌∷◌, ◌++◌, length, set, sym, refl, ap, ◌∙◌, subst, ⊎_elim, arith}
 use mathlib.Core.Logic.{dite}
 use mathlib.Core.Option.{some}
@@ -8,11 +8,11 @@ use Rattle.grid.specs.Shape.{Shape, tallies, Part, Grid, put}
 use Rattle.grid.proofs.Lists.{at_set, at_end, put_at, put_else}
 use Rattle.grid.proofs.Sums.{total-set, total-snoc, term_le, terms_le, total-alone}
 
--- where each other link counts nothing, the sum is this link's
+-- if each other link counts nothing, the sum is this link's
 abbrev pub CountsAlone : (S : Shape) → Part S → S.Block → S.Column → S.Link → (S.Tally → ℕ) → Type 0
 CountsAlone S q b c l t = (k : S.Tally) → ((u : S.Own) (m : S.Link) → q.cell b c u m → ((j : S.Tally) → S.weigh j l + S.weigh j m ≤ t j) → S.weigh k m ≡ 0) → t k ≡ S.weigh k l
 
--- What the column c of the block b, and the link l of the view that steps, may become, where what q says is known
+-- What the column c of the block b, and the link l of the view that steps, may become, if what q says is known
 pub record Keeps (S : Shape) (q p : Part S) (b b' : S.Block) (o o' : S.Own) (c : S.Column) (l : S.Link) (c' : S.Column) (l' : S.Link) : Type 0 where
   pub column : (t t' : S.Tally → ℕ) → q.column b c t → q.cell b c o l → ((k : S.Tally) → t' k + S.weigh k l ≡ t k + S.weigh k l') → ((k : S.Tally) → S.weigh k l ≤ t k) → CountsAlone S q b c l t → p.column b' c' t'
   pub cell : (t : S.Tally → ℕ) → q.column b c t → ((k : S.Tally) → S.weigh k l ≤ t k) → q.cell b c o l → p.cell b' c' o' l'

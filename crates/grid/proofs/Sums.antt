@@ -68,7 +68,7 @@ module _ {A : Type 0} (g : A → ℕ) where
   total-same h [] e = refl
   total-same h (x ∷ xs) e = omega (arith, e zero x refl, total-same h xs (λ j u d. e (suc j) u d))
 
-  -- where the others count nothing
+  -- if the others count nothing
   pub total-alone : (l : List A) (i : ℕ) (v : A) → get_elem? l i ≡ some v → ((j : ℕ) (u : A) → j ≢ i → get_elem? l j ≡ some u → g u ≡ 0) → total g l ≡ g v
   unfolding total
   total-alone [] i v e h = absurd (some-ne-none v (sym e))

@@ -7,7 +7,7 @@ use Rattle.block_tag.specs.Names.{lane_number, tag_of_parts}
 use Rattle.segment_store.specs.declared.memory_lane.MemLane.{MemLane}
 use Rattle.segment_store.specs.MemoryLane.{marks_of, pages_of}
 
--- a relation with so many blocks in its main fork, and none in another
+-- a relation with this many blocks in its main fork, and none in another
 abbrev pub entry : ℕ → ℕ → RelEntry
 entry number blocks =
     record { tablespace = 1663; database = 5; relation = number; blocks = blocks ∷ 0 ∷ 0 ∷ 0 ∷ [] }

@@ -35,7 +35,7 @@ pub enum BackendError {
     Memory(#[from(alloc)] AllocError),
 }
 
-/// Takes the content lock that a change asks for. Where it is refused, the token is given back.
+/// Takes the content lock that a change asks for. If it is refused, the token is given back.
 fn lock_for<L: BlockLane, G: LogDevice, R: Wait>(
     manager: &Manager<L, G>,
     rt: &R,
@@ -154,7 +154,7 @@ fn backend<L: BlockLane, G: LogDevice, R: Wait>(
     }
 }
 
-/// All backends at once, each in a thread of its own where one can be started.
+/// All backends at once, each in a thread of its own if one can be started.
 fn run_backends<L: BlockLane + Send, G: LogDevice + Send, R: Threads + Wait + Sync>(
     manager: &Manager<L, G>,
     rt: &R,

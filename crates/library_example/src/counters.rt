@@ -4,13 +4,13 @@ use byteorder::{ByteOrder, LittleEndian};
 use page_layout::{PAGE_SIZE, Page, Rewrite, rewritten};
 use std::alloc::{AllocError, Global};
 
-/// The header of such a page, and its two line pointers: the item's, and the dead one.
+/// The header of a page that counts, and its two line pointers: the item's, and the dead one.
 const FRONT: [u8; 32] = [
     0, 0, 0, 0, 0, 0, 0, 0, 0, 0, 0, 0, 32, 0, 0xf8, 0x1f, 0, 0x20, 4, 0x20, 0, 0, 0, 0, 0xf8,
     0x9f, 0x10, 0, 0, 0x80, 1, 0,
 ];
 
-/// Where its item begins.
+/// Where the item of a page that counts begins.
 const ITEM: usize = PAGE_SIZE - 8;
 
 /// A page that counts from here on.
@@ -23,7 +23,7 @@ pub fn page_from(alloc: Global, count: u64) -> Result<Page, AllocError> {
     Ok(page)
 }
 
-/// What such a page tells.
+/// What a page that counts tells.
 pub struct Counter {
     pub count: u64,
     /// How many line pointers it has.

@@ -1,4 +1,4 @@
--- What logs and sinks hold, where it is known: None where it isn't.
+-- What logs and sinks hold, if it is known: None if it isn't.
 use Rattle.std.specs.Prelude.{◌≡◌, ℕ, List, ◌++◌, length, Option, Result, OnOk, OnErr, IfSome, IsSomeAnd, MatchResult, option_map}
 
 -- the bytes have become longer by a prefix of the piece

@@ -1,4 +1,4 @@
--- What a read takes of a source's bytes, where they are known: None where they aren't.
+-- What a read takes of a source's bytes, if they are known: None if they aren't.
 use Rattle.std.specs.Prelude.{◌≡◌, ℕ, ◌≤◌, List, drop, length, take, Option, None, Some}
 
 -- n bytes are there, the piece begins with them, and they are gone; what isn't known stays so

@@ -2,7 +2,7 @@
 use Rattle.std.specs.Prelude.{◌≡◌, ℕ, ◌≤◌, List, length, Option}
 use Rattle.log_device.specs.Sources.{Takes}
 
--- The first `at` bytes of a piece, which has so many, were taken
+-- The first `at` bytes of a piece of `long` bytes were taken
 pub record IsTakenUpto (at long : ℕ) (piece : List ℕ) (old new : Option (List ℕ))
     (faults faults_now : ℕ) : Type 0 where
   pub within : at ≤ long

@@ -15,10 +15,10 @@ pub struct Failed;
 ///
 /// A call leaves what its clauses don't name as it was. The count never falls, and rises only in a call that fails.
 pub trait LogDevice {
-    /// The bytes so far, where the contents are known.
+    /// The bytes so far, if the contents are known.
     ghost bytes: { Self → Option (List ℕ) };
 
-    /// How many of the bytes a sync has made durable; it says something only where the contents are known.
+    /// How many of the bytes a sync has made durable; it says something only if the contents are known.
     ghost synced: { Self → ℕ };
 
     /// How many calls failed.
@@ -50,7 +50,7 @@ pub trait LogDevice {
 
 /// Bytes that are written one piece after another.
 pub trait Sink {
-    /// The bytes so far, where the contents are known.
+    /// The bytes so far, if the contents are known.
     ghost bytes: { Self → Option (List ℕ) };
 
     /// How many calls failed.
@@ -68,7 +68,7 @@ pub trait Sink {
 ///
 /// The count never falls, and rises only in a call that fails.
 pub trait Source {
-    /// The bytes left, where they are known.
+    /// The bytes left, if they are known.
     ghost left: { Self → Option (List ℕ) };
 
     /// How many calls failed.

@@ -11,7 +11,7 @@ use crate::plan::FaultPlan;
 use std::alloc::{AllocError, Global};
 use std::marker::Model;
 
-/// A sink in memory, with room for so many bytes.
+/// A sink in memory, with room for a fixed number of bytes.
 #[derive(Drop)]
 pub struct MemSink {
     bytes: Vec<u8>,
@@ -68,7 +68,7 @@ impl Sink for MemSink {
 
     ghost faults = { λ s. s.faults.count };
 
-    /// Fails where the plan says so and where there is no room for the piece.
+    /// Fails if the plan says so, or if there is no room for the piece.
     fn put(&mut self, piece: &[u8]) -> Result<(), Failed>
         ensures bytes { Puts piece.now (Some self.old.bytes) (Some self.new.bytes) result }
         ensures faults { HasCause self.old.faults.count self.new.faults.count result }

@@ -43,7 +43,7 @@ impl LogPlan {
     }
 }
 
-/// A log in memory, with room for so many bytes.
+/// A log in memory, with room for a fixed number of bytes.
 #[derive(Drop)]
 pub struct MemLog {
     /// The bytes, the room, and which appends are to fail.
@@ -107,7 +107,7 @@ impl LogDevice for MemLog {
 
     ghost calls = { λ l. calls_counted l.calls };
 
-    /// Fails where the plan says so and where there is no room for the piece.
+    /// Fails if the plan says so, or if there is no room for the piece.
     fn append(&mut self, piece: &[u8]) -> Result<(), Failed>
         ensures bytes { Puts piece.now (Some self.old.sink.bytes) (Some self.new.sink.bytes) result }
         ensures synced { self.new.synced ≡ self.old.synced }
@@ -128,7 +128,7 @@ impl LogDevice for MemLog {
         Err(Failed)
     }
 
-    /// Fails where the plan says so.
+    /// Fails if the plan says so.
     fn sync(&mut self) -> Result<(), Failed>
         ensures sink { self.new.sink ≡ self.old.sink }
         ensures synced { Syncs self.old.sink.bytes self.old.synced self.new.synced result }

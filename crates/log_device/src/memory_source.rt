@@ -8,7 +8,7 @@ use crate::count::FaultCount;
 use crate::device::{Failed, Source};
 use crate::plan::FaultPlan;
 
-/// A source in memory, which gives at most so many bytes a call.
+/// A source in memory, which gives at most `most` bytes a call.
 #[derive(Drop)]
 pub struct MemSource {
     bytes: Vec<u8>,
@@ -54,7 +54,7 @@ impl Source for MemSource {
 
     ghost faults = { λ s. s.faults.count };
 
-    /// Fails where the plan says so.
+    /// Fails if the plan says so.
     fn next(&mut self, piece: &mut [u8]) -> Result<usize, Failed>
         ensures size { length piece.new ≡ length piece.old }
         ensures within { IfOk result (λ n. n ≤ length piece.old) }

@@ -36,7 +36,7 @@ past_by (Some paths) f (OfPages largest blocks) over =
 past_by (Some paths) f (OfPage lsn end) over = absurd over.1
 past_by (Some paths) f (OfLog end) over = absurd over.1
 
--- what is said of an option is said of its value, where it is known
+-- what is said of an option is said of its value, if it is known
 known_at : {X : Type 0} (P : Option X → Type 0) (known : Option X) → P known → IfSome known (λ x. P (Some x))
 known_at P None is = tt
 known_at P (Some x) is = is
@@ -395,7 +395,7 @@ module _ (known : Option Paths) (logs : Option Logs) (old new : FaultCounts) whe
   done_bad_log None ends = tt
   done_bad_log (Some a) ends = bad_log_done a known logs old new ends
 
--- what a refusal leaves of the files is left too where there is no memory for its line
+-- what a refusal leaves of the files is left too if there is no memory for its line
 memory_files : (request : Option Asked) (status : ℕ) (old new : HostFiles) → LeavesFiles request status old new → LeavesFiles request 8 old new
 memory_files None status old new leaves = leaves
 memory_files (Some (listing l)) status old new leaves = leaves

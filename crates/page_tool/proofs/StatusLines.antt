@@ -13,12 +13,12 @@ use Rattle.relation_commands.specs.Answers.{Ends, FaultCounts, IsAbsent, IsOverL
 use Rattle.command_line.specs.Request.{Asked}
 use Rattle.relation_commands.specs.Status.{bad_log_text, crowded_text, error_line, status_of_error, tool_line}
 
--- the position limit that a refusal names; any where it names none
+-- the position limit that a refusal names; any if it names none
 abbrev pub limit_of : ToolError → PositionLimit
 limit_of (OverLimit limit) = limit
 limit_of _ = OfLog 0
 
--- the path of the file that is missing; any where none is named
+-- the path of the file that is missing; any if none is named
 abbrev pub missing_of : ToolError → List ℕ
 missing_of (Missing path) = path.now
 missing_of _ = []

@@ -27,7 +27,7 @@ use std::env;
 use std::io::ErrorKind;
 use std::process::ExitCode;
 
-/// The status where there is no memory for the words.
+/// The status if there is no memory for the words.
 const MEMORY_STATUS: u8 = 8;
 
 /// Lets every block through at once.

@@ -10,7 +10,7 @@ use std::thread::Threads;
 
 const LINE: &str = "recover base/5/16384 --log w --lanes 1";
 
-/// What a recovery prints by a log of so many records: of the page's rewrite, or of four pages'.
+/// What a recovery prints, by how many records its log has: that of one page's rewrite, or of four's.
 static REDONE: [&str; 5] = [
     "log 0/16B3740 0/16B3740 entries 0\nblocks 0 redone\n",
     "log 0/16B3740 0/16B5760 entries 1\nblocks 1 redone\n",
@@ -45,7 +45,7 @@ fn text_put(status: u8) -> &'static str {
     }
 }
 
-/// How many whole records a log of so many bytes has.
+/// How many whole records a log of this length has.
 fn records_in(length: usize) -> usize {
     length.saturating_sub(16) / 8224
 }

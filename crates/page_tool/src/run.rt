@@ -18,10 +18,10 @@ use std::alloc::Global;
 use std::sync::Wait;
 use std::thread::Threads;
 
-/// What is said where there is no memory for a line.
+/// What is said if there is no memory for a line.
 pub const MEMORY_LINE: &[u8] = b"page_tool: out of memory\n";
 
-/// Says a refusal on the error stream, and answers its status; where there is no memory for its
+/// Says a refusal on the error stream, and answers its status; if there is no memory for its
 /// line, that is said, and is the status.
 fn say<E: Sink>(alloc: Global, error: &ToolError<'_>, err: &mut E) -> u8
     ensures { SaysAs error.now (E.bytes err.old) (E.bytes err.new)
@@ -97,7 +97,7 @@ fn perform<'a, H: Host, R: Threads + Wait + Sync, O: Sink + Send, G: Gate + Sync
 /// - `recover PATH --log FILE` redoes the log of a rewrite: each record's page is written to its
 ///   block, and the relation is synced. It prints where the log begins and ends, how many records
 ///   it has, and how many blocks were redone.
-/// - `sample SEED BLOCKS` makes a relation of so many blocks from a number, in memory, scans it,
+/// - `sample SEED BLOCKS` makes a relation of BLOCKS blocks from the number SEED, in memory, scans it,
 ///   rewrites it with a log in memory, and scans it again. It prints the totals of each scan, and
 ///   between them what a rewrite prints. It doesn't call the host.
 ///
@@ -128,7 +128,7 @@ pub fn run<H: Host, R: Threads + Wait + Sync, O: Sink + Send, E: Sink, G: Gate +
     ensures faults { let faults = counts_of H.read_faults H.write_faults H.log_faults O.faults in
         FaultIf (request_in words.now) (faults host.old out.old) (faults host.new out.new) result }
 
-    // What is out: the text that is asked for, where it is known, or a prefix of it.
+    // What is out: the text that is asked for, if it is known, or a prefix of it.
     ensures text { IfSome (request_in words.now) (λ a. IfSome (text_asked a (H.contents host.old))
         (λ text. Wrote text (O.bytes out.old) (O.bytes out.new) result)) }
     ensures recovers { IfSome (request_in words.now) (λ a. WroteLogOf a (H.logs host.old)
@@ -144,8 +144,8 @@ pub fn run<H: Host, R: Threads + Wait + Sync, O: Sink + Send, E: Sink, G: Gate +
         (E.bytes err.old) (E.bytes err.new) (E.faults err.old) (E.faults err.new) result }
 
     // What is left of the files. Only a rewrite and a recovery change relations, and only a rewrite
-    // changes logs, where they are known; known or not, no other command raises their counts. The
-    // host isn't called where no path is asked for.
+    // changes logs, if they are known; known or not, no other command raises their counts. The
+    // host isn't called if no path is asked for.
     ensures files { let files = files_in H.contents H.failed_writes H.logs
         H.write_faults H.log_faults in
         BecomesOf (files host.old) (files host.new) (LeavesFiles (request_in words.now) result) }
@@ -160,7 +160,7 @@ pub fn run<H: Host, R: Threads + Wait + Sync, O: Sink + Send, E: Sink, G: Gate +
         (H.failed_writes host.old) (H.failed_writes host.new)) }
     ensures untouched { NamesNoPath (request_in words.now) → host.new ≡ host.old }
 
-    // No count falls, and none rises where all went well; and all goes well where none rises,
+    // No count falls, and none rises if all went well; and all goes well if none rises,
     // unless memory is short.
     ensures later { let faults = counts_of H.read_faults H.write_faults H.log_faults O.faults in
         CountsLater (faults host.old out.old) (faults host.new out.new) }

@@ -127,7 +127,7 @@ pub(crate) fn stored<'a>(relation: &'a [&'a [u8]], log: Option<&'a [u8]>) -> Bef
     }
 }
 
-/// A relation of these segments that can have so many, each of two blocks, and a log.
+/// A relation of these segments that can have `count` of them, each of two blocks, and a log.
 pub(crate) fn roomy<'a>(relation: &'a [&'a [u8]], log: &'a [u8], count: u32) -> Before<'a> {
     Before {
         relation,

@@ -77,7 +77,7 @@ pub(crate) fn dead_items_page() -> [u8; 8192] {
     page_of(&DEAD_ITEMS_FRONT, &DEAD_ITEMS_BACK)
 }
 
-/// A page so many times.
+/// A page, `count` times.
 pub(crate) fn repeated(alloc: Global, page: &[u8; 8192], count: u32) -> Result<Vec<u8>, Fail> {
     let mut bytes = Vec::new(alloc);
     for _ in 0..count {

@@ -1,4 +1,4 @@
--- A write to a lane of which no call is to fail: it fails only where there is no room for the block.
+-- A write to a lane of which no call is to fail: it fails only if there is no room for the block.
 use Rattle.std.proofs.Common.{◌≡◌, Bool, true, false, cond, List, ℕ, Option, Some, None, Result, Ok, Err, inl, inr, refl, sym, ap, ◌∙◌, arith}
 use Rattle.std.specs.Prelude.{OnErr, is_ok, is_some, option_map}
 use Rattle.block_tag.specs.Names.{tag_eq}

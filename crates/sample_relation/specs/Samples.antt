@@ -37,7 +37,7 @@ items block (suc n) = replicate (item_length (suc n)) ((block + suc n) % 256) ++
 abbrev pub lower_end : ℕ → ℕ
 lower_end n = 24 + 4 * n
 
--- a page with so many items, at the log position 8 times its block
+-- a page with n items, at the log position 8 times its block
 unfoldable pub used_page : ℕ → ℕ → List ℕ
 used_page block n =
     ((header_bytes (8 * block) 0 (lower_end n) (item_offset n) ++ pointers block n) ++ replicate (item_offset n - lower_end n) 0) ++ items block n

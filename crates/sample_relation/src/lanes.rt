@@ -55,7 +55,7 @@ fn add_block(
     lanes[number as usize].hold(alloc, tag, page)
 }
 
-/// Makes the first blocks of the relation with this seed, each in its lane of so many. Out of memory is its only error.
+/// Makes the first blocks of the relation with this seed, each in its own lane. Out of memory is its only error.
 pub fn sample_lanes(
     alloc: Global,
     seed: u32,

@@ -129,7 +129,7 @@ fn put_unsound_page(bytes: &mut Vec<u8>, block: u32) -> Result<(), Memory>
     put_copies(bytes, PAGE_SIZE - HEADER_SIZE as usize, 0)
 }
 
-/// The page of a kind: a new one, one that isn't sound, or one with so many items.
+/// The page of a kind: a new one, one that isn't sound, or one with as many items as the kind says.
 fn put_page(bytes: &mut Vec<u8>, kind: u16, block: u32) -> Result<(), Memory>
     requires { kind ≤ 7 }
     ensures { OnOk result (Extends bytes.old.items bytes.new.items (page_of_kind kind block)) }

@@ -134,12 +134,12 @@ impl<'a, R: Files> FileHost<'a, R> {
         })
     }
 
-    /// Opens the files of a catalogue, whose segments have up to `seg_blocks` blocks, as so many lanes:
+    /// Opens the files of a catalogue, whose segments have up to `seg_blocks` blocks, as `lanes` lanes:
     /// each lane reaches all files. As `Host::relation` it takes the place of what was opened before.
     ///
-    /// `Missing` comes where the first segment of an entry isn't there. `Failed` counts as a failed
-    /// read, and comes also where two entries are of one fork of a relation, where the path of one is
-    /// that of a segment of another, and where two have a file in common, if only by a link.
+    /// `Missing` comes if the first segment of an entry isn't there. `Failed` counts as a failed
+    /// read, and comes also if two entries are of one fork of a relation, if the path of one is
+    /// that of a segment of another, or if two have a file in common, even if only by a link.
     pub fn relations(
         &mut self,
         alloc: Global,

@@ -49,7 +49,7 @@ fn regular_file<F: OpenFile>(file: &F) -> io::Result<Metadata> {
     Ok(found)
 }
 
-/// Opens a file for reading and writing or, where that fails though it is there, for reading alone.
+/// Opens a file for reading and writing or, if that fails though it is there, for reading alone.
 fn open_file<R: Files>(rt: &R, path: &str) -> io::Result<R::File> {
     match OpenOptions::new().read(true).write(true).open(rt, path) {
         Ok(file) => Ok(file),
@@ -78,7 +78,7 @@ pub(crate) fn open_segment<R: Files>(
     Ok(file)
 }
 
-/// Opens a file for writing: it is created, or emptied where it exists. It isn't emptied before it
+/// Opens a file for writing: it is created, or emptied if it exists. It isn't emptied before it
 /// is known to be none of the files that are open: a path may name one of these by a link.
 pub(crate) fn open_empty<R: Files>(
     rt: &R,

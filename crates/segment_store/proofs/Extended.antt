@@ -69,7 +69,7 @@ module _ (place : ℕ) (bytes : List ℕ) (fits : 8192 * place ≤ length bytes)
   blocks_upto = first_more (new_page_at place bytes) place
       ∙ ap₂ (λ (pages : List (List ℕ)) (page : List ℕ). pages ++ page ∷ []) blocks_before block_here
 
--- so many first blocks of the segments, where the first one has them
+-- so many first blocks of the segments, if the first one has them
 first_of : (seg_blocks : ℕ) (bytes : List ℕ) (segments : List (List ℕ)) (count : ℕ) → count ≤ seg_blocks → count ≤ length bytes / 8192
     → take count (segment_pages seg_blocks (bytes ∷ segments)) ≡ first_blocks bytes count
 first_of seg_blocks bytes segments count few there =

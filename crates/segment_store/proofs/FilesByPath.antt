@@ -126,7 +126,7 @@ module _ {F : Type 0} (name : F → List ℕ) (path : List ℕ) where
       ]
     ]
 
-    -- a file that is added where none has the path is read at the path, and all other paths as before
+    -- a file that is added if none has the path is read at the path, and all other paths as before
     pub read_pushed : (files : List F) (other : F) (p : List ℕ) → None ≡ position has_path files → name other ≡ path
         → of_first name read none (files ++ other ∷ []) p ≡ cond (bytes_eq p path) (read other) (of_first name read none files p)
     read_pushed files other p found named = read_pushed_from files 0 other p (sym (position_from-zero has_path files) ∙ sym found) named
@@ -146,21 +146,21 @@ same_unless true x y is = is refl
 same_unless false x y is = refl
 
 module _ {F : Type 0} (name : F → List ℕ) (path : List ℕ) {X : Type 0} (read : F → X) (none : X) where
-  -- where the other file says this at the path
+  -- if the other file says this at the path
   pub read_becomes : (files : List F) (place : ℕ) (other : F) (p : List ℕ) (now : X) → IsFirst name path files place → name other ≡ path
       → (p ≡ path → read other ≡ now) → of_first name read none (set files place other) p ≡ cond (bytes_eq p path) now (of_first name read none files p)
   read_becomes files place other p now first named is =
       read_set name path read none files place other p first named
       ∙ when_true (bytes_eq p path) (read other) now (of_first name read none files p) (λ same. is (same_text p path (sym same)))
 
-  -- where it says the same
+  -- if it says the same
   pub read_stays : (files : List F) (place : ℕ) (other d : F) (p : List ℕ) → IsFirst name path files place → name other ≡ path
       → read other ≡ read (get_or files place d) → of_first name read none (set files place other) p ≡ of_first name read none files p
   read_stays files place other d p first named is =
       read_becomes files place other p (of_first name read none files p) first named (λ same. is ∙ sym (read_first name path read none files place d first) ∙ ap (λ (q : List ℕ). of_first name read none files q) (sym same))
       ∙ sym (same_unless (bytes_eq p path) (of_first name read none files p) (of_first name read none files p) (λ same. refl))
 
-  -- where there is no file with the path, nothing is said there
+  -- if there is no file with the path, nothing is said there
   pub read_absent : (files : List F) (p : List ℕ) (now : X) → None ≡ position (has_path name path) files → (p ≡ path → none ≡ now)
       → of_first name read none files p ≡ cond (bytes_eq p path) now (of_first name read none files p)
   read_absent files p now found is = same_unless (bytes_eq p path) now (of_first name read none files p)

@@ -100,7 +100,7 @@ pub held_none : (fork : Fork) (lanes : List (Option Pages)) → last_held fork l
 unfolding last_held
 held_none fork lanes = refl
 
--- how many blocks of segments are counted: those of the first where it isn't full
+-- how many blocks of segments are counted: those of the first if it isn't full
 pub count_short : (seg_blocks : ℕ) (bytes : List ℕ) (segments : List (List ℕ)) → length bytes / 8192 < seg_blocks
     → length (segment_pages seg_blocks (bytes ∷ segments)) ≡ length bytes / 8192
 count_short seg_blocks bytes segments below =
@@ -108,7 +108,7 @@ count_short seg_blocks bytes segments below =
     let is : segment_pages seg_blocks (bytes ∷ segments) ≡ first_blocks bytes n = rw (lt-ltb n seg_blocks below) in
     ap (λ (l : List (List ℕ)). length l) is ∙ length-first bytes n
 
--- and those of the others where it is
+-- and those of the others if it is
 pub count_full : (seg_blocks : ℕ) (bytes : List ℕ) (segments : List (List ℕ)) → seg_blocks ≤ length bytes / 8192
     → length (segment_pages seg_blocks (bytes ∷ segments)) ≡ seg_blocks + length (segment_pages seg_blocks segments)
 count_full seg_blocks bytes segments full =

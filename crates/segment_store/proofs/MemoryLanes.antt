@@ -13,7 +13,7 @@ use Rattle.segment_store.specs.declared.memory_block.MemBlock.{MemBlock}
 pub same_tag : (t q : Tag) → tree.is_at (tags.ghosts.cmp t) q ≡ tag_eq q t
 same_tag t q = search rules
 
--- two tags are one where the test says so
+-- two tags are one if the test says so
 one_tag : (a b : Tag) → tag_eq a b ≡ true → a ≡ b
 one_tag a b same = grind arith
 
@@ -70,14 +70,14 @@ module _ (old new : tree.BTreeMap Tag MemBlock) (tag : Tag) (block : MemBlock) (
   pub room_put : room_in_map new ≡ with_mark tag true (room_in_map old)
   room_put = λ i q. seen (λ o. is_some o) q i
 
-  -- where a block had a place there is room for what there was
+  -- if a block had a place there is room for what there was
   pub room_stays : room_in_map old tag ≡ true → room_in_map new ≡ room_in_map old
   room_stays has = λ i q. (seen (λ o. is_some o) q ∙ at_tag (tag_eq q tag) q refl) i where
     at_tag : (same : Bool) (q : Tag) → tag_eq q tag ≡ same → cond same true (is_some (tree.get tags.ghosts.cmp old q)) ≡ is_some (tree.get tags.ghosts.cmp old q)
     at_tag true q is = sym (ap (λ (t : Tag). is_some (tree.get tags.ghosts.cmp old t)) (one_tag q tag is) ∙ has)
     at_tag false q is = refl
 
-  -- of what looks the same with the block as without it nothing changes where there was none
+  -- of what looks the same with the block as without it nothing changes if there was none
   unseen : {T : Type 0} (see : Option MemBlock → T) → see (Some block) ≡ see None → tree.get tags.ghosts.cmp old tag ≡ None → (q : Tag) → see (tree.get tags.ghosts.cmp new q) ≡ see (tree.get tags.ghosts.cmp old q)
   unseen {T} see same none q = seen see q ∙ at_tag (tag_eq q tag) refl where
     at_tag : (b : Bool) → tag_eq q tag ≡ b → cond b (see (Some block)) (see (tree.get tags.ghosts.cmp old q)) ≡ see (tree.get tags.ghosts.cmp old q)

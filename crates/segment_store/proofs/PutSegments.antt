@@ -68,7 +68,7 @@ module _ (fork : Fork) (lanes : List (Option Pages)) (seg_blocks : ℕ) (old now
   done_is writes way = way.done
       ∙ ap (λ (l : List (List ℕ)). take index now ++ restored seg_blocks l (pages_in fork lanes first (take (2 ^ 32 - 1 - first) (segment_pages seg_blocks l)))) (next_is writes way)
 
-  -- where the segment wasn't full, all is done
+  -- if the segment wasn't full, all is done
   pub last_put : WritesNext → IsUnderway fork lanes seg_blocks old now index first → count < seg_blocks → set now index written ≡ given_back fork seg_blocks lanes old
   last_put writes way short =
       let puts = puts_first fork lanes seg_blocks bytes (drop (index + 1) old) first (2 ^ 32 - 1 - first) count writes.count_is in
@@ -79,7 +79,7 @@ module _ (fork : Fork) (lanes : List (Option Pages)) (seg_blocks : ℕ) (old now
       ∙ ap (λ (l : List (List ℕ)). take (index + 1) (set now index written) ++ l) (sym (untouched ∙ behind writes way))
       ∙ take-append-drop (index + 1) (set now index written))
 
-  -- where it was full, the others are left
+  -- if it was full, the others are left
   pub next_put : WritesNext → IsUnderway fork lanes seg_blocks old now index first → count ≡ seg_blocks → IsUnderway fork lanes seg_blocks old (set now index written) (index + 1) (first + count)
   next_put writes way full =
       let puts = puts_first fork lanes seg_blocks bytes (drop (index + 1) old) first (2 ^ 32 - 1 - first) count writes.count_is in

@@ -46,7 +46,7 @@ concat-first bytes (suc count) = subst (λ (n : ℕ). concat (first_blocks bytes
 pub with_first : (bytes : List ℕ) (count : ℕ) → with_pages (first_blocks bytes count) bytes ≡ bytes
 with_first bytes count = ap (λ (n : ℕ). concat (first_blocks bytes count) ++ drop (8192 * n) bytes) (length-first bytes count) ∙ concat-first bytes count
 
--- how many blocks of a segment are counted where so many are left
+-- how many blocks of a segment are counted if so many are left
 abbrev pub counted_blocks : ℕ → List ℕ → ℕ → ℕ
 counted_blocks seg_blocks bytes left = min (min (length bytes / 8192) seg_blocks) left
 

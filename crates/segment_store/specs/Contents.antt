@@ -1,4 +1,4 @@
--- What lanes hold, where it is known: None where it isn't.
+-- What lanes hold, if it is known: None if it isn't.
 use Rattle.std.specs.Prelude.{◌≡◌, ◌⊎◌, ℕ, List, length, Option, Some, None, Bool, true, false, Result, IfSome, IsSomeAnd, MatchResult, if◌then◌else◌, is_some}
 use Rattle.block_tag.specs.Names.{tag_eq}
 use Rattle.block_tag.specs.declared.tag.Tag.{Tag}

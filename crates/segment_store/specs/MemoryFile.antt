@@ -4,12 +4,13 @@ use Rattle.segment_store.specs.MemoryHost.{file_path}
 use Rattle.segment_store.specs.Paths.{of_first}
 use Rattle.segment_store.specs.declared.memory_file.MemFile.{MemFile}
 
--- with up to so many blocks in each segment: none where a segment has no room for them
+-- how many blocks a file's relation may have, with up to `seg_blocks` in each segment: none if a
+-- segment has no room for them
 unfoldable pub file_room : MemFile → ℕ → ℕ
 file_room file seg_blocks =
     if nat_lt file.blocks seg_blocks then 0 else min (seg_blocks * file.count) (2 ^ 32 - 1)
 
--- the same of the relation at a path
+-- how many blocks the relation at a path may have
 abbrev pub room_at : List MemFile → List ℕ → ℕ → ℕ
 room_at files path seg_blocks = of_first file_path (λ file. file_room file seg_blocks) 0 files path
 

@@ -35,7 +35,7 @@ whole_page (Some block) = whole_there block.there block.page block.whole where
   whole_there true page whole = whole
   whole_there false page whole = tt
 
--- where a page is, there is a place
+-- a block that has a page has a place
 pub there_has_room : (block : Option MemBlock) → is_some (option_and_then page_there block) ≡ true → is_some block ≡ true
 there_has_room None there = there
 there_has_room (Some block) there = refl

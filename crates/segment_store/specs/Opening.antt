@@ -11,7 +11,7 @@ use Rattle.segment_store.specs.Relation.{relation_of}
 module _ {L : Type 0} (contents : L → Option Pages) (failed unsynced lane_room : L → Marks)
     (read_faults write_faults : L → ℕ) where
   -- as many lanes as were asked for, without faults or writes, and each holds only its own blocks;
-  -- where the paths are known, the relation is there, each block is in the lane of its tag and nothing
+  -- if the paths are known, the relation is there, each block is in the lane of its tag and nothing
   -- else is, and no lane has room for a block past the end but those that the relation may have
   pub record IsOpened (known : Option Paths) (room : ℕ) (path : List ℕ) (fork : Fork)
       (seg_blocks lanes : ℕ) (opened : Opened L) : Type 0 where

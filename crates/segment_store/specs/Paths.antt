@@ -6,7 +6,7 @@ use Rattle.std.specs.Str.{bytes_eq}
 use Rattle.block_tag.specs.declared.tag.Fork.{Fork}
 use Rattle.block_tag.specs.declared.tag.Fork.TheVariants.{Main, Fsm, Vm, Init}
 
--- paths to the bytes of their segments, of which there is none where the relation isn't there
+-- paths to the bytes of their segments, of which there is none if the relation isn't there
 abbrev pub Paths : Type 0
 Paths = List ℕ → List (List ℕ)
 

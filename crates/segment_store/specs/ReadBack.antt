@@ -12,7 +12,7 @@ abbrev pub ReadsBack : Type 0
 ReadsBack = (seg_blocks : ℕ) (segments pages : List (List ℕ)) → All (λ page. length page ≡ 8192) pages → length pages ≤ length (segment_pages seg_blocks segments)
     → segment_pages seg_blocks (restored seg_blocks segments pages) ≡ pages ++ drop (length pages) (segment_pages seg_blocks segments)
 
--- a relation whose lanes were given back has their pages, each as it was where no lane has it
+-- a relation whose lanes were given back has their pages, each as it was if no lane has it
 abbrev pub HasGivenPages : Type 0
 HasGivenPages = (fork : Fork) (seg_blocks : ℕ) (lanes : List (Option Pages)) (segments : List (List ℕ)) → All (λ lane. IfSome lane AreFullPages) lanes
     → relation_of seg_blocks (given_back fork seg_blocks lanes segments) ≡ pages_in fork lanes 0 (relation_of seg_blocks segments)

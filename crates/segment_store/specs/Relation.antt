@@ -6,7 +6,7 @@ use Rattle.std.specs.List.{range_with_len, slice_range}
 unfoldable pub block_at : List ℕ → ℕ → List ℕ
 block_at bytes place = slice_range bytes (8192 * place) (8192 * place + 8192)
 
--- the first blocks of a file, so many
+-- the first `count` blocks of a file
 abbrev pub first_blocks : List ℕ → ℕ → List (List ℕ)
 first_blocks bytes count = map (block_at bytes) (range_with_len 0 count)
 

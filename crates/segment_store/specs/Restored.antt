@@ -8,7 +8,7 @@ use Rattle.segment_store.specs.Lanes.{mark_in, page_in, tag_at}
 use Rattle.segment_store.specs.Paths.{OpenAt, Paths, PathMarks, fork_of}
 use Rattle.segment_store.specs.Relation.{relation_of}
 
--- the pages from this block on as their lanes have them, each as it was where no lane has it
+-- the pages from this block on as their lanes have them, each as it was if no lane has it
 abbrev pub pages_in : Fork → List (Option Pages) → ℕ → List (List ℕ) → List (List ℕ)
 pages_in fork lanes block [] = []
 pages_in fork lanes block (page ∷ pages) = unwrap_or (page_in lanes (tag_at fork block)) page ∷ pages_in fork lanes (block + 1) pages

@@ -12,16 +12,16 @@ use page_layout::Page;
 ///
 /// A call leaves what its clauses don't name as it was. A count never falls, and rises only in a call that fails.
 pub trait BlockLane {
-    /// The pages by their tags, where the contents are known.
+    /// The pages by their tags, if the contents are known.
     ghost contents: { Self → Option Pages };
 
-    /// The tags whose last write failed; it says something only where the contents are known.
+    /// The tags whose last write failed; it says something only if the contents are known.
     ghost failed_writes: { Self → Marks };
 
     /// The tags that were written since the last sync that succeeded.
     ghost unsynced: { Self → Marks };
 
-    /// The blocks that the lane has room for, those that it holds among them; it says something only where the contents are known.
+    /// The blocks that the lane has room for, those that it holds among them; it says something only if the contents are known.
     ghost room: { Self → Marks };
 
     /// How many reads failed.

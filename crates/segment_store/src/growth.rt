@@ -16,7 +16,7 @@ use block_tag::{Fork, RelNo, Tag};
 use page_layout::PAGE_SIZE;
 use std::alloc::{AllocError, Global};
 
-/// Makes room for so many blocks in each segment.
+/// Makes room for this many blocks in each segment.
 pub fn reserve_blocks(segments: &mut [Vec<u8>], blocks: u32) -> Result<(), AllocError>
     ensures bytes { OnOk result (bytes_of segments.new ≡ bytes_of segments.old) }
     ensures room { OnOk result (
@@ -28,7 +28,7 @@ pub fn reserve_blocks(segments: &mut [Vec<u8>], blocks: u32) -> Result<(), Alloc
     Ok(())
 }
 
-/// So many empty segments, each with room for so many blocks.
+/// `count` empty segments, each with room for `blocks` blocks.
 pub fn empty_segments(alloc: Global, count: usize, blocks: u32) -> Result<Vec<Vec<u8>>, AllocError>
     ensures count { IfOk result (λ spare. vec_len spare ≡ count) }
     ensures room { IfOk result (λ spare.
@@ -86,7 +86,7 @@ pub fn count_blocks(segments: &[Vec<u8>], seg_blocks: u32) -> u32
     count
 }
 
-/// One more than the last of the first blocks, so many, that its lane has.
+/// One more than the last of the first `room` blocks that its lane has.
 pub fn last_held(lanes: &[MemLane], fork: Fork, room: u32) -> u32
     ensures { result ≡ last_held fork (map (λ lane. Some (pages_of lane)) lanes.now) room }
 {

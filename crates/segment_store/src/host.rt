@@ -51,23 +51,23 @@ pub trait Host {
 
     type Source: Source;
 
-    /// The bytes of the segments at each path, where the contents are known; none where the relation isn't there.
+    /// The bytes of the segments at each path, if the contents are known; none if the relation isn't there.
     ghost contents: { Self → Option Paths };
 
-    /// The blocks of each path whose last write since the opening failed; it says something only where the contents are known.
+    /// The blocks of each path whose last write since the opening failed; it says something only if the contents are known.
     ghost failed_writes: { Self → PathMarks };
 
-    /// The relation that was opened last; it says something only where the contents are known.
+    /// The relation that was opened last; it says something only if the contents are known.
     ghost open_at: { Self → OpenAt };
 
-    /// How many blocks the relation at a path may have, with up to so many in each segment;
-    /// it says something only where the contents are known.
+    /// How many blocks the relation at a path may have, by how many each segment may have;
+    /// it says something only if the contents are known.
     ghost room: { Self → List ℕ → ℕ → ℕ };
 
-    /// The logs at their paths, where they are known.
+    /// The logs at their paths, if they are known.
     ghost logs: { Self → Option Logs };
 
-    /// The path of the log that was opened last; it says something only where the logs are known.
+    /// The path of the log that was opened last; it says something only if the logs are known.
     ghost log_at: { Self → List ℕ };
 
     /// How many openings of relations and of sources failed, and reads of lanes and of sources that were given back.
@@ -79,9 +79,9 @@ pub trait Host {
     /// How many openings of logs failed, and calls of logs that were given back.
     ghost log_faults: { Self → ℕ };
 
-    /// Opens the relation at a path, whose segments have up to `seg_blocks` blocks, as so many lanes.
+    /// Opens the relation at a path, whose segments have up to `seg_blocks` blocks, as `lanes` lanes.
     /// They may have room for blocks past its end, as far as the relation may grow.
-    /// `Missing` comes only where the first segment isn't there, and `Ok` never does then.
+    /// `Missing` comes only if the first segment isn't there, and `Ok` never does then.
     fn relation(
         &mut self,
         alloc: Global,
@@ -107,7 +107,7 @@ pub trait Host {
         ensures writes { write_faults self.new ≡ write_faults self.old }
         ensures log_faults { log_faults self.new ≡ log_faults self.old };
 
-    /// Opens an empty log at a path: it is created, or emptied where it exists. A refusal leaves the logs as they were.
+    /// Opens an empty log at a path: it is created, or emptied if it exists. A refusal leaves the logs as they were.
     fn log(&mut self, alloc: Global, path: &str) -> Result<Self::Log, LogOpen>
         ensures opened { IfOk result (IsOpenedLog Self.Log.bytes Self.Log.synced Self.Log.faults (logs self.old)) }
         ensures logs { MatchResult result (λ _. logs self.new ≡ option_map (with_log path.now empty_log) (logs self.old)) (λ _. logs self.new ≡ logs self.old) }
@@ -121,7 +121,7 @@ pub trait Host {
         ensures writes { write_faults self.new ≡ write_faults self.old };
 
     /// Opens what is at a log's path for reading, from its first byte on; it stays as it is.
-    /// `Missing` comes only where nothing is there, and `Ok` never does then.
+    /// `Missing` comes only if nothing is there, and `Ok` never does then.
     fn bytes(&mut self, alloc: Global, path: &str) -> Result<Self::Source, HostError>
         ensures opened { IfOk result (IsOpenedSource Self.Source.left Self.Source.faults (logs self.old) path.now) }
         ensures missing { IsErrOf result HostError.Missing → IfSome (logs self.old) (λ logs. logs path.now ≡ None) }
@@ -164,11 +164,11 @@ pub trait Host {
 
     ghost log_faults_fit: { (host : Self) → log_faults host < 2 ^ 64 };
 
-    /// Where the logs are known, so are the bytes of each log that the host opens, also after calls to it.
+    /// If the logs are known, so are the bytes of each log that the host opens, also after calls to it.
     /// This is said of every log of the type, since all that is known of the log that a manager
     /// gives back is its type.
     ghost logs_told: { (host : Self) (log : Self.Log) → IfSome (logs host) (λ _. IsSome (Self.Log.bytes log)) };
 
-    /// Where the logs are known, so are the bytes left of each source that the host opens, also after calls to it.
+    /// If the logs are known, so are the bytes left of each source that the host opens, also after calls to it.
     ghost sources_told: { (host : Self) (source : Self.Source) → IfSome (logs host) (λ _. IsSome (Self.Source.left source)) };
 }

@@ -52,7 +52,7 @@ impl MemFile {
         }
     }
 
-    /// A file whose relation may have so many segments, each with so many blocks.
+    /// A file whose relation may have `count` segments, each with `blocks` blocks.
     pub fn with_space(
         alloc: Global,
         path: String,
@@ -81,7 +81,7 @@ impl MemFile {
         })
     }
 
-    /// How many blocks the relation may have, with up to so many in each segment.
+    /// How many blocks the relation may have, with up to `seg_blocks` in each segment.
     pub fn room(&self, seg_blocks: u32) -> u32
         ensures { result ≡ file_room self.now seg_blocks }
     {
@@ -91,7 +91,7 @@ impl MemFile {
         seg_blocks.saturating_mul(self.count)
     }
 
-    /// Makes the segment of this number, empty, where it isn't there.
+    /// Makes the segment of this number, empty, if it isn't there.
     fn make_segment(&mut self, index: usize)
         requires few { index < self.old.count }
         requires next { index ≤ vec_len self.old.segments }

@@ -103,7 +103,7 @@ fn relation_pages(
     Ok(pages)
 }
 
-/// Takes a block into the lane of this number, of so many, if it is that lane's own.
+/// Takes a block into the lane of this number, if it is that lane's own.
 fn hold_own(
     alloc: Global,
     lane: &mut MemLane,
@@ -131,7 +131,7 @@ fn hold_own(
     Ok(())
 }
 
-/// Makes room for a block in the lane of this number, of so many, if it is that lane's own.
+/// Makes room for a block in the lane of this number, if it is that lane's own.
 fn reserve_own(
     alloc: Global,
     lane: &mut MemLane,
@@ -156,7 +156,7 @@ fn reserve_own(
     lane.reserve(alloc, tag)
 }
 
-/// Makes room in the lane of this number, of so many, for its own blocks from one on up to another.
+/// Makes room in the lane of this number for its own blocks from one on up to another.
 fn reserve_past(
     alloc: Global,
     lane: &mut MemLane,
@@ -188,8 +188,8 @@ fn reserve_past(
     Ok(())
 }
 
-/// The lane of this number, of so many, with its own blocks of a relation,
-/// and room for its own of so many first ones.
+/// The lane of this number, with its own blocks of a relation, and with room for its own of the first
+/// `room` blocks.
 fn own_lane(
     alloc: Global,
     pages: &[Page],
@@ -223,8 +223,8 @@ fn own_lane(
     Ok(lane)
 }
 
-/// So many lanes, each with its own blocks of a relation,
-/// and room for its own of so many first ones.
+/// `count` lanes, each with its own blocks of a relation, and with room for its own of the first
+/// `room` blocks.
 fn deal_lanes(
     alloc: Global,
     pages: &[Page],
@@ -351,7 +351,7 @@ impl MemHost {
         }
     }
 
-    /// The segments at a path, none where there is no file.
+    /// The segments at a path, none if there is no file.
     pub fn segments(&self, path: &str) -> &[Vec<u8>]
         ensures { IfSome (⟦<MemHost as Host>⟧.contents self.now) (λ paths. bytes_of result.now ≡ paths path.now) }
     {
@@ -361,7 +361,7 @@ impl MemHost {
         }
     }
 
-    /// How many blocks the relation at a path may have, with up to so many in each segment.
+    /// How many blocks the relation at a path may have, with up to `seg_blocks` in each segment.
     fn room(&self, path: &str, seg_blocks: u32) -> u32
         ensures { result ≡ room_at self.now.files.items path.now seg_blocks }
     {
@@ -371,7 +371,7 @@ impl MemHost {
         }
     }
 
-    /// The log at a path, as it was put or given back last: empty where none was since it was opened.
+    /// The log at a path, as it was put or given back last: empty if none was since it was opened.
     pub fn stored_log(&self, path: &str) -> Option<&MemLog>
         ensures { IfSome (⟦<MemHost as Host>⟧.logs self.now) (λ logs. option_map (λ log. as_stored log.now) result ≡ logs path.now) }
     {
@@ -537,7 +537,7 @@ impl Host for MemHost {
         Ok(opened)
     }
 
-    /// Fails where the plan says so.
+    /// Fails if the plan says so.
     fn log(&mut self, alloc: Global, path: &str) -> Result<MemLog, LogOpen>
         ensures opened { IfOk result (IsOpenedLog (λ l. Some (as_stored l).bytes) (λ l. (as_stored l).synced) (λ l. l.faults.count) (Some (logs_at self.old.logs.files.items))) }
         ensures room { IfOk result (λ log. room_of log ≡ self.old.logs.room) }
@@ -556,7 +556,7 @@ impl Host for MemHost {
         self.logs.open(alloc, path)
     }
 
-    /// Fails where the plan says so.
+    /// Fails if the plan says so.
     fn bytes(&mut self, alloc: Global, path: &str) -> Result<MemSource, HostError>
         ensures opened { IfOk result (IsOpenedSource (λ s. Some (left_of s)) (λ s. s.faults.count) (Some (logs_at self.old.logs.files.items)) path.now) }
         ensures calls { IfOk result (λ source. source.calls ≡ fresh_plan self.old.logs.sources.calls) }

@@ -166,7 +166,7 @@ impl BlockLane for MemLane {
 
     ghost calls = { λ l. calls_of l };
 
-    /// Fails where the plan says so.
+    /// Fails if the plan says so.
     fn read(&mut self, tag: Tag, page: &mut Page) -> Result<(), Failed>
         requires { ForSome (Some (pages_of self.old)) (λ pages. IsSome (pages tag)) }
         ensures page { OnOk result (pages_of self.old tag ≡ Some page.new) }
@@ -193,7 +193,7 @@ impl BlockLane for MemLane {
         Err(Failed)
     }
 
-    /// Fails where the plan says so, and where there is no room for the block; a failed write leaves a torn page of a block that is there.
+    /// Fails if the plan says so, or if there is no room for the block; a failed write leaves a torn page of a block that is there.
     fn write(&mut self, tag: Tag, page: &Page) -> Result<(), Failed>
         ensures written { AfterWrite tag page.now (Some (pages_of self.old)) (marks_of self.old) (Some (pages_of self.new)) (marks_of self.new) result }
         ensures torn { OnErr result (pages_of self.new tag ≡ option_map (λ old. torn_page old page.now) (pages_of self.old tag)) }
@@ -226,7 +226,7 @@ impl BlockLane for MemLane {
         Ok(())
     }
 
-    /// Fails where the plan says so.
+    /// Fails if the plan says so.
     fn sync(&mut self) -> Result<(), Failed>
         ensures contents { pages_of self.new ≡ pages_of self.old }
         ensures failed { marks_of self.new ≡ marks_of self.old }

@@ -14,7 +14,7 @@ use crate::source_plan::SourcePlan;
 use log_device::{FaultCount, FaultPlan, LogDevice, LogPlan, MemLog, MemSource};
 use std::alloc::{AllocError, Global};
 
-/// A log's path, and the log as it was put or given back last: empty where none was since it was opened.
+/// A log's path, and the log as it was put or given back last: empty if none was since it was opened.
 #[derive(Drop)]
 pub struct LogFile {
     path: String,
@@ -38,7 +38,7 @@ fn durable_log(alloc: Global, bytes: &[u8]) -> Result<MemLog, AllocError>
     Ok(log)
 }
 
-/// Logs by their paths, each with room for so many bytes.
+/// Logs by their paths, each with room for the same number of bytes.
 #[derive(Drop)]
 pub struct MemLogs {
     files: Vec<LogFile>,
@@ -131,7 +131,7 @@ impl MemLogs {
         Ok(log)
     }
 
-    /// Opens an empty log at a path. Fails where the plan says so.
+    /// Opens an empty log at a path. Fails if the plan says so.
     pub fn open(&mut self, alloc: Global, path: &str) -> Result<MemLog, LogOpen>
         ensures bytes { IfOk result (λ log. (as_stored log).bytes ≡ []) }
         ensures synced { IfOk result (λ log. (as_stored log).synced ≡ 0) }
@@ -159,7 +159,7 @@ impl MemLogs {
         }
     }
 
-    /// Opens the bytes of the log at a path. Fails where the plan says so.
+    /// Opens the bytes of the log at a path. Fails if the plan says so.
     pub fn source(&mut self, alloc: Global, path: &str) -> Result<MemSource, HostError>
         ensures opened { IfOk result (λ source. IsSomeAnd (logs_at self.old.files.items path.now) (λ log. left_of source ≡ log.bytes)) }
         ensures faultless { IfOk result (λ source. source.faults.count ≡ 0) }

@@ -21,7 +21,7 @@ pub fn page_in<'a>(lanes: &'a [MemLane], tag: &Tag) -> Option<&'a Page>
     lanes[number as usize].page(tag)
 }
 
-/// Puts the first blocks of a segment as their lanes have them, so many, from this block on.
+/// Puts `count` blocks of a segment, from the block `first` on, as their lanes have them.
 fn put_blocks(bytes: &mut [u8], first: u32, count: u32, fork: Fork, lanes: &[MemLane])
     requires whole { 8192 * count ≤ length bytes.old }
     requires numbers { first + count < 2 ^ 32 }

@@ -70,7 +70,7 @@ unlocked_fields s = record s { locked = false }
 abbrev pub io_started_fields : StateWord → StateWord
 io_started_fields s = record s { in_progress = true }
 
--- after a good write the page is dirty, and the checkpoint has still to write it, only where it was dirtied
+-- after a good write the page is dirty, and the checkpoint has still to write it, only if it was dirtied
 -- again since the write began
 abbrev pub written_fields : StateWord → StateWord
 written_fields s = record s { dirty = s.just_dirtied && s.dirty; checkpoint_needed = s.just_dirtied && s.checkpoint_needed }
@@ -112,7 +112,7 @@ cleared_fields s = record {
 abbrev pub waiter_set_fields : ℕ → StateWord → StateWord
 waiter_set_fields number s = record s { awaited = true; waiter = number }
 
--- no backend waits (`UnpinBuffer`, where it wakes the waiter)
+-- no backend waits (`UnpinBuffer`, if it wakes the waiter)
 abbrev pub waiter_cleared_fields : StateWord → StateWord
 waiter_cleared_fields s = record s { awaited = false; waiter = 0 }
 

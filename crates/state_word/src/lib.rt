@@ -84,7 +84,7 @@ pub fn fields_fix_the_word()
 {}
 
 /// The word with one more pin (`PinBuffer`). A pin for a buffer ring raises the usage count from 0
-/// alone, another pin raises it where it is below `MAX_USAGE`.
+/// alone, another pin raises it if it is below `MAX_USAGE`.
 #[tactic(auto, unfolding(crate::specs::Fields::fields))]
 pub fn pinned(word: u64, ring: bool) -> u64
     requires { (fields word).pins < MAX_PINS }
@@ -157,7 +157,7 @@ pub fn io_started(word: u64) -> u64
 }
 
 /// The word after a read or a write of the page (`TerminateBufferIO`). A good write leaves the page
-/// dirty, and needed by the checkpoint, where it was dirtied again meanwhile.
+/// dirty, and needed by the checkpoint, if it was dirtied again meanwhile.
 pub fn io_ended(word: u64, end: IoEnd) -> u64
     ensures { fields result ≡ io_ended_fields end (fields word) }
 {
@@ -230,7 +230,7 @@ pub fn waiter_set(word: u64, number: u32) -> u64
     set_waiter(set_flag(word, Flag::PinCountWaiter), number)
 }
 
-/// The word once no backend waits (`UnpinBuffer`, where it wakes the waiter).
+/// The word once no backend waits (`UnpinBuffer`, if it wakes the waiter).
 pub fn waiter_cleared(word: u64) -> u64
     ensures { fields result ≡ waiter_cleared_fields (fields word) }
 {

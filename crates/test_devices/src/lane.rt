@@ -20,7 +20,7 @@ pub struct TestLane {
     pub reads: u32,
     pub writes: u32,
     given: Given,
-    /// Which write fails, counted from 1; none where this is 0.
+    /// Which write fails, counted from 1; none if this is 0.
     failing: u32,
     faults: FaultCount,
     history: LaneHistory,

@@ -10,7 +10,7 @@ pub struct TestLog {
     pub syncs: u32,
     /// How many calls were made.
     calls: u32,
-    /// Which call fails, counted from 1; none where this is 0.
+    /// Which call fails, counted from 1; none if this is 0.
     failing: u32,
     faults: FaultCount,
     history: CallCount,
