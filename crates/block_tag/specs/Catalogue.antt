@@ -1,5 +1,7 @@
 -- A catalogue of relations.
-use Rattle.std.specs.Prelude.{◌≡◌, ℕ, ◌≤◌, ◌<◌, Bool, ◌&&◌, ◌==◌, List, length, take, slice_get, slice_index, Option, Some, None, option_and_then, option_map, unwrap_or}
+use Rattle.std.specs.Prelude.{◌≡◌, ℕ, ◌≤◌, ◌<◌, Bool, ◌&&◌, ◌==◌, List, length, take, slice_get}
+use Rattle.std.specs.Prelude.{slice_index, Option, Some, None, option_and_then, option_map}
+use Rattle.std.specs.Prelude.{unwrap_or}
 use Rattle.std.specs.List.{position}
 use Rattle.block_tag.specs.declared.tag.Fork.{Fork}
 use Rattle.block_tag.specs.declared.catalogue.RelEntry.{RelEntry}
@@ -17,11 +19,13 @@ blocks_of e fork = slice_index e.blocks (fork_number fork)
 
 -- how many blocks a fork of the relation at this place has; none if there is no relation
 abbrev pub blocks_at : List RelEntry → ℕ → Fork → ℕ
-blocks_at entries place fork = unwrap_or (option_map (λ e. blocks_of e fork) (slice_get entries place)) 0
+blocks_at entries place fork =
+    unwrap_or (option_map (λ e. blocks_of e fork) (slice_get entries place)) 0
 
 -- the first entry before this place that names the same relation
 abbrev pub earlier_twin : List RelEntry → ℕ → Option ℕ
-earlier_twin entries place = option_and_then (λ e. position (is_twin e) (take place entries)) (slice_get entries place)
+earlier_twin entries place =
+    option_and_then (λ e. position (is_twin e) (take place entries)) (slice_get entries place)
 
 -- no entry names the relation of an earlier one
 abbrev pub HasNoTwins : List RelEntry → Type 0
@@ -40,7 +44,8 @@ pub record IsRefusedTwice (entries : List RelEntry) (first second : ℕ) : Type 
   pub few : length entries ≤ 1024
   pub first_twin : IsFirstTwin entries first second
 
--- why a list of relations is no catalogue; out of memory comes only for one that would be a catalogue
+-- why a list of relations is no catalogue; out of memory comes only for one that would be a
+-- catalogue
 abbrev pub IsRefusalOf : List RelEntry → CatalogError → Type 0
 IsRefusalOf entries (TooMany count) = (count ≡ length entries) × (1024 < count)
 IsRefusalOf entries (Twice first second) = IsRefusedTwice entries first second

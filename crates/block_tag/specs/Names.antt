@@ -1,5 +1,6 @@
 -- How blocks are named: the number of a fork, and of a tag.
-use Rattle.std.specs.Prelude.{ℕ, ◌+◌, ◌*◌, ◌/◌, ◌%◌, ◌^◌, ◌-◌, Bool, ◌&&◌, ◌==◌, nat_lt, Option, Some, None, if◌then◌else◌, option_and_then}
+use Rattle.std.specs.Prelude.{ℕ, ◌+◌, ◌*◌, ◌/◌, ◌%◌, ◌^◌, ◌-◌, Bool, ◌&&◌, ◌==◌, nat_lt, Option}
+use Rattle.std.specs.Prelude.{Some, None, if◌then◌else◌, option_and_then}
 use Rattle.block_tag.specs.declared.tag.Fork.{Fork}
 use Rattle.block_tag.specs.declared.tag.Fork.TheVariants.{Main, Fsm, Vm, Init}
 use Rattle.block_tag.specs.declared.tag.Tag.{Tag}
@@ -14,7 +15,9 @@ fork_number Init = 3
 -- the fork of a number, if it is one
 abbrev pub fork_of_number : ℕ → Option Fork
 fork_of_number n =
-    if n == 0 then Some Main else (if n == 1 then Some Fsm else (if n == 2 then Some Vm else (if n == 3 then Some Init else None)))
+    if n == 0 then Some Main
+    else (if n == 1 then Some Fsm
+    else (if n == 2 then Some Vm else (if n == 3 then Some Init else None)))
 
 -- the sum by which tags are spread over partitions and lanes
 abbrev pub hash_of : Tag → ℕ
@@ -43,7 +46,8 @@ tag_eq a b = a.rel.0 == b.rel.0 && (fork_number a.fork == fork_number b.fork && 
 abbrev pub packed_tag : Tag → ℕ
 packed_tag t = t.rel.0 * 2 ^ 40 + fork_number t.fork * 2 ^ 32 + t.block
 
--- whether a tag names a block: its relation has a place in a catalogue, and its block isn't the invalid one
+-- whether a tag names a block: its relation has a place in a catalogue, and its block isn't the
+-- invalid one
 abbrev pub names_block : Tag → Bool
 names_block t = nat_lt t.rel.0 1024 && nat_lt t.block (2 ^ 32 - 1)
 
@@ -57,4 +61,5 @@ tag_of_parts rel fork block = record { rel = record { 0 = rel }; fork = fork; bl
 -- the tag that a number is, if it is one
 unfoldable pub unpacked_tag : ℕ → Option Tag
 unpacked_tag packed =
-    option_and_then (λ fork. tag_if_named (tag_of_parts (packed / 2 ^ 40) fork (packed % 2 ^ 32))) (fork_of_number (packed / 2 ^ 32 % 2 ^ 8))
+    option_and_then (λ fork. tag_if_named (tag_of_parts (packed / 2 ^ 40) fork (packed % 2 ^ 32)))
+    (fork_of_number (packed / 2 ^ 32 % 2 ^ 8))

@@ -1,6 +1,8 @@
 //! The catalogue: the relations that a manager knows, with the sizes of their forks at opening.
-ghost use Rattle.std.specs.Prelude.{◌≡◌, ◌≤◌, ◌↔◌, [], IfErr, IfNone, IfOk, IfSome, IsTrue, length, position, slice_get};
-ghost use Rattle.block_tag.specs.Catalogue.{HasNoTwins, IsCatalogue, IsFirstTwin, blocks_at, blocks_of, is_twin, IsRefusalOf};
+ghost use Rattle.std.specs.Prelude.{◌≡◌, ◌≤◌, ◌↔◌, [], IfErr, IfNone, IfOk, IfSome, IsTrue, length};
+ghost use Rattle.std.specs.Prelude.{position, slice_get};
+ghost use Rattle.block_tag.specs.Catalogue.{HasNoTwins, IsCatalogue, IsFirstTwin, blocks_at};
+ghost use Rattle.block_tag.specs.Catalogue.{blocks_of, is_twin, IsRefusalOf};
 
 use crate::tag::{Fork, RelNo};
 use std::alloc::{AllocError, Global};
@@ -93,10 +95,11 @@ fn first_twin(entries: &[RelEntry]) -> Option<(usize, usize)>
 impl Catalog {
     /// Keeps a list of relations, with their sizes.
     ///
-    /// Refuses more than 1024, then a relation that stands twice: the first place whose relation stood
-    /// earlier, and where it stood first.
+    /// Refuses more than 1024, then a relation that stands twice: the first place whose relation
+    /// stood earlier, and where it stood first.
     pub fn build(alloc: Global, entries: &[RelEntry]) -> Result<Catalog, CatalogError>
-        ensures ok { IfOk result (λ catalogue. (catalogue ≡ entries.now) × IsCatalogue entries.now) }
+        ensures ok { IfOk result (λ catalogue.
+            (catalogue ≡ entries.now) × IsCatalogue entries.now) }
         ensures refused { IfErr result (IsRefusalOf entries.now) }
     {
         let count = entries.len();

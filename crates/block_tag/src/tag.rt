@@ -50,7 +50,8 @@ impl Fork {
     }
 }
 
-/// The name of a block: a relation of the catalogue, one of its forks, and the block's number there.
+/// The name of a block: a relation of the catalogue, one of its forks, and the block's number
+/// there.
 /// A tag can be made that names no block, so `names_block` tells, and `pack` takes any tag. A type
 /// without such tags would need a proof wherever a definition makes one.
 #[derive(Clone, Copy, PartialEq, Eq, PartialOrd, Ord, Hash, Debug)]
@@ -61,7 +62,8 @@ pub struct Tag {
 }
 
 impl Tag {
-    ghost use Rattle.block_tag.specs.Names.{hash_of, names_block, packed_tag, partition_number, unpacked_tag};
+    ghost use Rattle.block_tag.specs.Names.{hash_of, names_block, packed_tag, partition_number};
+    ghost use Rattle.block_tag.specs.Names.{unpacked_tag};
 
     /// Whether the tag names a block: its relation has a place in a catalogue, and its block isn't
     /// the invalid one.
@@ -86,7 +88,8 @@ impl Tag {
             .wrapping_add(fork)
     }
 
-    /// The tag that a number is: none if its fork is above 3, its block 0xFFFFFFFF, or its relation 1024 or more.
+    /// The tag that a number is: none if its fork is above 3, its block 0xFFFFFFFF, or its relation
+    /// 1024 or more.
     #[tactic(auto, unfolding(crate::specs::Names::unpacked_tag))]
     pub fn unpack(packed: u64) -> Option<Tag>
         ensures value { result ≡ unpacked_tag packed }
@@ -134,7 +137,8 @@ pub fn lane_of(tag: &Tag, lanes: u32) -> u32
     (tag.hash() % u64::from(lanes)) as u32
 }
 
-/// The segment file of a block, and the block's place in it, for segments of this many blocks (`md.c`).
+/// The segment file of a block, and the block's place in it, for segments of this many blocks
+/// (`md.c`).
 pub fn segment_place(block: u32, seg_blocks: u32) -> (u32, u32)
     requires { 1 ≤ seg_blocks }
     ensures segment { result.0 ≡ segment_of seg_blocks block }

@@ -2,7 +2,8 @@
 use Rattle.std.specs.Prelude.{true, [], ◌∷◌, Some, codes}
 use Rattle.clap.specs.Words.{App, Rule, Text, new_app, new_rule, with_rule, with_subcommand}
 use Rattle.clap.specs.declared.builder.value_parser.ValueParser.TheVariants as parser
-use Rattle.command_line.specs.Numbers.{NumberRange, backends_range, bgwriter_range, blocks_range, frames_range, lanes_range, seed_range, segment_blocks_range}
+use Rattle.command_line.specs.Numbers.{NumberRange, backends_range, bgwriter_range, blocks_range}
+use Rattle.command_line.specs.Numbers.{frames_range, lanes_range, seed_range, segment_blocks_range}
 
 -- a text that has to stand in its place
 abbrev pub text_rule : Text → Rule
@@ -41,7 +42,8 @@ path_app name = with_options (with_rule (new_app name) (text_rule (codes "path")
 -- `rewrite PATH --log FILE`
 abbrev pub rewrite_app : App
 rewrite_app =
-    with_options (with_rule (with_rule (new_app (codes "rewrite")) (text_rule (codes "path"))) log_rule)
+    with_options (with_rule (with_rule (new_app (codes "rewrite")) (text_rule (codes "path")))
+    log_rule)
 
 -- `recover PATH --log FILE`, with two of the options
 unfoldable pub recover_app : App
@@ -53,7 +55,8 @@ recover_app =
 -- `sample SEED BLOCKS`
 abbrev pub sample_app : App
 sample_app =
-    with_options (with_rule (with_rule (new_app (codes "sample")) (number_rule seed_range)) (number_rule blocks_range))
+    with_options (with_rule (with_rule (new_app (codes "sample")) (number_rule seed_range))
+    (number_rule blocks_range))
 
 -- the words begin with the subcommand, and one has to be there
 abbrev pub bare_app : App

@@ -1,5 +1,6 @@
 -- The numbers that a command takes, with their ranges.
-use Rattle.std.specs.Prelude.{ℕ, ◌≤◌, List, Option, Some, None, codes, option_and_then, if◌then◌else◌}
+use Rattle.std.specs.Prelude.{ℕ, ◌≤◌, List, Option, Some, None, codes, option_and_then}
+use Rattle.std.specs.Prelude.{if◌then◌else◌}
 use Rattle.std.specs.Str.Parse.{digits_value, without_leading_plus}
 use Rattle.clap.specs.ValueTests.{is_unsigned_in}
 use Rattle.clap.specs.Words.{Row, Text, first_of}
@@ -37,7 +38,8 @@ seed_range = record { name = codes "seed"; least = 0; greatest = 4294967295 }
 abbrev pub blocks_range : NumberRange
 blocks_range = record { name = codes "blocks"; least = 0; greatest = 16384 }
 
--- the number that a text writes if clap takes the text for one of the range: digits, which a plus may precede
+-- the number that a text writes if clap takes the text for one of the range: digits, which a plus
+-- may precede
 abbrev pub number_of : NumberRange → Text → Option ℕ
 number_of range text =
     if is_unsigned_in range.least range.greatest text
@@ -48,18 +50,21 @@ unfoldable pub number_in : NumberRange → List Row → Option ℕ
 number_in range rows = option_and_then (number_of range) (first_of range.name rows)
 
 abbrev pub options_from : Option ℕ → Option ℕ → Option ℕ → Option ℕ → Option ℕ → Option Options
-options_from (Some backends) (Some frames) (Some lanes) (Some seg_blocks) (Some rounds) = Some (record {
-  backends = backends;
-  frames = frames;
-  lanes = lanes;
-  seg_blocks = seg_blocks;
-  rounds = rounds;
-})
+options_from (Some backends) (Some frames) (Some lanes) (Some seg_blocks) (Some rounds) =
+    Some (record {
+      backends = backends;
+      frames = frames;
+      lanes = lanes;
+      seg_blocks = seg_blocks;
+      rounds = rounds;
+    })
 options_from _ _ _ _ _ = None
 
 -- the options among the matches
 abbrev pub options_in : List Row → Option Options
-options_in rows = options_from (number_in backends_range rows) (number_in frames_range rows) (number_in lanes_range rows)
+options_in rows =
+    options_from (number_in backends_range rows) (number_in frames_range rows)
+    (number_in lanes_range rows)
     (number_in segment_blocks_range rows) (number_in bgwriter_range rows)
 
 abbrev pub LiesIn : NumberRange → ℕ → Type 0

@@ -37,7 +37,8 @@ is_relation_path path = is_relation_number (number_part path)
 
 -- the number of the relation that the path names
 abbrev pub relation_number : List ℕ → Option ℕ
-relation_number path = if is_relation_path path then Some (number_value (number_part path)) else None
+relation_number path =
+    if is_relation_path path then Some (number_value (number_part path)) else None
 
 -- the path names the main fork
 abbrev pub is_main_fork : Fork → Bool

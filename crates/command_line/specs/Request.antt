@@ -39,7 +39,8 @@ listing_asked l = record { path = l.path.now; options = l.options; listing = l.l
 abbrev pub rewrite_asked : RewriteRequest → LoggedAsked
 rewrite_asked r = record { path = r.path.now; log = r.log.now; options = r.options }
 
--- a recovery has no buffer manager: one backend and the frames by default stand here, which are enough
+-- a recovery has no buffer manager: one backend and the frames by default stand here, which are
+-- enough
 abbrev pub recover_options : ℕ → ℕ → Options
 recover_options lanes seg_blocks =
     record { backends = 1; frames = 128; lanes = lanes; seg_blocks = seg_blocks; rounds = 0 }

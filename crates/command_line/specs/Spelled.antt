@@ -19,17 +19,20 @@ use Rattle.command_line.specs.Request.{sampling}
 -- the path among the matches, if it names a file of a relation
 abbrev pub relation_path_in : List Row → Option Text
 relation_path_in rows =
-    option_and_then (λ path. if is_relation_path path then Some path else None) (first_of (codes "path") rows)
+    option_and_then (λ path. if is_relation_path path then Some path else None)
+    (first_of (codes "path") rows)
 
 -- the path among the matches, if it names a main fork
 abbrev pub main_path_in : List Row → Option Text
 main_path_in rows =
-    option_and_then (λ path. if is_main_fork (fork_of path) then Some path else None) (relation_path_in rows)
+    option_and_then (λ path. if is_main_fork (fork_of path) then Some path else None)
+    (relation_path_in rows)
 
 -- the log among the matches, if it is no file of the relation at the path
 abbrev pub log_in : Text → List Row → Option Text
 log_in path rows =
-    option_and_then (λ log. if is_file_of path log then None else Some log) (first_of (codes "log") rows)
+    option_and_then (λ log. if is_file_of path log then None else Some log)
+    (first_of (codes "log") rows)
 
 -- a scan or a dump
 abbrev pub list_in : Listing → List Row → Options → Option Asked

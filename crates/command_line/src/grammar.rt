@@ -7,7 +7,9 @@ ghost use Rattle.std.specs.Prelude.{◌≡◌, IfOk, false, map, string_bytes};
 ghost use Rattle.clap.specs.Words.{FailsBy, app_of, fault_of, rule_of, subcommand_of};
 ghost use Rattle.clap.specs.declared.builder.command.Command.TheViews.{out-Command as fields_of};
 ghost use Rattle.clap.specs.Simple.{subcommand_rows_of};
-ghost use Rattle.command_line.specs.Grammar.{bare_app, log_rule, number_rule, option_rule, path_app, recover_app, rewrite_app, sample_app, text_rule, tool_app, with_options};
+ghost use Rattle.command_line.specs.Grammar.{bare_app, log_rule, number_rule, option_rule};
+ghost use Rattle.command_line.specs.Grammar.{path_app, recover_app, rewrite_app, sample_app};
+ghost use Rattle.command_line.specs.Grammar.{text_rule, tool_app, with_options};
 ghost use Rattle.command_line.specs.Numbers.{range_of};
 
 use crate::numbers::{BACKENDS, BGWRITER, BLOCKS, FRAMES, LANES, NumberArg, SEED, SEGMENT_BLOCKS};
@@ -152,7 +154,8 @@ fn tool_command<'a>(alloc: Global) -> Result<Command<'a>, AllocError>
 /// What clap makes of the words.
 pub(crate) fn parse<'a>(alloc: Global, words: &'a [String]) -> Result<ArgMatches<'a>, Error>
     ensures fails { FailsBy (fault_of tool_app (map string_bytes words.now)) result }
-    ensures matches { IfOk result (λ m. subcommand_rows_of m ≡ subcommand_of tool_app (map string_bytes words.now)) }
+    ensures matches { IfOk result (λ m. subcommand_rows_of m
+        ≡ subcommand_of tool_app (map string_bytes words.now)) }
 {
     let tool = tool_command(alloc)?;
     tool.try_get_matches_from(words)

@@ -1,7 +1,8 @@
 //! The numbers that a command takes, with their ranges.
 ghost use Rattle.std.specs.Prelude.{◌≡◌, IfSome, option_map};
 ghost use Rattle.clap.specs.Words.{first_of, found_of, rows_of};
-ghost use Rattle.command_line.specs.Numbers.{HasOptionsInRange, LiesIn, number_in, number_of, options_in, range_of};
+ghost use Rattle.command_line.specs.Numbers.{HasOptionsInRange, LiesIn, number_in, number_of};
+ghost use Rattle.command_line.specs.Numbers.{options_in, range_of};
 
 use clap::ArgMatches;
 
@@ -67,7 +68,8 @@ pub struct Options {
     /// How many device lanes hold the blocks, 1 to 16: `--lanes`, or 4.
     pub lanes: u32,
 
-    /// How many blocks a full segment of a relation has, 1 to 131072: `--segment-blocks`, or 131072.
+    /// How many blocks a full segment of a relation has, 1 to 131072: `--segment-blocks`, or
+    /// 131072.
     pub seg_blocks: u32,
 
     /// How many rounds the background writer makes, 0 to 1000: `--bgwriter`, or 0.
@@ -76,7 +78,8 @@ pub struct Options {
 
 /// The text among the matches.
 pub(crate) fn text_in<'a>(matches: &ArgMatches<'a>, name: &str) -> Option<&'a str>
-    ensures { option_map (λ text. text.now) result ≡ first_of name.now (rows_of (found_of matches.now)) }
+    ensures { option_map (λ text. text.now) result ≡ first_of name.now
+        (rows_of (found_of matches.now)) }
 {
     matches.get_str(name)
 }

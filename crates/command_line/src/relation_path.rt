@@ -1,6 +1,7 @@
 //! The relation's number that a path ends with.
 ghost use Rattle.std.specs.Prelude.{◌≡◌, ◌^◌, ◌-◌, Some, None, if◌then◌else◌, min};
-ghost use Rattle.command_line.specs.RelationPath.{file_name, fork_length, is_relation_number, number_value, relation_number};
+ghost use Rattle.command_line.specs.RelationPath.{file_name, fork_length, is_relation_number};
+ghost use Rattle.command_line.specs.RelationPath.{number_value, relation_number};
 ghost use Rattle.segment_store.specs.Paths.{fork_of};
 
 use block_tag::Fork;
@@ -45,7 +46,8 @@ fn number_value(digits: &[u8]) -> u64
 /// The number that digits are, if it is a relation's.
 #[tactic(auto, unfolding(crate::specs::RelationPath::is_relation_number))]
 fn number_of_digits(digits: &[u8]) -> Option<u32>
-    ensures { result ≡ (if is_relation_number digits.now then Some (number_value digits.now) else None) }
+    ensures { result ≡ (if is_relation_number digits.now then Some (number_value digits.now)
+        else None) }
 {
     if digits.first() == Some(&b'0') || !has_only_digits(digits) {
         return None;

@@ -1,5 +1,7 @@
--- A grid has a row for each view, a column for each thing that the views share, and a link where a view and a column meet.
--- A law of the grid says of each column how it stands to sums over its links, and of each link how it stands to its column.
+-- A grid has a row for each view, a column for each thing that the views share, and a link where a
+-- view and a column meet.
+-- A law of the grid says of each column how it stands to sums over its links, and of each link how
+-- it stands to its column.
 use Rattle.std.specs.Prelude.{◌≡◌, ℕ, ◌+◌, ◌<◌, List, [], ◌∷◌, nat_eq, cond}
 use mathlib.Core.Option.{some}
 use lib.ListN.{get_elem?}
@@ -44,9 +46,12 @@ pub record Part (S : Shape) : Type 1 where
   pub cell : S.Block → S.Column → S.Own → S.Link → Type 0
 
 -- The law p holds of the n columns and of each view's links there
-pub record Grid (S : Shape) (p : Part S) (n : ℕ) (column : ℕ → S.Column) (block : ℕ → S.Block) (views : List S.View) : Type 0 where
-  pub columns : (f : ℕ) → f < n → p.column (block (S.spot (column f))) (column f) (tallies S views f)
-  pub cells : (i : ℕ) (v : S.View) (f : ℕ) → get_elem? views i ≡ some v → f < n → p.cell (block (S.spot (column f))) (column f) (S.own v) (S.link v f)
+pub record Grid (S : Shape) (p : Part S) (n : ℕ) (column : ℕ → S.Column) (block : ℕ → S.Block)
+    (views : List S.View) : Type 0 where
+  pub columns : (f : ℕ) → f < n
+      → p.column (block (S.spot (column f))) (column f) (tallies S views f)
+  pub cells : (i : ℕ) (v : S.View) (f : ℕ) → get_elem? views i ≡ some v → f < n
+      → p.cell (block (S.spot (column f))) (column f) (S.own v) (S.link v f)
 
 -- g with x at f
 abbrev pub put : {A : Type 0} → (ℕ → A) → ℕ → A → ℕ → A

@@ -7,7 +7,8 @@ ghost use Rattle.block_tag.specs.declared.tag.Tag.{Tag};
 ghost use Rattle.segment_store.specs.Lanes.{HoldTheirs};
 ghost use Rattle.segment_store.specs.MemoryLane.{pages_of};
 ghost use Rattle.table_rule.specs.Shows.{AreLanes, devices};
-ghost use Rattle.library_example.specs.Files.{HasBlock, HasBlocks, HasOnlyOwn, IsOldLane, relations};
+ghost use Rattle.library_example.specs.Files.{HasBlock, HasBlocks, HasOnlyOwn, IsOldLane};
+ghost use Rattle.library_example.specs.Files.{relations};
 
 use crate::counters::page_from;
 use block_tag::{Catalog, CatalogError, Fork, RelEntry, RelNo, Tag, lane_of};
@@ -83,7 +84,8 @@ fn old_lane(alloc: Global, catalog: &Catalog, number: u32) -> Result<MemLane, Al
     Ok(lane)
 }
 
-/// The old files: both lanes, with all blocks. They are what `Manager::start` and `recover` ask for.
+/// The old files: both lanes, with all blocks. They are what `Manager::start` and `recover` ask
+/// for.
 pub fn old_lanes(alloc: Global, catalog: &Catalog) -> Result<Vec<MemLane>, AllocError>
     requires { catalog.now ≡ relations }
     ensures complete { IfOk result (λ lanes. AreLanes

@@ -1,5 +1,5 @@
-//! A small engine over the buffer manager, in memory: three backends change the pages of two relations, a checkpoint
-//! writes them, and then the log alone redoes them on the old files.
+//! A small engine over the buffer manager, in memory: three backends change the pages of two
+//! relations, a checkpoint writes them, and then the log alone redoes them on the old files.
 #![tactic(auto)]
 
 ghost use Rattle.std.specs.Prelude.{◌<◌, map, vec_len};
@@ -29,7 +29,8 @@ const BASE: Lsn = 4096;
 
 const ROOM: usize = 1_000_000;
 
-/// Starts a manager over these lanes and a new log, and lets the backends work. The lanes and the log afterwards.
+/// Starts a manager over these lanes and a new log, and lets the backends work. The lanes and the
+/// log afterwards.
 fn run<R: Threads + Wait + Sync>(
     rt: &R,
     alloc: Global,
@@ -73,7 +74,8 @@ fn redo(
     Ok(redone)
 }
 
-/// Prints the counter of each block of a relation, and counts the blocks whose page is the same in both.
+/// Prints the counter of each block of a relation, and counts the blocks whose page is the same in
+/// both.
 fn compare(
     rt: &impl Print,
     catalog: &Catalog,

@@ -13,7 +13,8 @@ pub record HasCause {T E : Type 0} (before now : ℕ) (result : Result T E) : Ty
 
 -- the count is the same after Ok, and one more after a failure, as far as the type goes
 abbrev pub CountsOne : {T E : Type 0} → ℕ → ℕ → Result T E → Type 0
-CountsOne before now result = MatchResult result (λ _. now ≡ before) (λ _. now ≡ min (before + 1) (2 ^ 64 - 1))
+CountsOne before now result =
+    MatchResult result (λ _. now ≡ before) (λ _. now ≡ min (before + 1) (2 ^ 64 - 1))
 
 -- another count was added, as far as the type goes
 abbrev pub Added : ℕ → ℕ → ℕ → Type 0

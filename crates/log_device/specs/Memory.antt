@@ -3,7 +3,8 @@ use Rattle.std.specs.Prelude.{ℕ, ◌+◌, ◌-◌, ◌/◌, Bool, ◌&&◌, no
 use Rattle.log_device.specs.declared.count.FaultCount.{FaultCount}
 use Rattle.log_device.specs.Plan.{Plan, fails_next}
 
--- the bytes of a sink, how many it has room for in all, which puts are to fail, and its count of faults
+-- the bytes of a sink, how many it has room for in all, which puts are to fail, and its count of
+-- faults
 pub record SinkState : Type 0 where
   pub bytes : List ℕ
   pub room : ℕ
@@ -12,7 +13,8 @@ pub record SinkState : Type 0 where
 
 -- whether the next put of this piece is Ok
 abbrev pub takes_piece : SinkState → List ℕ → Bool
-takes_piece sink piece = not (fails_next sink.puts) && nat_le (length sink.bytes + length piece) sink.room
+takes_piece sink piece =
+    not (fails_next sink.puts) && nat_le (length sink.bytes + length piece) sink.room
 
 -- what a failed put adds of its piece: the first half, rounded up, as far as there is room
 abbrev pub prefix_of : SinkState → List ℕ → List ℕ

@@ -1,4 +1,5 @@
-//! A log over a file, a sink over a writer, and a source over a reader, whose contents aren't known.
+//! A log over a file, a sink over a writer, and a source over a reader, whose contents aren't
+//! known.
 ghost use Rattle.std.specs.Prelude.{◌≡◌, ◌+◌, ◌≤◌, ◌<◌, ⊤, None, IfOk, OnErr, OnOk, length, take};
 ghost use Rattle.std.specs.Io.KnownBytes.{Appends, Consumes, IsAtEnd};
 ghost use Rattle.log_device.specs.Bytes.{Puts};
@@ -51,7 +52,8 @@ impl<F: Write + OpenFile + Drop> LogDevice for FileLog<F> {
         ensures bytes { Puts piece.now None None result }
         ensures faults { HasCause self.old.faults.count self.new.faults.count result }
         ensures calls { calls_counted self.new.calls ≡ calls_counted self.old.calls + 1 }
-        ensures written { OnOk result (Appends (F.contents self.old.file) (F.contents self.new.file) piece.now) }
+        ensures written { OnOk result (Appends (F.contents self.old.file) (F.contents self.new.file)
+            piece.now) }
     {
         self.calls.raise();
         if self.file.write_all(piece).is_ok() {
@@ -111,7 +113,8 @@ impl<W: Write + Drop> Sink for StdSink<W> {
     fn put(&mut self, piece: &[u8]) -> Result<(), Failed>
         ensures bytes { Puts piece.now None None result }
         ensures faults { HasCause self.old.faults.count self.new.faults.count result }
-        ensures written { OnOk result (Appends (W.contents self.old.writer) (W.contents self.new.writer) piece.now) }
+        ensures written { OnOk result (Appends (W.contents self.old.writer)
+            (W.contents self.new.writer) piece.now) }
     {
         if self.writer.write_all(piece).is_ok() {
             return Ok(());

@@ -1,9 +1,10 @@
-//! Devices that take or give bytes one piece after another, as traits: a log is a [`LogDevice`], an output a [`Sink`],
-//! an input a [`Source`].
+//! Devices that take or give bytes one piece after another, as traits: a log is a [`LogDevice`], an
+//! output a [`Sink`], an input a [`Source`].
 //!
-//! Use [`MemLog`], [`MemSink`] and [`MemSource`] in memory, with a [`FaultPlan`] of the calls that are to fail, or
-//! [`FileLog`], [`FileSource`] and [`StdSink`] over files. For a device of your own, implement the trait and count each
-//! failed call in a [`FaultCount`]: contracts tell by it that nothing failed.
+//! Use [`MemLog`], [`MemSink`] and [`MemSource`] in memory, with a [`FaultPlan`] of the calls that
+//! are to fail, or [`FileLog`], [`FileSource`] and [`StdSink`] over files. For a device of your
+//! own, implement the trait and count each failed call in a [`FaultCount`]: contracts tell by it
+//! that nothing failed.
 #![tactic(auto)]
 
 mod count;

@@ -26,7 +26,12 @@ impl Model for MemSink {
 
     ghost Value = { SinkState };
 
-    ghost view = { λ s. record { bytes = s.bytes.items; room = s.room; puts = s.puts; faults = s.faults } };
+    ghost view = { λ s. record {
+      bytes = s.bytes.items;
+      room = s.room;
+      puts = s.puts;
+      faults = s.faults;
+    } };
 
     ghost invariant = { λ s. (length s.bytes.items ≤ s.room) × (s.room ≤ vec_capacity s.bytes) };
 }
@@ -74,7 +79,8 @@ impl Sink for MemSink {
         ensures faults { HasCause self.old.faults.count self.new.faults.count result }
         ensures counted { CountsOne self.old.faults.count self.new.faults.count result }
         ensures answer { is_ok result ≡ takes_piece self.old piece.now }
-        ensures left { OnErr result (self.new.bytes ≡ self.old.bytes ++ prefix_of self.old piece.now) }
+        ensures left { OnErr result (self.new.bytes ≡ self.old.bytes
+            ++ prefix_of self.old piece.now) }
         ensures puts { self.new.puts ≡ after_call self.old.puts }
         ensures room { self.new.room ≡ self.old.room }
     {

@@ -109,13 +109,15 @@ impl LogDevice for MemLog {
 
     /// Fails if the plan says so, or if there is no room for the piece.
     fn append(&mut self, piece: &[u8]) -> Result<(), Failed>
-        ensures bytes { Puts piece.now (Some self.old.sink.bytes) (Some self.new.sink.bytes) result }
+        ensures bytes { Puts piece.now (Some self.old.sink.bytes) (Some self.new.sink.bytes)
+            result }
         ensures synced { self.new.synced ≡ self.old.synced }
         ensures faults { HasCause self.old.faults.count self.new.faults.count result }
         ensures counted { CountsOne self.old.faults.count self.new.faults.count result }
         ensures calls { calls_counted self.new.calls ≡ calls_counted self.old.calls + 1 }
         ensures answer { is_ok result ≡ takes_piece self.old.sink piece.now }
-        ensures left { OnErr result (self.new.sink.bytes ≡ self.old.sink.bytes ++ prefix_of self.old.sink piece.now) }
+        ensures left { OnErr result (self.new.sink.bytes
+            ≡ self.old.sink.bytes ++ prefix_of self.old.sink piece.now) }
         ensures appends { self.new.sink.puts ≡ after_call self.old.sink.puts }
         ensures syncs { self.new.syncs ≡ self.old.syncs }
         ensures room { self.new.sink.room ≡ self.old.sink.room }

@@ -10,7 +10,8 @@ use std::thread::Threads;
 
 const LINE: &str = "recover base/5/16384 --log w --lanes 1";
 
-/// What a recovery prints, by how many records its log has: that of one page's rewrite, or of four's.
+/// What a recovery prints, by how many records its log has: that of one page's rewrite, or of
+/// four's.
 static REDONE: [&str; 5] = [
     "log 0/16B3740 0/16B3740 entries 0\nblocks 0 redone\n",
     "log 0/16B3740 0/16B5760 entries 1\nblocks 1 redone\n",

@@ -2,7 +2,12 @@
 ghost use Rattle.std.specs.Prelude.{◌≡◌, ◌≢◌, ◌≤◌, ◌⊎◌, None, IfErr, IfSome};
 ghost use Rattle.log_device.specs.Bytes.{Puts};
 ghost use Rattle.relation_commands.specs.declared.error.ToolError.{ToolError};
-ghost use Rattle.relation_commands.specs.Answers.{BadLogIf, CountsLater, CrowdedIf, Ends, FailsNone, FaultIf, IsComplete, IsNoRewrite, LeavesFiles, LimitIf, MissingIf, PrintsAtEnd, PutsLogOf, SaysAs, SaysStatus, UsageIf, WritesNoPath, Wrote, WroteLogOf, counts_of, text_asked};
+ghost use Rattle.relation_commands.specs.Answers.{BadLogIf, CountsLater, CrowdedIf, Ends};
+ghost use Rattle.relation_commands.specs.Answers.{FailsNone, FaultIf, IsComplete, IsNoRewrite};
+ghost use Rattle.relation_commands.specs.Answers.{LeavesFiles, LimitIf, MissingIf, PrintsAtEnd};
+ghost use Rattle.relation_commands.specs.Answers.{PutsLogOf, SaysAs, SaysStatus, UsageIf};
+ghost use Rattle.relation_commands.specs.Answers.{WritesNoPath, Wrote, WroteLogOf, counts_of};
+ghost use Rattle.relation_commands.specs.Answers.{text_asked};
 ghost use Rattle.command_line.specs.Request.{NamesNoPath, options_of};
 ghost use Rattle.command_line.specs.Spelled.{request_in};
 ghost use Rattle.relation_commands.specs.RewriteFiles.{BecomesOf, files_in};
@@ -97,9 +102,9 @@ fn perform<'a, H: Host, R: Threads + Wait + Sync, O: Sink + Send, G: Gate + Sync
 /// - `recover PATH --log FILE` redoes the log of a rewrite: each record's page is written to its
 ///   block, and the relation is synced. It prints where the log begins and ends, how many records
 ///   it has, and how many blocks were redone.
-/// - `sample SEED BLOCKS` makes a relation of BLOCKS blocks from the number SEED, in memory, scans it,
-///   rewrites it with a log in memory, and scans it again. It prints the totals of each scan, and
-///   between them what a rewrite prints. It doesn't call the host.
+/// - `sample SEED BLOCKS` makes a relation of BLOCKS blocks from the number SEED, in memory, scans
+///   it, rewrites it with a log in memory, and scans it again. It prints the totals of each scan,
+///   and between them what a rewrite prints. It doesn't call the host.
 ///
 /// The blocks are read and written by as many backends as `--backends` says, through a buffer
 /// manager of `--frames` frames, but for a recovery, which has none. The answer is the status that

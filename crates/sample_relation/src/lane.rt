@@ -43,7 +43,8 @@ impl SampleLane {
 
     /// Takes a block in, with a copy of the page. Out of memory is its only error.
     pub(crate) fn hold(&mut self, alloc: Global, tag: Tag, page: &Page) -> Result<(), Memory>
-        ensures pages { OnOk result (pages_of self.new.lane ≡ with_page tag page.now (pages_of self.old.lane)) }
+        ensures pages { OnOk result (pages_of self.new.lane
+            ≡ with_page tag page.now (pages_of self.old.lane)) }
         ensures unsynced { unsynced_of self.new.lane ≡ unsynced_of self.old.lane }
         ensures calls { calls_of self.new.lane ≡ calls_of self.old.lane }
         ensures faults { self.new.lane.write_faults ≡ self.old.lane.write_faults }
@@ -56,7 +57,8 @@ impl BlockLane for SampleLane {
     ghost use Rattle.std.specs.Prelude.{Some};
     ghost use Rattle.std.proofs.Common.{rules};
     ghost use Rattle.segment_store.specs.Contents.{no_marks};
-    ghost use Rattle.segment_store.specs.MemoryLane.{calls_of, pages_of, room_of, there_has_room, unsynced_of, whole_page};
+    ghost use Rattle.segment_store.specs.MemoryLane.{calls_of, pages_of, room_of, there_has_room};
+    ghost use Rattle.segment_store.specs.MemoryLane.{unsynced_of, whole_page};
     ghost use Rattle.std.specs.BTreeMap as tree;
     ghost use Rattle.block_tag.specs.contracts.tag.TagOrd.TheImpl as tags;
     ghost use Prim.{search};

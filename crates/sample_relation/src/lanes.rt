@@ -15,9 +15,12 @@ use std::alloc::Global;
 /// So many lanes without blocks.
 fn empty_lanes(alloc: Global, count: u32) -> Result<Vec<SampleLane>, Memory>
     ensures count { IfOk result (λ made. length made.items ≡ count) }
-    ensures synced { IfOk result (λ made. All (λ lane. ⟦<SampleLane as BlockLane>⟧.unsynced lane ≡ no_marks) made.items) }
-    ensures calls { IfOk result (λ made. All (λ lane. ⟦<SampleLane as BlockLane>⟧.calls lane ≡ 0) made.items) }
-    ensures faults { IfOk result (λ made. All (λ lane. ⟦<SampleLane as BlockLane>⟧.write_faults lane ≡ 0) made.items) }
+    ensures synced { IfOk result (λ made.
+        All (λ lane. ⟦<SampleLane as BlockLane>⟧.unsynced lane ≡ no_marks) made.items) }
+    ensures calls { IfOk result (λ made.
+        All (λ lane. ⟦<SampleLane as BlockLane>⟧.calls lane ≡ 0) made.items) }
+    ensures faults { IfOk result (λ made.
+        All (λ lane. ⟦<SampleLane as BlockLane>⟧.write_faults lane ≡ 0) made.items) }
 {
     let mut made = Vec::new(alloc);
     for _ in 0..count {
@@ -36,11 +39,13 @@ fn add_block(
 ) -> Result<(), Memory>
     requires some { 0 < length lanes.old }
     requires few { length lanes.old < 2 ^ 32 }
-    requires held { HoldPages Main (sample_relation seed block) (map ⟦<SampleLane as BlockLane>⟧.contents lanes.old) }
+    requires held { HoldPages Main (sample_relation seed block)
+        (map ⟦<SampleLane as BlockLane>⟧.contents lanes.old) }
     requires synced { All (λ lane. ⟦<SampleLane as BlockLane>⟧.unsynced lane ≡ no_marks) lanes.old }
     requires calls { All (λ lane. ⟦<SampleLane as BlockLane>⟧.calls lane ≡ 0) lanes.old }
     requires faults { All (λ lane. ⟦<SampleLane as BlockLane>⟧.write_faults lane ≡ 0) lanes.old }
-    ensures held { OnOk result (HoldPages Main (sample_relation seed (block + 1)) (map ⟦<SampleLane as BlockLane>⟧.contents lanes.new)) }
+    ensures held { OnOk result (HoldPages Main (sample_relation seed (block + 1))
+        (map ⟦<SampleLane as BlockLane>⟧.contents lanes.new)) }
     ensures synced { All (λ lane. ⟦<SampleLane as BlockLane>⟧.unsynced lane ≡ no_marks) lanes.new }
     ensures calls { All (λ lane. ⟦<SampleLane as BlockLane>⟧.calls lane ≡ 0) lanes.new }
     ensures faults { All (λ lane. ⟦<SampleLane as BlockLane>⟧.write_faults lane ≡ 0) lanes.new }
@@ -55,7 +60,8 @@ fn add_block(
     lanes[number as usize].hold(alloc, tag, page)
 }
 
-/// Makes the first blocks of the relation with this seed, each in its own lane. Out of memory is its only error.
+/// Makes the first blocks of the relation with this seed, each in its own lane. Out of memory is
+/// its only error.
 pub fn sample_lanes(
     alloc: Global,
     seed: u32,
@@ -64,10 +70,14 @@ pub fn sample_lanes(
 ) -> Result<Vec<SampleLane>, Memory>
     requires some { 0 < lanes }
     ensures count { IfOk result (λ made. length made.items ≡ lanes) }
-    ensures held { IfOk result (λ made. HoldPages Main (sample_relation seed blocks) (map ⟦<SampleLane as BlockLane>⟧.contents made.items)) }
-    ensures synced { IfOk result (λ made. All (λ lane. ⟦<SampleLane as BlockLane>⟧.unsynced lane ≡ no_marks) made.items) }
-    ensures calls { IfOk result (λ made. All (λ lane. ⟦<SampleLane as BlockLane>⟧.calls lane ≡ 0) made.items) }
-    ensures faults { IfOk result (λ made. All (λ lane. ⟦<SampleLane as BlockLane>⟧.write_faults lane ≡ 0) made.items) }
+    ensures held { IfOk result (λ made. HoldPages Main (sample_relation seed blocks)
+        (map ⟦<SampleLane as BlockLane>⟧.contents made.items)) }
+    ensures synced { IfOk result (λ made.
+        All (λ lane. ⟦<SampleLane as BlockLane>⟧.unsynced lane ≡ no_marks) made.items) }
+    ensures calls { IfOk result (λ made.
+        All (λ lane. ⟦<SampleLane as BlockLane>⟧.calls lane ≡ 0) made.items) }
+    ensures faults { IfOk result (λ made.
+        All (λ lane. ⟦<SampleLane as BlockLane>⟧.write_faults lane ≡ 0) made.items) }
 {
     let mut made = empty_lanes(alloc, lanes)?;
     let mut page = Page::zeroed(alloc)?;

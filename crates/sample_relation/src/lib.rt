@@ -1,12 +1,16 @@
-//! A relation made from a number, to try a buffer manager on: new pages, pages that aren't sound, and pages with items,
-//! some of whose line pointers are dead. The same number makes the same pages.
+//! A relation made from a number, to try a buffer manager on: new pages, pages that aren't sound,
+//! and pages with items, some of whose line pointers are dead. The same number makes the same
+//! pages.
 //!
-//! [`sample_lanes`] returns lanes in memory ([`SampleLane`]) with the first blocks, ready for a manager.
+//! [`sample_lanes`] returns lanes in memory ([`SampleLane`]) with the first blocks, ready for a
+//! manager.
 #![tactic(auto)]
 
 ghost use Rattle.std.specs.Prelude.{◌≡◌, ◌≤◌, OnOk, OnErr, length, replicate};
 ghost use Rattle.byteorder.specs.Endian.{little_bytes};
-ghost use Rattle.sample_relation.specs.Samples.{Extends, header_bytes, item_offset, items, page_of_kind, pointer_bits, pointers, sample_page, unsound_page, used_page};
+ghost use Rattle.sample_relation.specs.Samples.{Extends, header_bytes, item_offset, items};
+ghost use Rattle.sample_relation.specs.Samples.{page_of_kind, pointer_bits, pointers, sample_page};
+ghost use Rattle.sample_relation.specs.Samples.{unsound_page, used_page};
 
 mod lane;
 mod lanes;
@@ -19,7 +23,8 @@ use std::alloc::Global;
 
 const HEADER_SIZE: u16 = 24;
 
-/// The size of pages with the layout's version 4, as a header has them (`PageSetPageSizeAndVersion`).
+/// The size of pages with the layout's version 4, as a header has them
+/// (`PageSetPageSizeAndVersion`).
 const SIZE_AND_VERSION: u16 = 0x2004;
 
 fn put_u16(bytes: &mut Vec<u8>, number: u16) -> Result<(), Memory>
@@ -54,7 +59,8 @@ fn put_header(
     lower: u16,
     upper: u16,
 ) -> Result<(), Memory>
-    ensures { OnOk result (Extends bytes.old.items bytes.new.items (header_bytes lsn flags lower upper)) }
+    ensures { OnOk result (Extends bytes.old.items bytes.new.items
+        (header_bytes lsn flags lower upper)) }
 {
     put_u32(bytes, (lsn / 0x1_0000_0000) as u32)?;
     put_u32(bytes, (lsn % 0x1_0000_0000) as u32)?;
@@ -141,7 +147,8 @@ fn put_page(bytes: &mut Vec<u8>, kind: u16, block: u32) -> Result<(), Memory>
     }
 }
 
-/// Makes the page of a block of the relation with this seed. Out of memory is its only error, and the page is as before then.
+/// Makes the page of a block of the relation with this seed. Out of memory is its only error, and
+/// the page is as before then.
 pub fn sample_page(alloc: Global, seed: u32, block: u32, page: &mut Page) -> Result<(), Memory>
     ensures made { OnOk result (page.new ≡ sample_page seed block) }
     ensures kept { OnErr result (page.new ≡ page.old) }

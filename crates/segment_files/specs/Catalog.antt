@@ -14,7 +14,9 @@ clashes a b = (a.rel.0 == b.rel.0 && fork_number a.fork == fork_number b.fork)
 
 -- whether the entry at this place clashes with an earlier one
 abbrev pub clashes_before : List CatalogFile → ℕ → Bool
-clashes_before entries place = option_map_or (λ entry. list_any (clashes entry) (take place entries)) (slice_get entries place) false
+clashes_before entries place =
+    option_map_or (λ entry. list_any (clashes entry) (take place entries)) (slice_get entries place)
+    false
 
 -- no entry clashes with another
 abbrev pub HaveNoClashes : List CatalogFile → Type 0

@@ -16,7 +16,8 @@ use segment_store::{HostError, is_file_of};
 use std::alloc::Global;
 use std::rt::Files;
 
-/// A fork of a relation, by the relation's number in the catalogue, and the path of its first segment.
+/// A fork of a relation, by the relation's number in the catalogue, and the path of its first
+/// segment.
 #[derive(Clone, Copy)]
 pub struct CatalogFile<'a> {
     pub rel: RelNo,
@@ -33,7 +34,8 @@ pub struct OpenedCatalog<L> {
 }
 
 impl CatalogFile<'_> {
-    /// Whether both entries are of one fork of a relation, or one's path is a segment's of the other.
+    /// Whether both entries are of one fork of a relation, or one's path is a segment's of the
+    /// other.
     fn clashes(&self, other: &CatalogFile<'_>) -> bool
         ensures { result ≡ clashes self.now other.now }
     {
@@ -83,8 +85,8 @@ impl<F: Drop> CatalogFiles<F> {
         }
     }
 
-    /// Adds the files of one more entry. That one of them is an earlier entry's, if only by a link, is
-    /// a failure.
+    /// Adds the files of one more entry. That one of them is an earlier entry's, if only by a link,
+    /// is a failure.
     fn add(
         &mut self,
         alloc: Global,

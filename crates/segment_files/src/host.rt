@@ -1,5 +1,6 @@
 //! A host over the file system.
-ghost use Rattle.std.specs.Prelude.{[], ◌+◌, ◌≡◌, ◌≤◌, All, false, None, IfOk, OnOk, length, sum_by};
+ghost use Rattle.std.specs.Prelude.{[], ◌+◌, ◌≡◌, ◌≤◌, All, false, None, IfOk, OnOk, length};
+ghost use Rattle.std.specs.Prelude.{sum_by};
 ghost use Rattle.std.specs.Option.{option_map_or};
 ghost use Rattle.segment_store.specs.Contents.{no_marks};
 ghost use Rattle.segment_store.specs.History.{unsynced_in};
@@ -64,8 +65,8 @@ impl<'a, R: Files> FileHost<'a, R> {
         }
     }
 
-    /// How many openings of relations and of sources failed, and reads of lanes and of sources that were
-    /// given back.
+    /// How many openings of relations and of sources failed, and reads of lanes and of sources that
+    /// were given back.
     pub fn read_faults(&self) -> u64
         ensures { result ≡ self.now.read_faults.count }
     {
@@ -89,9 +90,12 @@ impl<'a, R: Files> FileHost<'a, R> {
     ) -> Result<Vec<FileLane<'a, R>>, HostError>
         requires seg_blocks { 1 ≤ seg_blocks }
         ensures count { IfOk result (λ lanes. length lanes.items ≡ count) }
-        ensures reads { IfOk result (λ lanes. sum_by (λ lane. lane.read_faults.count) lanes.items ≡ 0) }
-        ensures writes { IfOk result (λ lanes. sum_by (λ lane. lane.write_faults.count) lanes.items ≡ 0) }
-        ensures synced { IfOk result (λ lanes. All (λ lane. unsynced_in lane.history ≡ no_marks) lanes.items) }
+        ensures reads { IfOk result (λ lanes.
+            sum_by (λ lane. lane.read_faults.count) lanes.items ≡ 0) }
+        ensures writes { IfOk result (λ lanes.
+            sum_by (λ lane. lane.write_faults.count) lanes.items ≡ 0) }
+        ensures synced { IfOk result (λ lanes.
+            All (λ lane. unsynced_in lane.history ≡ no_marks) lanes.items) }
     {
         let files = Arc::new(alloc, shared).map_err(|_| HostError::Memory)?;
         let mut lanes = Vec::new(alloc);
@@ -113,7 +117,8 @@ impl<'a, R: Files> FileHost<'a, R> {
         count: u32,
     ) -> Result<OpenedFiles<'a, R>, HostError>
         requires seg_blocks { 1 ≤ seg_blocks }
-        ensures blocks { IfOk result (λ found. length found.opened.blocks.items ≡ length entries.now) }
+        ensures blocks { IfOk result (λ found.
+            length found.opened.blocks.items ≡ length entries.now) }
         ensures clashes { OnOk result (HaveNoClashes entries.now) }
         ensures count { IfOk result (λ found. length found.opened.lanes.items ≡ count) }
         ensures reads { IfOk result (λ found.
@@ -134,8 +139,9 @@ impl<'a, R: Files> FileHost<'a, R> {
         })
     }
 
-    /// Opens the files of a catalogue, whose segments have up to `seg_blocks` blocks, as `lanes` lanes:
-    /// each lane reaches all files. As `Host::relation` it takes the place of what was opened before.
+    /// Opens the files of a catalogue, whose segments have up to `seg_blocks` blocks, as `lanes`
+    /// lanes: each lane reaches all files. As `Host::relation` it takes the place of what was
+    /// opened before.
     ///
     /// `Missing` comes if the first segment of an entry isn't there. `Failed` counts as a failed
     /// read, and comes also if two entries are of one fork of a relation, if the path of one is
@@ -158,7 +164,8 @@ impl<'a, R: Files> FileHost<'a, R> {
             sum_by (λ lane. lane.write_faults.count) opened.lanes.items ≡ 0) }
         ensures synced { IfOk result (λ opened.
             All (λ lane. unsynced_in lane.history ≡ no_marks) opened.lanes.items) }
-        ensures reads { HasOpeningCause self.old.read_faults.count self.new.read_faults.count result }
+        ensures reads { HasOpeningCause self.old.read_faults.count self.new.read_faults.count
+            result }
         ensures writes { self.new.write_faults.count ≡ self.old.write_faults.count }
         ensures logs { self.new.log_faults.count ≡ self.old.log_faults.count }
     {

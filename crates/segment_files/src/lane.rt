@@ -209,10 +209,10 @@ where
 
 /// A lane over the files of a catalogue, which all lanes of one opening share.
 ///
-/// A block past the end of its relation's fork can be written too: the blocks between are zeroed, and
-/// missing segments are created. Of each fork of a relation at most one lane at a time may write past
-/// the end. Once a sync has failed, each later one does: what that one was to make durable may be lost
-/// (PostgreSQL panics then, unless `data_sync_retry` is set).
+/// A block past the end of its relation's fork can be written too: the blocks between are zeroed,
+/// and missing segments are created. Of each fork of a relation at most one lane at a time may
+/// write past the end. Once a sync has failed, each later one does: what that one was to make
+/// durable may be lost (PostgreSQL panics then, unless `data_sync_retry` is set).
 /// The tool's one relation is a catalogue of one entry.
 #[derive(Drop)]
 pub struct FileLane<'a, R: Files> {
@@ -282,7 +282,8 @@ where
 
     ghost calls = { λ l. calls_in l.history };
 
-    /// Fails for a block past the end of its fork, and for one of a relation or a fork that wasn't opened.
+    /// Fails for a block past the end of its fork, and for one of a relation or a fork that wasn't
+    /// opened.
     fn read(&mut self, tag: Tag, page: &mut Page) -> Result<(), Failed> {
         self.history.count_call();
         if self.files.read(tag, page).is_ok() {
@@ -292,7 +293,8 @@ where
         Err(Failed)
     }
 
-    /// Also writes past the end of a fork. Fails for a block of a relation or a fork that wasn't opened.
+    /// Also writes past the end of a fork. Fails for a block of a relation or a fork that wasn't
+    /// opened.
     fn write(&mut self, tag: Tag, page: &Page) -> Result<(), Failed> {
         self.history.count_call();
         self.history.mark_written(tag);

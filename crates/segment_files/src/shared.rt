@@ -8,8 +8,8 @@ use std::io;
 use std::io::ErrorKind;
 use std::sync::atomic::{AtomicU32, Ordering};
 
-/// The files of a relation's fork that were opened, the path of the first, and how many blocks there
-/// are by now.
+/// The files of a relation's fork that were opened, the path of the first, and how many blocks
+/// there are by now.
 #[derive(Drop)]
 pub(crate) struct SharedFiles<F: Drop> {
     pub(crate) rel: RelNo,
@@ -59,7 +59,8 @@ impl<F: OpenFile + Drop> SharedFiles<F> {
     }
 }
 
-/// The files of a block's relation and fork. A block of another relation or another fork is an error.
+/// The files of a block's relation and fork. A block of another relation or another fork is an
+/// error.
 pub(crate) fn files_of<F: Drop>(shared: &[SharedFiles<F>], tag: Tag) -> io::Result<&SharedFiles<F>>
     ensures { OnOk result (tag.block < 2 ^ 32 - 1) }
 {

@@ -1,5 +1,6 @@
 -- What lanes hold, if it is known: None if it isn't.
-use Rattle.std.specs.Prelude.{◌≡◌, ◌⊎◌, ℕ, List, length, Option, Some, None, Bool, true, false, Result, IfSome, IsSomeAnd, MatchResult, if◌then◌else◌, is_some}
+use Rattle.std.specs.Prelude.{◌≡◌, ◌⊎◌, ℕ, List, length, Option, Some, None, Bool, true, false}
+use Rattle.std.specs.Prelude.{Result, IfSome, IsSomeAnd, MatchResult, if◌then◌else◌, is_some}
 use Rattle.block_tag.specs.Names.{tag_eq}
 use Rattle.block_tag.specs.declared.tag.Tag.{Tag}
 
@@ -38,17 +39,23 @@ pub record IsTorn (tag : Tag) (pages after : Pages) : Type 0 where
   pub is : after ≡ with_page tag left pages
 
 -- the tag had no page, and all is as it was
-pub record IsRefused (tag : Tag) (pages : Pages) (marks : Marks) (after : Pages) (marks_now : Marks) : Type 0 where
+pub record IsRefused (tag : Tag) (pages : Pages) (marks : Marks) (after : Pages)
+    (marks_now : Marks) : Type 0 where
   pub lacked : pages tag ≡ None
   pub pages_stay : after ≡ pages
   pub marks_stay : marks_now ≡ marks
 
--- after a failed write some page stands at the tag, which is marked; or a block that the lane lacked is refused
+-- after a failed write some page stands at the tag, which is marked; or a block that the lane
+-- lacked is refused
 abbrev pub AfterFailure : Tag → Pages → Marks → Pages → Marks → Type 0
-AfterFailure tag pages marks after marks_now = (IsTorn tag pages after × (marks_now ≡ with_mark tag true marks)) ⊎ IsRefused tag pages marks after marks_now
+AfterFailure tag pages marks after marks_now =
+    (IsTorn tag pages after × (marks_now ≡ with_mark tag true marks))
+    ⊎ IsRefused tag pages marks after marks_now
 
--- after a write this page stands at the tag, which isn't marked, or all is as a failed one leaves it; contents that aren't known stay so
-abbrev pub AfterWrite : {E : Type 0} → Tag → List ℕ → Option Pages → Marks → Option Pages → Marks → Result Unit E → Type 0
+-- after a write this page stands at the tag, which isn't marked, or all is as a failed one leaves
+-- it; contents that aren't known stay so
+abbrev pub AfterWrite : {E : Type 0} → Tag → List ℕ → Option Pages → Marks → Option Pages → Marks
+    → Result Unit E → Type 0
 AfterWrite tag page None marks new marks_now result = new ≡ None
 AfterWrite tag page (Some pages) marks new marks_now result =
     MatchResult result

@@ -1,5 +1,6 @@
 -- Relations that grow: lanes that are given back with a source may hold blocks past the end.
-use Rattle.std.specs.Prelude.{ℕ, zero, suc, ◌+◌, ◌-◌, ◌*◌, List, ◌∷◌, ◌++◌, length, take, drop, get_or, replicate, [], Option, Some, None, is_some, if◌then◌else◌}
+use Rattle.std.specs.Prelude.{ℕ, zero, suc, ◌+◌, ◌-◌, ◌*◌, List, ◌∷◌, ◌++◌, length, take, drop}
+use Rattle.std.specs.Prelude.{get_or, replicate, [], Option, Some, None, is_some, if◌then◌else◌}
 use Rattle.std.specs.Option.{option_map}
 use Rattle.std.specs.Str.{bytes_eq}
 use Rattle.block_tag.specs.Names.{place_in_segment, segment_of}
@@ -45,11 +46,13 @@ grown fork seg_blocks room lanes segments =
     extended seg_blocks (length (relation_of seg_blocks segments))
     (last_held fork lanes room - length (relation_of seg_blocks segments)) segments
 
--- the paths once the relation that was opened last has grown, if it may; all others are as they were
+-- the paths once the relation that was opened last has grown, if it may; all others are as they
+-- were
 abbrev pub paths_grown : OpenAt → Option ℕ → List (Option Pages) → Paths → Paths
 paths_grown at None lanes paths = paths
 paths_grown at (Some room) lanes paths =
-    λ path. if bytes_eq path at.path then grown (fork_of at.path) at.seg_blocks room lanes (paths path)
+    λ path. if bytes_eq path at.path
+    then grown (fork_of at.path) at.seg_blocks room lanes (paths path)
     else paths path
 
 -- how many blocks the relation that was opened last may have, if a source is given

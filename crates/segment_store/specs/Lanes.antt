@@ -1,5 +1,7 @@
 -- Lanes side by side, each with the blocks whose tags are its own.
-use Rattle.std.specs.Prelude.{◌≡◌, ℕ, ◌<◌, ◌==◌, ◌&&◌, Bool, List, length, map, get_or, slice_get, [], Option, Some, None, IsSome, IfSome, IsSomeAnd, is_some, nat_lt, true, if◌then◌else◌}
+use Rattle.std.specs.Prelude.{◌≡◌, ℕ, ◌<◌, ◌==◌, ◌&&◌, Bool, List, length, map, get_or, slice_get}
+use Rattle.std.specs.Prelude.{[], Option, Some, None, IsSome, IfSome, IsSomeAnd, is_some, nat_lt}
+use Rattle.std.specs.Prelude.{true, if◌then◌else◌}
 use Rattle.std.specs.Option.{ForSome, option_and_then}
 use Rattle.std.specs.List.{range_with_len}
 use Rattle.block_tag.specs.Names.{lane_number, tag_eq}
@@ -11,13 +13,17 @@ use Rattle.segment_store.specs.Contents.{Marks, Pages, no_marks}
 abbrev pub tag_at : Fork → ℕ → Tag
 tag_at fork block = record { rel = record { 0 = 0 }; fork = fork; block = block }
 
--- the pages of one of `lanes` lanes: those of the relation's blocks whose tags have the lane's number
+-- the pages of one of `lanes` lanes: those of the relation's blocks whose tags have the lane's
+-- number
 abbrev pub own_pages : Fork → List (List ℕ) → ℕ → ℕ → Pages
-own_pages fork pages lanes number = λ tag. if tag_eq tag (tag_at fork tag.block) && lane_number tag lanes == number then slice_get pages tag.block else None
+own_pages fork pages lanes number =
+    λ tag. if tag_eq tag (tag_at fork tag.block) && lane_number tag lanes == number
+    then slice_get pages tag.block else None
 
 -- what `lanes` lanes hold of a relation, all together each block once
 abbrev pub dealt : Fork → List (List ℕ) → ℕ → List (Option Pages)
-dealt fork pages lanes = map (λ number. Some (own_pages fork pages lanes number)) (range_with_len 0 lanes)
+dealt fork pages lanes =
+    map (λ number. Some (own_pages fork pages lanes number)) (range_with_len 0 lanes)
 
 -- the tags of one of `lanes` lanes: of the first `count` blocks, those that have the lane's number
 abbrev pub own_room : Fork → ℕ → ℕ → ℕ → Marks
@@ -43,11 +49,16 @@ mark_in lanes tag = get_or lanes (lane_number tag (length lanes)) no_marks tag
 
 -- if a lane's contents are known, it has each block that is its own
 abbrev pub HasBlocks : Fork → ℕ → List (Option Pages) → Type 0
-HasBlocks fork blocks lanes = (block : ℕ) → block < blocks → ForSome (lane_at lanes (tag_at fork block)) (λ pages. IsSome (pages (tag_at fork block)))
+HasBlocks fork blocks lanes =
+    (block : ℕ) → block < blocks
+    → ForSome (lane_at lanes (tag_at fork block)) (λ pages. IsSome (pages (tag_at fork block)))
 
 -- if a lane's contents are known, all that it has is its own
 abbrev pub HoldTheirs : List (Option Pages) → Type 0
-HoldTheirs lanes = (q : ℕ) (tag : Tag) → q < length lanes → IfSome (get_or lanes q None) (λ pages. is_some (pages tag) ≡ true → lane_number tag (length lanes) ≡ q)
+HoldTheirs lanes =
+    (q : ℕ) (tag : Tag) → q < length lanes
+    → IfSome (get_or lanes q None) (λ pages. is_some (pages tag) ≡ true
+    → lane_number tag (length lanes) ≡ q)
 
 -- the contents of the lane of a tag are known, and have this page there
 abbrev pub HasPage : Tag → List ℕ → List (Option Pages) → Type 0
@@ -55,4 +66,5 @@ HasPage tag page lanes = IsSomeAnd (lane_at lanes tag) (λ pages. pages tag ≡ 
 
 -- the lanes hold these pages as the relation's blocks
 abbrev pub HoldPages : Fork → List (List ℕ) → List (Option Pages) → Type 0
-HoldPages fork pages lanes = (block : ℕ) → block < length pages → HasPage (tag_at fork block) (get_or pages block []) lanes
+HoldPages fork pages lanes =
+    (block : ℕ) → block < length pages → HasPage (tag_at fork block) (get_or pages block []) lanes

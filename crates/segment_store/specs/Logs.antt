@@ -1,5 +1,6 @@
 -- Logs: their bytes, how many of them are durable, and what a host keeps of them.
-use Rattle.std.specs.Prelude.{◌≡◌, ℕ, ◌+◌, ◌-◌, ◌^◌, ◌≤◌, min, List, [], Option, Some, None, Result, MatchResult, IfSome, IsSomeAnd, option_map, if◌then◌else◌}
+use Rattle.std.specs.Prelude.{◌≡◌, ℕ, ◌+◌, ◌-◌, ◌^◌, ◌≤◌, min, List, [], Option, Some, None, Result}
+use Rattle.std.specs.Prelude.{MatchResult, IfSome, IsSomeAnd, option_map, if◌then◌else◌}
 use Rattle.std.specs.Option.{option_and_then}
 use Rattle.std.specs.Str.{bytes_eq}
 use Rattle.log_device.specs.Faults.{Rose}
@@ -18,10 +19,12 @@ empty_log = record { bytes = []; synced = 0 }
 abbrev pub with_log : List ℕ → StoredLog → Logs → Logs
 with_log at log logs = λ path. if bytes_eq path at then Some log else logs path
 
--- the log that was given back, if one was, in the place of the log at this path, if there is one; all other paths are as they were
+-- the log that was given back, if one was, in the place of the log at this path, if there is one;
+-- all other paths are as they were
 abbrev pub logs_after : List ℕ → Option StoredLog → Logs → Logs
 logs_after at None logs = logs
-logs_after at (Some log) logs = λ path. if bytes_eq path at then option_map (λ _. log) (logs path) else logs path
+logs_after at (Some log) logs =
+    λ path. if bytes_eq path at then option_map (λ _. log) (logs path) else logs path
 
 -- a count of faults rose if the log could not be opened, and is the same if memory was short
 abbrev pub RoseIfLogFailed : ℕ → ℕ → LogOpen → Type 0
@@ -33,14 +36,16 @@ pub record HasLogCause {T : Type 0} (before now : ℕ) (result : Result T LogOpe
   pub later : before ≤ now
   pub cause : MatchResult result (λ _. now ≡ before) (RoseIfLogFailed before now)
 
--- a count is one more if the log could not be opened, as far as the type goes, and is the same if memory was short
+-- a count is one more if the log could not be opened, as far as the type goes, and is the same if
+-- memory was short
 abbrev pub IsOneMoreIfLogFailed : ℕ → ℕ → LogOpen → Type 0
 IsOneMoreIfLogFailed before now Failed = now ≡ min (before + 1) (2 ^ 64 - 1)
 IsOneMoreIfLogFailed before now Memory = now ≡ before
 
 -- an opening counts itself if it is a fault, and nothing else
 abbrev pub CountsOneLogOpening : {T : Type 0} → ℕ → ℕ → Result T LogOpen → Type 0
-CountsOneLogOpening before now result = MatchResult result (λ _. now ≡ before) (IsOneMoreIfLogFailed before now)
+CountsOneLogOpening before now result =
+    MatchResult result (λ _. now ≡ before) (IsOneMoreIfLogFailed before now)
 
 module _ {L : Type 0} (bytes : L → Option (List ℕ)) (synced : L → ℕ) where
   -- what a log is, if its bytes are known
@@ -58,7 +63,9 @@ module _ {L : Type 0} (bytes : L → Option (List ℕ)) (synced : L → ℕ) whe
     pub empty : IfSome (bytes log) (λ b. b ≡ [])
     pub told : IfSome known (λ _. bytes log ≡ Some [])
 
--- a source that was just opened has no faults; if the logs are known there is one at the path, and all its bytes are left
-pub record IsOpenedSource {S : Type 0} (left : S → Option (List ℕ)) (faults : S → ℕ) (known : Option Logs) (path : List ℕ) (source : S) : Type 0 where
+-- a source that was just opened has no faults; if the logs are known there is one at the path, and
+-- all its bytes are left
+pub record IsOpenedSource {S : Type 0} (left : S → Option (List ℕ)) (faults : S → ℕ)
+    (known : Option Logs) (path : List ℕ) (source : S) : Type 0 where
   pub faultless : faults source ≡ 0
   pub there : IfSome known (λ logs. IsSomeAnd (logs path) (λ log. left source ≡ Some log.bytes))

@@ -21,7 +21,10 @@ segments_at files = of_first file_path (λ file. bytes_of file.segments.items) [
 
 -- the blocks of a path that the lanes given back last have marked
 abbrev pub marks_at : List MemFile → PathMarks
-marks_at files = λ path. of_first file_path (λ file. λ block. mark_in (map marks_of file.returned.items) (tag_at (fork_of path) block)) (λ block. false) files path
+marks_at files =
+    λ path. of_first file_path
+    (λ file. λ block. mark_in (map marks_of file.returned.items) (tag_at (fork_of path) block))
+    (λ block. false) files path
 
 -- which openings are to fail, and which calls of each lane
 abbrev pub openings_of : MemHost → Plan

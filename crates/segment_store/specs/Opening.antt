@@ -1,5 +1,6 @@
 -- What opening a relation answers.
-use Rattle.std.specs.Prelude.{◌≡◌, ◌≢◌, ℕ, ◌<◌, List, [], length, All, Option, IfSome, map, max, sum_by, true}
+use Rattle.std.specs.Prelude.{◌≡◌, ◌≢◌, ℕ, ◌<◌, List, [], length, All, Option, IfSome, map, max}
+use Rattle.std.specs.Prelude.{sum_by, true}
 use Rattle.block_tag.specs.declared.tag.Fork.{Fork}
 use Rattle.block_tag.specs.declared.tag.Tag.{Tag}
 use Rattle.segment_store.specs.declared.host.Opened.{Opened}
@@ -23,8 +24,11 @@ module _ {L : Type 0} (contents : L → Option Pages) (failed unsynced lane_room
     pub has : HasBlocks fork opened.blocks (map contents opened.lanes.items)
     pub theirs : HoldTheirs (map contents opened.lanes.items)
     pub there : IfSome known (λ paths. paths path ≢ [])
-    pub blocks : IfSome known (λ paths. opened.blocks ≡ length (relation_of seg_blocks (paths path)))
-    pub holds : IfSome known (λ paths. HoldPages fork (relation_of seg_blocks (paths path)) (map contents opened.lanes.items))
-    pub only : IfSome known (λ paths. map contents opened.lanes.items ≡ dealt fork (relation_of seg_blocks (paths path)) lanes)
+    pub blocks : IfSome known (λ paths.
+        opened.blocks ≡ length (relation_of seg_blocks (paths path)))
+    pub holds : IfSome known (λ paths. HoldPages fork (relation_of seg_blocks (paths path))
+        (map contents opened.lanes.items))
+    pub only : IfSome known (λ paths. map contents opened.lanes.items
+        ≡ dealt fork (relation_of seg_blocks (paths path)) lanes)
     pub rooms : IfSome known (λ _. All (λ lane. (tag : Tag)
         → lane_room lane tag ≡ true → tag.block < max room opened.blocks) opened.lanes.items)

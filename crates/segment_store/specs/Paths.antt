@@ -17,25 +17,32 @@ PathMarks = List ℕ → ℕ → Bool
 -- what is read of the first file with a path
 abbrev pub of_first : {F X : Type 0} → (F → List ℕ) → (F → X) → X → List F → List ℕ → X
 of_first name read none [] path = none
-of_first name read none (file ∷ files) path = if bytes_eq (name file) path then read file else of_first name read none files path
+of_first name read none (file ∷ files) path =
+    if bytes_eq (name file) path then read file else of_first name read none files path
 
 -- the relation that was opened last: its path, and how many blocks its segments have
 pub record OpenAt : Type 0 where
   pub path : List ℕ
   pub seg_blocks : ℕ
 
--- `_fsm` is the free space map, `_vm` the visibility map, `_init` the initialization fork; anything else is main
+-- `_fsm` is the free space map, `_vm` the visibility map, `_init` the initialization fork; anything
+-- else is main
 unfoldable pub fork_of : List ℕ → Fork
-fork_of path = if ends_with nat_eq path (codes "_fsm") then Fsm else (if ends_with nat_eq path (codes "_vm") then Vm else (if ends_with nat_eq path (codes "_init") then Init else Main))
+fork_of path =
+    if ends_with nat_eq path (codes "_fsm") then Fsm
+    else (if ends_with nat_eq path (codes "_vm") then Vm
+    else (if ends_with nat_eq path (codes "_init") then Init else Main))
 
 abbrev pub is_digit : ℕ → Bool
 is_digit byte = nat_le 48 byte && nat_le byte 57
 
--- what follows the path of a relation in the names of its files: nothing, or `.` and digits, one at least
+-- what follows the path of a relation in the names of its files: nothing, or `.` and digits, one at
+-- least
 abbrev pub is_file_end : List ℕ → Bool
 is_file_end [] = true
 is_file_end (byte ∷ digits) = byte == 46 && (nat_lt 0 (length digits) && list_all is_digit digits)
 
--- the file is one of the relation at the path: the path itself, or the path followed by `.` and digits
+-- the file is one of the relation at the path: the path itself, or the path followed by `.` and
+-- digits
 unfoldable pub is_file_of : List ℕ → List ℕ → Bool
 is_file_of path file = starts_with nat_eq file path && is_file_end (drop (length path) file)

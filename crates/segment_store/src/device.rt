@@ -1,8 +1,10 @@
 //! Lanes of blocks.
-ghost use Rattle.std.specs.Prelude.{◌≡◌, ◌+◌, ◌<◌, ◌^◌, ℕ, Option, Some, OnOk, IfSome, IsSome, MatchResult, true};
+ghost use Rattle.std.specs.Prelude.{◌≡◌, ◌+◌, ◌<◌, ◌^◌, ℕ, Option, Some, OnOk, IfSome, IsSome};
+ghost use Rattle.std.specs.Prelude.{MatchResult, true};
 ghost use Rattle.std.specs.Option.{ForSome};
 ghost use Rattle.log_device.specs.Faults.{HasCause};
-ghost use Rattle.segment_store.specs.Contents.{AfterWrite, AreFullPages, HasRoom, Marks, Pages, no_marks, with_mark};
+ghost use Rattle.segment_store.specs.Contents.{AfterWrite, AreFullPages, HasRoom, Marks, Pages};
+ghost use Rattle.segment_store.specs.Contents.{no_marks, with_mark};
 
 use block_tag::Tag;
 use log_device::Failed;
@@ -10,7 +12,8 @@ use page_layout::Page;
 
 /// Blocks by their tags, as a storage manager keeps them for one backend at a time.
 ///
-/// A call leaves what its clauses don't name as it was. A count never falls, and rises only in a call that fails.
+/// A call leaves what its clauses don't name as it was. A count never falls, and rises only in a
+/// call that fails.
 pub trait BlockLane {
     /// The pages by their tags, if the contents are known.
     ghost contents: { Self → Option Pages };
@@ -21,7 +24,8 @@ pub trait BlockLane {
     /// The tags that were written since the last sync that succeeded.
     ghost unsynced: { Self → Marks };
 
-    /// The blocks that the lane has room for, those that it holds among them; it says something only if the contents are known.
+    /// The blocks that the lane has room for, those that it holds among them; it says something
+    /// only if the contents are known.
     ghost room: { Self → Marks };
 
     /// How many reads failed.
@@ -36,7 +40,8 @@ pub trait BlockLane {
     /// Reads a block of the lane into the page. After a failed read its contents are unspecified.
     fn read(&mut self, tag: Tag, page: &mut Page) -> Result<(), Failed>
         requires { ForSome (contents self.old) (λ pages. IsSome (pages tag)) }
-        ensures page { OnOk result (IfSome (contents self.old) (λ pages. pages tag ≡ Some page.new)) }
+        ensures page { OnOk result (IfSome (contents self.old)
+            (λ pages. pages tag ≡ Some page.new)) }
         ensures contents { contents self.new ≡ contents self.old }
         ensures failed { failed_writes self.new ≡ failed_writes self.old }
         ensures unsynced { unsynced self.new ≡ unsynced self.old }
@@ -46,11 +51,13 @@ pub trait BlockLane {
         ensures calls { calls self.new ≡ calls self.old + 1 };
 
     /// Writes the page to a block, whether or not the lane has it.
-    /// After a failed write the block's contents are unspecified; a block that the lane lacks may be refused: its pages and marks stay.
+    /// After a failed write the block's contents are unspecified; a block that the lane lacks may
+    /// be refused: its pages and marks stay.
     /// Redo may name a block past the relation's end, and a full lane in memory has no room for a
     /// torn page there. The manager writes only blocks that its lanes have.
     fn write(&mut self, tag: Tag, page: &Page) -> Result<(), Failed>
-        ensures written { AfterWrite tag page.now (contents self.old) (failed_writes self.old) (contents self.new) (failed_writes self.new) result }
+        ensures written { AfterWrite tag page.now (contents self.old) (failed_writes self.old)
+            (contents self.new) (failed_writes self.new) result }
         ensures unsynced { unsynced self.new ≡ with_mark tag true (unsynced self.old) }
         ensures room { room self.new ≡ room self.old }
         ensures writes { HasCause (write_faults self.old) (write_faults self.new) result }
@@ -61,7 +68,8 @@ pub trait BlockLane {
     fn sync(&mut self) -> Result<(), Failed>
         ensures contents { contents self.new ≡ contents self.old }
         ensures failed { failed_writes self.new ≡ failed_writes self.old }
-        ensures unsynced { MatchResult result (λ _. unsynced self.new ≡ no_marks) (λ _. unsynced self.new ≡ unsynced self.old) }
+        ensures unsynced { MatchResult result (λ _. unsynced self.new ≡ no_marks)
+            (λ _. unsynced self.new ≡ unsynced self.old) }
         ensures room { room self.new ≡ room self.old }
         ensures writes { HasCause (write_faults self.old) (write_faults self.new) result }
         ensures reads { read_faults self.new ≡ read_faults self.old }

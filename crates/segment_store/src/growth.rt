@@ -1,10 +1,12 @@
-//! How a relation in memory grows: room for segments, new pages in them, and how far lanes' blocks go.
+//! How a relation in memory grows: room for segments, new pages in them, and how far lanes' blocks
+//! go.
 //!
 //! Only a recovery writes past a relation's end, so the relation grows only if a source is given
 //! back with the lanes; otherwise a block past the end is dropped. New pages stand from the old end
 //! up to the last block that a lane has. `give_back` has no allocator and can't refuse, so a file
 //! in memory takes the memory for all it may have when it is made (`MemFile::with_space`).
-ghost use Rattle.std.specs.Prelude.{◌≡◌, ◌+◌, ◌*◌, ◌++◌, ◌≤◌, All, IfOk, OnOk, Some, drop, length, map, replicate, take, vec_capacity, vec_len};
+ghost use Rattle.std.specs.Prelude.{◌≡◌, ◌+◌, ◌*◌, ◌++◌, ◌≤◌, All, IfOk, OnOk, Some, drop, length};
+ghost use Rattle.std.specs.Prelude.{map, replicate, take, vec_capacity, vec_len};
 ghost use Rattle.segment_store.specs.Growth.{last_held, new_page_at};
 ghost use Rattle.segment_store.specs.MemoryHost.{bytes_of};
 ghost use Rattle.segment_store.specs.MemoryLane.{pages_of};

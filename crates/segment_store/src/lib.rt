@@ -1,8 +1,9 @@
-//! What a buffer manager asks of the outside, as traits: a [`BlockLane`] reads, writes and syncs pages, and a [`Host`]
-//! opens a relation's segments and log.
+//! What a buffer manager asks of the outside, as traits: a [`BlockLane`] reads, writes and syncs
+//! pages, and a [`Host`] opens a relation's segments and log.
 //!
-//! In memory there are [`MemLane`], [`MemFile`] and [`MemHost`], whose calls fail when a plan says so; `segment_files`
-//! has lanes over files. For a lane of your own keep a [`LaneHistory`], and read docs/LIBRARY.md, "Devices of one's own".
+//! In memory there are [`MemLane`], [`MemFile`] and [`MemHost`], whose calls fail when a plan says
+//! so; `segment_files` has lanes over files. For a lane of your own keep a [`LaneHistory`], and
+//! read docs/LIBRARY.md, "Devices of one's own".
 #![tactic(auto)]
 
 mod device;

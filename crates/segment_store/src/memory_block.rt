@@ -3,7 +3,8 @@ ghost use Rattle.std.specs.Prelude.{◌≡◌, false, length, true};
 
 use page_layout::{PAGE_SIZE, Page};
 
-/// A place for a block in memory: its page, whether its last write failed, and whether the block is there.
+/// A place for a block in memory: its page, whether its last write failed, and whether the block is
+/// there.
 #[derive(Drop)]
 pub struct MemBlock {
     pub(crate) page: Page,

@@ -1,16 +1,22 @@
 //! A host in memory.
 ghost use Rattle.std.specs.Option.{option_map_or};
 ghost use Rattle.std.proofs.Common.{refl};
-ghost use Rattle.std.specs.Prelude.{option_map, true, ◌↔◌, MatchResult, string_bytes, ◌≡◌, ◌≢◌, ◌+◌, ◌++◌, ◌==◌, ◌<◌, ◌≤◌, ◌*◌, ◌/◌, ◌^◌, ◌-◌, [], All, Some, None, IfOk, IfSome, IsErrOf, OnOk, if◌then◌else◌, length, map, max, sum_by, vec_len};
+ghost use Rattle.std.specs.Prelude.{option_map, true, ◌↔◌, MatchResult, string_bytes, ◌≡◌, ◌≢◌};
+ghost use Rattle.std.specs.Prelude.{◌+◌, ◌++◌, ◌==◌, ◌<◌, ◌≤◌, ◌*◌, ◌/◌, ◌^◌, ◌-◌, [], All, Some};
+ghost use Rattle.std.specs.Prelude.{None, IfOk, IfSome, IsErrOf, OnOk, if◌then◌else◌, length, map};
+ghost use Rattle.std.specs.Prelude.{max, sum_by, vec_len};
 ghost use Rattle.log_device.specs.Faults.{Added};
 ghost use Rattle.segment_store.specs.Faults.{CountsOneOpening, HasOpeningCause};
 ghost use Rattle.segment_store.specs.Contents.{no_marks, with_mark, with_page};
 ghost use Rattle.segment_store.specs.Growth.{paths_given, paths_grown, room_given};
 ghost use Rattle.segment_store.specs.Lanes.{dealt, own_pages, own_room, rooms_dealt};
-ghost use Rattle.segment_store.specs.Logs.{CountsOneLogOpening, HasLogCause, IsOpenedLog, IsOpenedSource, empty_log, logs_after, with_log};
+ghost use Rattle.segment_store.specs.Logs.{CountsOneLogOpening, HasLogCause, IsOpenedLog};
+ghost use Rattle.segment_store.specs.Logs.{IsOpenedSource, empty_log, logs_after, with_log};
 ghost use Rattle.segment_store.specs.MemoryFile.{room_at};
-ghost use Rattle.segment_store.specs.MemoryHost.{bytes_of, lanes_of, marks_at, open_now, openings_of, segments_at};
-ghost use Rattle.segment_store.specs.MemoryLane.{fresh_lane_plan, marks_of, pages_of, plan_of, room_of as lane_room, unsynced_of};
+ghost use Rattle.segment_store.specs.MemoryHost.{bytes_of, lanes_of, marks_at, open_now};
+ghost use Rattle.segment_store.specs.MemoryHost.{openings_of, segments_at};
+ghost use Rattle.segment_store.specs.MemoryLane.{fresh_lane_plan, marks_of, pages_of, plan_of};
+ghost use Rattle.segment_store.specs.MemoryLane.{room_of as lane_room, unsynced_of};
 ghost use Rattle.segment_store.specs.MemoryLog.{logs_at, opened_path};
 ghost use Rattle.log_device.specs.MemoryLog.{appends_of, as_stored, room_of, syncs_of};
 ghost use Rattle.log_device.specs.MemorySource.{left_of};
@@ -72,7 +78,8 @@ fn add_blocks(
 
 /// The pages of all blocks that the segments have, up to the first that has fewer than it may have.
 fn all_pages(alloc: Global, segments: &[Vec<u8>], seg_blocks: u32) -> Result<Vec<Page>, AllocError>
-    ensures { IfOk result (λ pages. pages.items ≡ segment_pages seg_blocks (bytes_of segments.now)) }
+    ensures { IfOk result (λ pages. pages.items ≡ segment_pages seg_blocks
+        (bytes_of segments.now)) }
 {
     let mut pages = Vec::new(alloc);
     let mut rest = segments;
@@ -95,7 +102,8 @@ fn relation_pages(
     segments: &[Vec<u8>],
     seg_blocks: u32,
 ) -> Result<Vec<Page>, AllocError>
-    ensures pages { IfOk result (λ pages. pages.items ≡ relation_of seg_blocks (bytes_of segments.now)) }
+    ensures pages { IfOk result (λ pages. pages.items ≡ relation_of seg_blocks
+        (bytes_of segments.now)) }
     ensures few { IfOk result (λ pages. vec_len pages < 2 ^ 32) }
 {
     let mut pages = all_pages(alloc, segments, seg_blocks)?;
@@ -114,7 +122,8 @@ fn hold_own(
 ) -> Result<(), AllocError>
     requires some { 1 ≤ lanes }
     requires unmarked { marks_of lane.old ≡ no_marks }
-    ensures pages { OnOk result (pages_of lane.new ≡ (if lane_number tag lanes == number then with_page tag page.now (pages_of lane.old) else pages_of lane.old)) }
+    ensures pages { OnOk result (pages_of lane.new ≡ (if lane_number tag lanes == number
+        then with_page tag page.now (pages_of lane.old) else pages_of lane.old)) }
     ensures failed { OnOk result (marks_of lane.new ≡ no_marks) }
     ensures room { OnOk result (lane_room lane.new
         ≡ (if lane_number tag lanes == number then with_mark tag true (lane_room lane.old)
@@ -188,8 +197,8 @@ fn reserve_past(
     Ok(())
 }
 
-/// The lane of this number, with its own blocks of a relation, and with room for its own of the first
-/// `room` blocks.
+/// The lane of this number, with its own blocks of a relation, and with room for its own of the
+/// first `room` blocks.
 fn own_lane(
     alloc: Global,
     pages: &[Page],
@@ -236,11 +245,14 @@ fn deal_lanes(
     requires lanes { 1 ≤ count }
     requires blocks { length pages.now ≤ room }
     ensures rooms { IfOk result (λ lanes. map lane_room lanes.items ≡ rooms_dealt fork room count) }
-    ensures contents { IfOk result (λ lanes. map (λ lane. Some (pages_of lane)) lanes.items ≡ dealt fork pages.now count) }
+    ensures contents { IfOk result (λ lanes. map (λ lane. Some (pages_of lane)) lanes.items
+        ≡ dealt fork pages.now count) }
     ensures failed { IfOk result (λ lanes. All (λ lane. marks_of lane ≡ no_marks) lanes.items) }
     ensures reads { IfOk result (λ lanes. sum_by (λ lane. lane.read_faults.count) lanes.items ≡ 0) }
-    ensures writes { IfOk result (λ lanes. sum_by (λ lane. lane.write_faults.count) lanes.items ≡ 0) }
-    ensures plan { IfOk result (λ lanes. All (λ lane. plan_of lane ≡ fresh_lane_plan plan.now) lanes.items) }
+    ensures writes { IfOk result (λ lanes.
+        sum_by (λ lane. lane.write_faults.count) lanes.items ≡ 0) }
+    ensures plan { IfOk result (λ lanes.
+        All (λ lane. plan_of lane ≡ fresh_lane_plan plan.now) lanes.items) }
     ensures synced { IfOk result (λ lanes. All (λ lane. unsynced_of lane ≡ no_marks) lanes.items) }
 {
     let mut lanes = Vec::new(alloc);
@@ -265,13 +277,20 @@ fn open_segments(
     requires { 1 ≤ count }
     ensures rooms { IfOk result (λ opened.
         map lane_room opened.lanes.items ≡ rooms_dealt fork (max room opened.blocks) count) }
-    ensures blocks { IfOk result (λ opened. opened.blocks ≡ length (relation_of seg_blocks (bytes_of segments.now))) }
-    ensures contents { IfOk result (λ opened. map (λ lane. Some (pages_of lane)) opened.lanes.items ≡ dealt fork (relation_of seg_blocks (bytes_of segments.now)) count) }
-    ensures failed { IfOk result (λ opened. All (λ lane. marks_of lane ≡ no_marks) opened.lanes.items) }
-    ensures reads { IfOk result (λ opened. sum_by (λ lane. lane.read_faults.count) opened.lanes.items ≡ 0) }
-    ensures writes { IfOk result (λ opened. sum_by (λ lane. lane.write_faults.count) opened.lanes.items ≡ 0) }
-    ensures plan { IfOk result (λ opened. All (λ lane. plan_of lane ≡ fresh_lane_plan plan.now) opened.lanes.items) }
-    ensures synced { IfOk result (λ opened. All (λ lane. unsynced_of lane ≡ no_marks) opened.lanes.items) }
+    ensures blocks { IfOk result (λ opened. opened.blocks
+        ≡ length (relation_of seg_blocks (bytes_of segments.now))) }
+    ensures contents { IfOk result (λ opened. map (λ lane. Some (pages_of lane)) opened.lanes.items
+        ≡ dealt fork (relation_of seg_blocks (bytes_of segments.now)) count) }
+    ensures failed { IfOk result (λ opened.
+        All (λ lane. marks_of lane ≡ no_marks) opened.lanes.items) }
+    ensures reads { IfOk result (λ opened.
+        sum_by (λ lane. lane.read_faults.count) opened.lanes.items ≡ 0) }
+    ensures writes { IfOk result (λ opened.
+        sum_by (λ lane. lane.write_faults.count) opened.lanes.items ≡ 0) }
+    ensures plan { IfOk result (λ opened.
+        All (λ lane. plan_of lane ≡ fresh_lane_plan plan.now) opened.lanes.items) }
+    ensures synced { IfOk result (λ opened.
+        All (λ lane. unsynced_of lane ≡ no_marks) opened.lanes.items) }
 {
     let pages = relation_pages(alloc, segments, seg_blocks)?;
     let blocks = pages.len() as u32;
@@ -281,7 +300,8 @@ fn open_segments(
 
 /// Counts the failed reads of lanes too.
 fn count_reads(faults: &mut FaultCount, lanes: &[MemLane])
-    ensures { Added faults.old.count (sum_by (λ lane. lane.read_faults.count) lanes.now) faults.new.count }
+    ensures { Added faults.old.count (sum_by (λ lane. lane.read_faults.count) lanes.now)
+        faults.new.count }
 {
     for lane in lanes {
         faults.add(lane.read_faults());
@@ -290,7 +310,8 @@ fn count_reads(faults: &mut FaultCount, lanes: &[MemLane])
 
 /// Counts the failed reads of a source too, if there is one.
 fn count_source(faults: &mut FaultCount, source: &Option<MemSource>)
-    ensures { Added faults.old.count (option_map_or (λ s. s.faults.count) source.now 0) faults.new.count }
+    ensures { Added faults.old.count (option_map_or (λ s. s.faults.count) source.now 0)
+        faults.new.count }
 {
     if let Some(source) = source {
         faults.add(source.faults());
@@ -299,7 +320,8 @@ fn count_source(faults: &mut FaultCount, source: &Option<MemSource>)
 
 /// Counts the failed writes and syncs of lanes too.
 fn count_writes(faults: &mut FaultCount, lanes: &[MemLane])
-    ensures { Added faults.old.count (sum_by (λ lane. lane.write_faults.count) lanes.now) faults.new.count }
+    ensures { Added faults.old.count (sum_by (λ lane. lane.write_faults.count) lanes.now)
+        faults.new.count }
 {
     for lane in lanes {
         faults.add(lane.write_faults());
@@ -322,7 +344,8 @@ pub struct MemHost {
 }
 
 impl MemHost {
-    /// A host with these files and logs, in which these openings and these calls of each lane are to fail.
+    /// A host with these files and logs, in which these openings and these calls of each lane are
+    /// to fail.
     pub fn new(
         alloc: Global,
         files: Vec<MemFile>,
@@ -353,7 +376,8 @@ impl MemHost {
 
     /// The segments at a path, none if there is no file.
     pub fn segments(&self, path: &str) -> &[Vec<u8>]
-        ensures { IfSome (⟦<MemHost as Host>⟧.contents self.now) (λ paths. bytes_of result.now ≡ paths path.now) }
+        ensures { IfSome (⟦<MemHost as Host>⟧.contents self.now)
+            (λ paths. bytes_of result.now ≡ paths path.now) }
     {
         match file_at(&self.files, path) {
             Some(index) => self.files[index].segments.as_slice(),
@@ -373,12 +397,14 @@ impl MemHost {
 
     /// The log at a path, as it was put or given back last: empty if none was since it was opened.
     pub fn stored_log(&self, path: &str) -> Option<&MemLog>
-        ensures { IfSome (⟦<MemHost as Host>⟧.logs self.now) (λ logs. option_map (λ log. as_stored log.now) result ≡ logs path.now) }
+        ensures { IfSome (⟦<MemHost as Host>⟧.logs self.now)
+            (λ logs. option_map (λ log. as_stored log.now) result ≡ logs path.now) }
     {
         self.logs.get(path)
     }
 
-    /// How many openings of relations and of sources failed, and reads of lanes and of sources that were given back.
+    /// How many openings of relations and of sources failed, and reads of lanes and of sources that
+    /// were given back.
     pub fn read_faults(&self) -> u64
         ensures { result ≡ ⟦<MemHost as Host>⟧.read_faults self.now }
     {
@@ -404,12 +430,16 @@ impl MemHost {
         ensures opened { IfOk result (IsOpened
             (λ lane. Some (pages_of lane)) marks_of unsynced_of lane_room
             (λ lane. lane.read_faults.count) (λ lane. lane.write_faults.count)
-            (Some (segments_at self.now.files.items)) (room_at self.now.files.items path.now seg_blocks)
+            (Some (segments_at self.now.files.items))
+            (room_at self.now.files.items path.now seg_blocks)
             path.now (fork_of path.now) seg_blocks lanes) }
-        ensures missing { IsErrOf result HostError.Missing → segments_at self.now.files.items path.now ≡ [] }
+        ensures missing { IsErrOf result HostError.Missing
+            → segments_at self.now.files.items path.now ≡ [] }
         ensures alive { IsErrOf result HostError.Failed → ⊥ }
-        ensures plan { IfOk result (λ opened. All (λ lane. plan_of lane ≡ fresh_lane_plan self.now.lanes) opened.lanes.items) }
-        ensures rooms { IfOk result (λ opened. map lane_room opened.lanes.items ≡ rooms_dealt (fork_of path.now)
+        ensures plan { IfOk result (λ opened.
+            All (λ lane. plan_of lane ≡ fresh_lane_plan self.now.lanes) opened.lanes.items) }
+        ensures rooms { IfOk result (λ opened. map lane_room opened.lanes.items
+            ≡ rooms_dealt (fork_of path.now)
             (max (room_at self.now.files.items path.now seg_blocks) opened.blocks) lanes) }
     {
         let segments = self.segments(path);
@@ -427,7 +457,8 @@ impl MemHost {
     /// Forgets what the lanes of a path that were given back had marked.
     fn forget(&mut self, path: &str)
         ensures contents { segments_at self.new.files.items ≡ segments_at self.old.files.items }
-        ensures failed { marks_at self.new.files.items ≡ cleared path.now (marks_at self.old.files.items) }
+        ensures failed { marks_at self.new.files.items
+            ≡ cleared path.now (marks_at self.old.files.items) }
         ensures room { room_at self.new.files.items ≡ room_at self.old.files.items }
         ensures same { self.new ≡ record self.old { files = self.new.files } }
     {
@@ -456,8 +487,12 @@ impl MemHost {
 
     /// Puts the blocks of lanes at their places in the segments of a path, and keeps the lanes.
     fn take_lanes(&mut self, lanes: Vec<MemLane>)
-        ensures contents { segments_at self.new.files.items ≡ paths_after (open_now self.old) (map (λ lane. Some (pages_of lane)) lanes.items) (segments_at self.old.files.items) }
-        ensures failed { segments_at self.old.files.items (string_bytes self.old.open_path) ≢ [] → marks_at self.new.files.items ≡ marks_after (open_now self.old) (map marks_of lanes.items) (marks_at self.old.files.items) }
+        ensures contents { segments_at self.new.files.items
+            ≡ paths_after (open_now self.old) (map (λ lane. Some (pages_of lane)) lanes.items)
+            (segments_at self.old.files.items) }
+        ensures failed { segments_at self.old.files.items (string_bytes self.old.open_path) ≢ []
+            → marks_at self.new.files.items ≡ marks_after (open_now self.old)
+            (map marks_of lanes.items) (marks_at self.old.files.items) }
         ensures room { room_at self.new.files.items ≡ room_at self.old.files.items }
         ensures same { self.new ≡ record self.old { files = self.new.files } }
     {
@@ -505,22 +540,34 @@ impl Host for MemHost {
         ensures opened { IfOk result (IsOpened
             (λ lane. Some (pages_of lane)) marks_of unsynced_of lane_room
             (λ lane. lane.read_faults.count) (λ lane. lane.write_faults.count)
-            (Some (segments_at self.old.files.items)) (room_at self.old.files.items path.now seg_blocks)
+            (Some (segments_at self.old.files.items))
+            (room_at self.old.files.items path.now seg_blocks)
             path.now (fork_of path.now) seg_blocks lanes) }
-        ensures missing { IsErrOf result HostError.Missing → segments_at self.old.files.items path.now ≡ [] }
-        ensures contents { Some (segments_at self.new.files.items) ≡ Some (segments_at self.old.files.items) }
-        ensures failed { MatchResult result (λ _. marks_at self.new.files.items ≡ cleared path.now (marks_at self.old.files.items)) (λ _. marks_at self.new.files.items ≡ marks_at self.old.files.items) }
-        ensures open_at { MatchResult result (λ _. open_now self.new ≡ record { path = path.now; seg_blocks = seg_blocks }) (λ _. open_now self.new ≡ open_now self.old) }
+        ensures missing { IsErrOf result HostError.Missing
+            → segments_at self.old.files.items path.now ≡ [] }
+        ensures contents { Some (segments_at self.new.files.items)
+            ≡ Some (segments_at self.old.files.items) }
+        ensures failed { MatchResult result (λ _. marks_at self.new.files.items
+            ≡ cleared path.now (marks_at self.old.files.items))
+            (λ _. marks_at self.new.files.items ≡ marks_at self.old.files.items) }
+        ensures open_at { MatchResult result (λ _. open_now self.new
+            ≡ record { path = path.now; seg_blocks = seg_blocks })
+            (λ _. open_now self.new ≡ open_now self.old) }
         ensures room { room_at self.new.files.items ≡ room_at self.old.files.items }
-        ensures reads { HasOpeningCause self.old.read_faults.count self.new.read_faults.count result }
-        ensures counted { CountsOneOpening self.old.read_faults.count self.new.read_faults.count result }
+        ensures reads { HasOpeningCause self.old.read_faults.count self.new.read_faults.count
+            result }
+        ensures counted { CountsOneOpening self.old.read_faults.count self.new.read_faults.count
+            result }
         ensures writes { self.new.write_faults ≡ self.old.write_faults }
         ensures logs { self.new.logs ≡ self.old.logs }
-        ensures fault { IsErrOf result HostError.Failed ↔ (fails_next (openings_of self.old) ≡ true) }
+        ensures fault { IsErrOf result HostError.Failed
+            ↔ (fails_next (openings_of self.old) ≡ true) }
         ensures openings { openings_of self.new ≡ after_call (openings_of self.old) }
         ensures lanes { lanes_of self.new ≡ lanes_of self.old }
-        ensures plan { IfOk result (λ opened. All (λ lane. plan_of lane ≡ fresh_lane_plan (lanes_of self.old)) opened.lanes.items) }
-        ensures rooms { IfOk result (λ opened. map lane_room opened.lanes.items ≡ rooms_dealt (fork_of path.now)
+        ensures plan { IfOk result (λ opened.
+            All (λ lane. plan_of lane ≡ fresh_lane_plan (lanes_of self.old)) opened.lanes.items) }
+        ensures rooms { IfOk result (λ opened. map lane_room opened.lanes.items
+            ≡ rooms_dealt (fork_of path.now)
             (max (room_at self.old.files.items path.now seg_blocks) opened.blocks) lanes) }
     {
         if self.openings.fails() {
@@ -539,16 +586,25 @@ impl Host for MemHost {
 
     /// Fails if the plan says so.
     fn log(&mut self, alloc: Global, path: &str) -> Result<MemLog, LogOpen>
-        ensures opened { IfOk result (IsOpenedLog (λ l. Some (as_stored l).bytes) (λ l. (as_stored l).synced) (λ l. l.faults.count) (Some (logs_at self.old.logs.files.items))) }
+        ensures opened { IfOk result (IsOpenedLog (λ l. Some (as_stored l).bytes)
+            (λ l. (as_stored l).synced) (λ l. l.faults.count)
+            (Some (logs_at self.old.logs.files.items))) }
         ensures room { IfOk result (λ log. room_of log ≡ self.old.logs.room) }
-        ensures appends { IfOk result (λ log. appends_of log ≡ fresh_plan self.old.logs.calls.appends) }
+        ensures appends { IfOk result (λ log. appends_of log
+            ≡ fresh_plan self.old.logs.calls.appends) }
         ensures syncs { IfOk result (λ log. syncs_of log ≡ fresh_plan self.old.logs.calls.syncs) }
-        ensures logs { MatchResult result (λ _. Some (logs_at self.new.logs.files.items) ≡ Some (with_log path.now empty_log (logs_at self.old.logs.files.items))) (λ _. Some (logs_at self.new.logs.files.items) ≡ Some (logs_at self.old.logs.files.items)) }
-        ensures log_at { MatchResult result (λ _. opened_path self.new.logs ≡ path.now) (λ _. opened_path self.new.logs ≡ opened_path self.old.logs) }
+        ensures logs { MatchResult result (λ _. Some (logs_at self.new.logs.files.items)
+            ≡ Some (with_log path.now empty_log (logs_at self.old.logs.files.items)))
+            (λ _. Some (logs_at self.new.logs.files.items)
+            ≡ Some (logs_at self.old.logs.files.items)) }
+        ensures log_at { MatchResult result (λ _. opened_path self.new.logs ≡ path.now)
+            (λ _. opened_path self.new.logs ≡ opened_path self.old.logs) }
         ensures fault { IsErrOf result LogOpen.Failed ↔ (fails_next self.old.logs.openings ≡ true) }
         ensures openings { self.new.logs.openings ≡ after_call self.old.logs.openings }
-        ensures log_faults { HasLogCause self.old.logs.faults.count self.new.logs.faults.count result }
-        ensures counted { CountsOneLogOpening self.old.logs.faults.count self.new.logs.faults.count result }
+        ensures log_faults { HasLogCause self.old.logs.faults.count self.new.logs.faults.count
+            result }
+        ensures counted { CountsOneLogOpening self.old.logs.faults.count self.new.logs.faults.count
+            result }
         ensures log_room { self.new.logs.room ≡ self.old.logs.room }
         ensures log_calls { self.new.logs.calls ≡ self.old.logs.calls }
         ensures same { self.new ≡ record self.old { logs = self.new.logs } }
@@ -558,18 +614,29 @@ impl Host for MemHost {
 
     /// Fails if the plan says so.
     fn bytes(&mut self, alloc: Global, path: &str) -> Result<MemSource, HostError>
-        ensures opened { IfOk result (IsOpenedSource (λ s. Some (left_of s)) (λ s. s.faults.count) (Some (logs_at self.old.logs.files.items)) path.now) }
-        ensures calls { IfOk result (λ source. source.calls ≡ fresh_plan self.old.logs.sources.calls) }
+        ensures opened { IfOk result (IsOpenedSource (λ s. Some (left_of s)) (λ s. s.faults.count)
+            (Some (logs_at self.old.logs.files.items)) path.now) }
+        ensures calls { IfOk result (λ source. source.calls
+            ≡ fresh_plan self.old.logs.sources.calls) }
         ensures most { IfOk result (λ source. source.most ≡ self.old.logs.sources.most) }
-        ensures missing { IsErrOf result HostError.Missing → logs_at self.old.logs.files.items path.now ≡ None }
-        ensures fault { IsErrOf result HostError.Failed ↔ (fails_next self.old.logs.sources.openings ≡ true) }
-        ensures openings { self.new.logs.sources.openings ≡ after_call self.old.logs.sources.openings }
+        ensures missing { IsErrOf result HostError.Missing
+            → logs_at self.old.logs.files.items path.now ≡ None }
+        ensures fault { IsErrOf result HostError.Failed
+            ↔ (fails_next self.old.logs.sources.openings ≡ true) }
+        ensures openings { self.new.logs.sources.openings
+            ≡ after_call self.old.logs.sources.openings }
         ensures plan { self.new.logs.sources.calls ≡ self.old.logs.sources.calls }
         ensures most_stays { self.new.logs.sources.most ≡ self.old.logs.sources.most }
-        ensures log_files { self.new.logs ≡ record self.old.logs { sources = self.new.logs.sources } }
-        ensures reads { HasOpeningCause self.old.read_faults.count self.new.read_faults.count result }
-        ensures counted { CountsOneOpening self.old.read_faults.count self.new.read_faults.count result }
-        ensures same { self.new ≡ record self.old { logs = self.new.logs; read_faults = self.new.read_faults } }
+        ensures log_files { self.new.logs ≡ record self.old.logs
+            { sources = self.new.logs.sources } }
+        ensures reads { HasOpeningCause self.old.read_faults.count self.new.read_faults.count
+            result }
+        ensures counted { CountsOneOpening self.old.read_faults.count self.new.read_faults.count
+            result }
+        ensures same { self.new ≡ record self.old {
+          logs = self.new.logs;
+          read_faults = self.new.read_faults;
+        } }
     {
         let opened = self.logs.source(alloc, path);
         if let Err(HostError::Failed) = opened {
@@ -582,20 +649,28 @@ impl Host for MemHost {
         ensures contents { Some (segments_at self.new.files.items) ≡ Some (
             paths_given (room_at self.old.files.items) (open_now self.old) source
             (map (λ lane. Some (pages_of lane)) lanes.items) (segments_at self.old.files.items)) }
-        ensures failed { segments_at self.old.files.items (string_bytes self.old.open_path) ≢ [] → marks_at self.new.files.items ≡ marks_after (open_now self.old) (map marks_of lanes.items) (marks_at self.old.files.items) }
+        ensures failed { segments_at self.old.files.items (string_bytes self.old.open_path) ≢ []
+            → marks_at self.new.files.items ≡ marks_after (open_now self.old)
+            (map marks_of lanes.items) (marks_at self.old.files.items) }
         ensures open_at { open_now self.new ≡ open_now self.old }
         ensures room { room_at self.new.files.items ≡ room_at self.old.files.items }
         ensures openings { openings_of self.new ≡ openings_of self.old }
         ensures lanes { lanes_of self.new ≡ lanes_of self.old }
-        ensures logs { logs_at self.new.logs.files.items ≡ logs_after (opened_path self.old.logs) (option_map as_stored log) (logs_at self.old.logs.files.items) }
-        ensures log_faults { Added self.old.logs.faults.count (option_map_or (λ l. l.faults.count) log 0) self.new.logs.faults.count }
+        ensures logs { logs_at self.new.logs.files.items
+            ≡ logs_after (opened_path self.old.logs) (option_map as_stored log)
+            (logs_at self.old.logs.files.items) }
+        ensures log_faults { Added self.old.logs.faults.count
+            (option_map_or (λ l. l.faults.count) log 0) self.new.logs.faults.count }
         ensures log_at { opened_path self.new.logs ≡ opened_path self.old.logs }
         ensures log_openings { self.new.logs.openings ≡ self.old.logs.openings }
         ensures log_calls { self.new.logs.calls ≡ self.old.logs.calls }
         ensures log_room { self.new.logs.room ≡ self.old.logs.room }
         ensures sources { self.new.logs.sources ≡ self.old.logs.sources }
-        ensures reads { Added self.old.read_faults.count (sum_by (λ lane. lane.read_faults.count) lanes.items + option_map_or (λ s. s.faults.count) source 0) self.new.read_faults.count }
-        ensures writes { Added self.old.write_faults.count (sum_by (λ lane. lane.write_faults.count) lanes.items) self.new.write_faults.count }
+        ensures reads { Added self.old.read_faults.count
+            (sum_by (λ lane. lane.read_faults.count) lanes.items
+            + option_map_or (λ s. s.faults.count) source 0) self.new.read_faults.count }
+        ensures writes { Added self.old.write_faults.count
+            (sum_by (λ lane. lane.write_faults.count) lanes.items) self.new.write_faults.count }
     {
         count_reads(&mut self.read_faults, &lanes);
         count_source(&mut self.read_faults, &source);

@@ -1,9 +1,13 @@
 //! A lane in memory.
-ghost use Rattle.std.specs.Prelude.{[], IsSome, MatchResult, option_map, length, ◌≡◌, ◌+◌, Some, IfOk, OnOk, OnErr, is_ok, not, ◌&&◌, true, false};
+ghost use Rattle.std.specs.Prelude.{[], IsSome, MatchResult, option_map, length, ◌≡◌, ◌+◌, Some};
+ghost use Rattle.std.specs.Prelude.{IfOk, OnOk, OnErr, is_ok, not, ◌&&◌, true, false};
 ghost use Rattle.std.specs.Option.{ForSome};
 ghost use Rattle.log_device.specs.Faults.{CountsOne, HasCause};
-ghost use Rattle.segment_store.specs.Contents.{AfterWrite, no_marks, no_pages, with_mark, with_page};
-ghost use Rattle.segment_store.specs.MemoryLane.{calls_of, fresh_lane_plan, marks_of, pages_of, plan_of, room_of, there_has_room, torn_page, unsynced_of, whole_page};
+ghost use Rattle.segment_store.specs.Contents.{AfterWrite, no_marks, no_pages, with_mark};
+ghost use Rattle.segment_store.specs.Contents.{with_page};
+ghost use Rattle.segment_store.specs.MemoryLane.{calls_of, fresh_lane_plan, marks_of, pages_of};
+ghost use Rattle.segment_store.specs.MemoryLane.{plan_of, room_of, there_has_room, torn_page};
+ghost use Rattle.segment_store.specs.MemoryLane.{unsynced_of, whole_page};
 ghost use Rattle.log_device.specs.Plan.{after_call, fails_next};
 ghost use Rattle.std.specs.BTreeMap as tree;
 ghost use Rattle.block_tag.specs.contracts.tag.TagOrd.TheImpl as tags;
@@ -108,10 +112,13 @@ impl MemLane {
 
     /// Takes a block in, with a copy of the page.
     pub fn hold(&mut self, alloc: Global, tag: Tag, page: &Page) -> Result<(), AllocError>
-        ensures pages { OnOk result (pages_of self.new ≡ with_page tag page.now (pages_of self.old)) }
+        ensures pages { OnOk result (pages_of self.new
+            ≡ with_page tag page.now (pages_of self.old)) }
         ensures failed { OnOk result (marks_of self.new ≡ with_mark tag false (marks_of self.old)) }
-        ensures room { MatchResult result (λ _. room_of self.new ≡ with_mark tag true (room_of self.old)) (λ _. room_of self.new ≡ room_of self.old) }
-        ensures refused { OnErr result ((pages_of self.new ≡ pages_of self.old) × (marks_of self.new ≡ marks_of self.old)) }
+        ensures room { MatchResult result (λ _. room_of self.new
+            ≡ with_mark tag true (room_of self.old)) (λ _. room_of self.new ≡ room_of self.old) }
+        ensures refused { OnErr result ((pages_of self.new ≡ pages_of self.old)
+            × (marks_of self.new ≡ marks_of self.old)) }
         ensures plan { plan_of self.new ≡ plan_of self.old }
         ensures reads { self.new.read_faults ≡ self.old.read_faults }
         ensures writes { self.new.write_faults ≡ self.old.write_faults }
@@ -130,7 +137,8 @@ impl MemLane {
 
     /// Makes room for a block, so that a write may add it.
     pub fn reserve(&mut self, alloc: Global, tag: Tag) -> Result<(), AllocError>
-        ensures room { MatchResult result (λ _. room_of self.new ≡ with_mark tag true (room_of self.old)) (λ _. room_of self.new ≡ room_of self.old) }
+        ensures room { MatchResult result (λ _. room_of self.new
+            ≡ with_mark tag true (room_of self.old)) (λ _. room_of self.new ≡ room_of self.old) }
         ensures pages { pages_of self.new ≡ pages_of self.old }
         ensures failed { marks_of self.new ≡ marks_of self.old }
         ensures plan { plan_of self.new ≡ plan_of self.old }
@@ -179,7 +187,8 @@ impl BlockLane for MemLane {
         ensures writes { self.new.write_faults ≡ self.old.write_faults }
         ensures calls { calls_of self.new ≡ calls_of self.old + 1 }
         ensures answer { is_ok result ≡ not (fails_next (plan_of self.old).reads) }
-        ensures plan { plan_of self.new ≡ record (plan_of self.old) { reads = after_call (plan_of self.old).reads } }
+        ensures plan { plan_of self.new ≡ record (plan_of self.old)
+            { reads = after_call (plan_of self.old).reads } }
     {
         self.history.count_call();
         let fails = self.plan.reads.fails();
@@ -193,18 +202,23 @@ impl BlockLane for MemLane {
         Err(Failed)
     }
 
-    /// Fails if the plan says so, or if there is no room for the block; a failed write leaves a torn page of a block that is there.
+    /// Fails if the plan says so, or if there is no room for the block; a failed write leaves a
+    /// torn page of a block that is there.
     fn write(&mut self, tag: Tag, page: &Page) -> Result<(), Failed>
-        ensures written { AfterWrite tag page.now (Some (pages_of self.old)) (marks_of self.old) (Some (pages_of self.new)) (marks_of self.new) result }
-        ensures torn { OnErr result (pages_of self.new tag ≡ option_map (λ old. torn_page old page.now) (pages_of self.old tag)) }
+        ensures written { AfterWrite tag page.now (Some (pages_of self.old)) (marks_of self.old)
+            (Some (pages_of self.new)) (marks_of self.new) result }
+        ensures torn { OnErr result (pages_of self.new tag
+            ≡ option_map (λ old. torn_page old page.now) (pages_of self.old tag)) }
         ensures unsynced { unsynced_of self.new ≡ with_mark tag true (unsynced_of self.old) }
         ensures room { room_of self.new ≡ room_of self.old }
         ensures writes { HasCause self.old.write_faults.count self.new.write_faults.count result }
         ensures counted { CountsOne self.old.write_faults.count self.new.write_faults.count result }
         ensures reads { self.new.read_faults ≡ self.old.read_faults }
         ensures calls { calls_of self.new ≡ calls_of self.old + 1 }
-        ensures answer { is_ok result ≡ (not (fails_next (plan_of self.old).writes) && room_of self.old tag) }
-        ensures plan { plan_of self.new ≡ record (plan_of self.old) { writes = after_call (plan_of self.old).writes } }
+        ensures answer { is_ok result ≡ (not (fails_next (plan_of self.old).writes)
+            && room_of self.old tag) }
+        ensures plan { plan_of self.new ≡ record (plan_of self.old)
+            { writes = after_call (plan_of self.old).writes } }
     {
         self.history.count_call();
         self.history.mark_written(tag);
@@ -230,14 +244,16 @@ impl BlockLane for MemLane {
     fn sync(&mut self) -> Result<(), Failed>
         ensures contents { pages_of self.new ≡ pages_of self.old }
         ensures failed { marks_of self.new ≡ marks_of self.old }
-        ensures unsynced { MatchResult result (λ _. unsynced_of self.new ≡ no_marks) (λ _. unsynced_of self.new ≡ unsynced_of self.old) }
+        ensures unsynced { MatchResult result (λ _. unsynced_of self.new ≡ no_marks)
+            (λ _. unsynced_of self.new ≡ unsynced_of self.old) }
         ensures room { room_of self.new ≡ room_of self.old }
         ensures writes { HasCause self.old.write_faults.count self.new.write_faults.count result }
         ensures counted { CountsOne self.old.write_faults.count self.new.write_faults.count result }
         ensures reads { self.new.read_faults ≡ self.old.read_faults }
         ensures calls { calls_of self.new ≡ calls_of self.old + 1 }
         ensures answer { is_ok result ≡ not (fails_next (plan_of self.old).syncs) }
-        ensures plan { plan_of self.new ≡ record (plan_of self.old) { syncs = after_call (plan_of self.old).syncs } }
+        ensures plan { plan_of self.new ≡ record (plan_of self.old)
+            { syncs = after_call (plan_of self.old).syncs } }
     {
         self.history.count_call();
         if self.plan.syncs.fails() {

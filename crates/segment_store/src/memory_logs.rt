@@ -1,9 +1,11 @@
 //! The logs of a host in memory.
-ghost use Rattle.std.specs.Prelude.{◌≡◌, ◌≤◌, [], Some, None, IfOk, IsErrOf, IsSomeAnd, MatchResult, option_map, string_bytes, true, ◌↔◌};
+ghost use Rattle.std.specs.Prelude.{◌≡◌, ◌≤◌, [], Some, None, IfOk, IsErrOf, IsSomeAnd};
+ghost use Rattle.std.specs.Prelude.{MatchResult, option_map, string_bytes, true, ◌↔◌};
 ghost use Rattle.std.specs.List.{position};
 ghost use Rattle.std.specs.Str.{bytes_eq};
 ghost use Rattle.log_device.specs.Faults.{Added};
-ghost use Rattle.segment_store.specs.Logs.{CountsOneLogOpening, HasLogCause, empty_log, logs_after, with_log};
+ghost use Rattle.segment_store.specs.Logs.{CountsOneLogOpening, HasLogCause, empty_log, logs_after};
+ghost use Rattle.segment_store.specs.Logs.{with_log};
 ghost use Rattle.segment_store.specs.MemoryLog.{all_durable, logs_at, opened_path};
 ghost use Rattle.log_device.specs.MemorySource.{left_of};
 ghost use Rattle.log_device.specs.MemoryLog.{appends_of, as_stored, room_of, syncs_of};
@@ -14,7 +16,8 @@ use crate::source_plan::SourcePlan;
 use log_device::{FaultCount, FaultPlan, LogDevice, LogPlan, MemLog, MemSource};
 use std::alloc::{AllocError, Global};
 
-/// A log's path, and the log as it was put or given back last: empty if none was since it was opened.
+/// A log's path, and the log as it was put or given back last: empty if none was since it was
+/// opened.
 #[derive(Drop)]
 pub struct LogFile {
     path: String,
@@ -51,7 +54,8 @@ pub struct MemLogs {
 }
 
 impl MemLogs {
-    /// No logs. Each that is opened has this room; these openings and these calls of each log are to fail.
+    /// No logs. Each that is opened has this room; these openings and these calls of each log are
+    /// to fail.
     pub fn new(
         alloc: Global,
         room: usize,
@@ -80,7 +84,8 @@ impl MemLogs {
 
     /// The log at a path, as it was put or given back last.
     pub fn get(&self, path: &str) -> Option<&MemLog>
-        ensures { option_map (λ log. as_stored log.now) result ≡ logs_at self.now.files.items path.now }
+        ensures { option_map (λ log. as_stored log.now) result
+            ≡ logs_at self.now.files.items path.now }
     {
         match log_index(&self.files, path) {
             Some(index) => Some(&self.files[index].log),
@@ -90,7 +95,9 @@ impl MemLogs {
 
     /// Puts a log at a path in the place of what stands there.
     fn place(&mut self, alloc: Global, path: &str, log: MemLog) -> Result<(), AllocError>
-        ensures files { MatchResult result (λ _. logs_at self.new.files.items ≡ with_log path.now (as_stored log) (logs_at self.old.files.items)) (λ _. self.new.files.items ≡ self.old.files.items) }
+        ensures files { MatchResult result (λ _. logs_at self.new.files.items
+            ≡ with_log path.now (as_stored log) (logs_at self.old.files.items))
+            (λ _. self.new.files.items ≡ self.old.files.items) }
         ensures same { self.new ≡ record self.old { files = self.new.files } }
     {
         if let Some(index) = log_index(&self.files, path) {
@@ -104,7 +111,9 @@ impl MemLogs {
 
     /// Puts a log with these bytes, all of them durable, at a path.
     pub fn put(&mut self, alloc: Global, path: &str, bytes: &[u8]) -> Result<(), AllocError>
-        ensures files { MatchResult result (λ _. logs_at self.new.files.items ≡ with_log path.now (all_durable bytes.now) (logs_at self.old.files.items)) (λ _. self.new.files.items ≡ self.old.files.items) }
+        ensures files { MatchResult result (λ _. logs_at self.new.files.items
+            ≡ with_log path.now (all_durable bytes.now) (logs_at self.old.files.items))
+            (λ _. self.new.files.items ≡ self.old.files.items) }
         ensures same { self.new ≡ record self.old { files = self.new.files } }
     {
         let log = durable_log(alloc, bytes)?;
@@ -119,9 +128,15 @@ impl MemLogs {
         ensures appends { IfOk result (λ log. appends_of log ≡ fresh_plan self.old.calls.appends) }
         ensures syncs { IfOk result (λ log. syncs_of log ≡ fresh_plan self.old.calls.syncs) }
         ensures faults { IfOk result (λ log. log.faults.count ≡ 0) }
-        ensures files { MatchResult result (λ _. logs_at self.new.files.items ≡ with_log path.now empty_log (logs_at self.old.files.items)) (λ _. self.new.files.items ≡ self.old.files.items) }
-        ensures open_path { MatchResult result (λ _. opened_path self.new ≡ path.now) (λ _. opened_path self.new ≡ opened_path self.old) }
-        ensures same { self.new ≡ record self.old { files = self.new.files; open_path = self.new.open_path } }
+        ensures files { MatchResult result (λ _. logs_at self.new.files.items
+            ≡ with_log path.now empty_log (logs_at self.old.files.items))
+            (λ _. self.new.files.items ≡ self.old.files.items) }
+        ensures open_path { MatchResult result (λ _. opened_path self.new ≡ path.now)
+            (λ _. opened_path self.new ≡ opened_path self.old) }
+        ensures same { self.new ≡ record self.old {
+          files = self.new.files;
+          open_path = self.new.open_path;
+        } }
     {
         let calls = self.calls.fresh(alloc)?;
         let log = MemLog::new(alloc, self.room, calls)?;
@@ -139,8 +154,11 @@ impl MemLogs {
         ensures appends { IfOk result (λ log. appends_of log ≡ fresh_plan self.old.calls.appends) }
         ensures syncs { IfOk result (λ log. syncs_of log ≡ fresh_plan self.old.calls.syncs) }
         ensures faultless { IfOk result (λ log. log.faults.count ≡ 0) }
-        ensures files { MatchResult result (λ _. logs_at self.new.files.items ≡ with_log path.now empty_log (logs_at self.old.files.items)) (λ _. self.new.files.items ≡ self.old.files.items) }
-        ensures open_path { MatchResult result (λ _. opened_path self.new ≡ path.now) (λ _. opened_path self.new ≡ opened_path self.old) }
+        ensures files { MatchResult result (λ _. logs_at self.new.files.items
+            ≡ with_log path.now empty_log (logs_at self.old.files.items))
+            (λ _. self.new.files.items ≡ self.old.files.items) }
+        ensures open_path { MatchResult result (λ _. opened_path self.new ≡ path.now)
+            (λ _. opened_path self.new ≡ opened_path self.old) }
         ensures fault { IsErrOf result LogOpen.Failed ↔ (fails_next self.old.openings ≡ true) }
         ensures openings { self.new.openings ≡ after_call self.old.openings }
         ensures faults { HasLogCause self.old.faults.count self.new.faults.count result }
@@ -161,12 +179,15 @@ impl MemLogs {
 
     /// Opens the bytes of the log at a path. Fails if the plan says so.
     pub fn source(&mut self, alloc: Global, path: &str) -> Result<MemSource, HostError>
-        ensures opened { IfOk result (λ source. IsSomeAnd (logs_at self.old.files.items path.now) (λ log. left_of source ≡ log.bytes)) }
+        ensures opened { IfOk result (λ source. IsSomeAnd (logs_at self.old.files.items path.now)
+            (λ log. left_of source ≡ log.bytes)) }
         ensures faultless { IfOk result (λ source. source.faults.count ≡ 0) }
         ensures calls { IfOk result (λ source. source.calls ≡ fresh_plan self.old.sources.calls) }
         ensures most { IfOk result (λ source. source.most ≡ self.old.sources.most) }
-        ensures missing { IsErrOf result HostError.Missing → logs_at self.old.files.items path.now ≡ None }
-        ensures fault { IsErrOf result HostError.Failed ↔ (fails_next self.old.sources.openings ≡ true) }
+        ensures missing { IsErrOf result HostError.Missing
+            → logs_at self.old.files.items path.now ≡ None }
+        ensures fault { IsErrOf result HostError.Failed
+            ↔ (fails_next self.old.sources.openings ≡ true) }
         ensures openings { self.new.sources.openings ≡ after_call self.old.sources.openings }
         ensures plan { self.new.sources.calls ≡ self.old.sources.calls }
         ensures most_stays { self.new.sources.most ≡ self.old.sources.most }
@@ -189,9 +210,13 @@ impl MemLogs {
 
     /// Takes the log that was opened last back, and counts its faults too.
     pub fn take_back(&mut self, log: MemLog)
-        ensures files { logs_at self.new.files.items ≡ logs_after (opened_path self.old) (Some (as_stored log)) (logs_at self.old.files.items) }
+        ensures files { logs_at self.new.files.items ≡ logs_after (opened_path self.old)
+            (Some (as_stored log)) (logs_at self.old.files.items) }
         ensures faults { Added self.old.faults.count log.faults.count self.new.faults.count }
-        ensures same { self.new ≡ record self.old { files = self.new.files; faults = self.new.faults } }
+        ensures same { self.new ≡ record self.old {
+          files = self.new.files;
+          faults = self.new.faults;
+        } }
     {
         self.faults.add(log.faults());
         if let Some(index) = log_index(&self.files, &self.open_path) {

@@ -1,5 +1,6 @@
 //! The blocks of lanes in memory, put back into the segments that they came from.
-ghost use Rattle.std.specs.Prelude.{◌≡◌, ◌+◌, ◌*◌, ◌<◌, ◌≤◌, ◌^◌, Some, length, map, option_map, vec_capacity};
+ghost use Rattle.std.specs.Prelude.{◌≡◌, ◌+◌, ◌*◌, ◌<◌, ◌≤◌, ◌^◌, Some, length, map, option_map};
+ghost use Rattle.std.specs.Prelude.{vec_capacity};
 ghost use Rattle.segment_store.specs.Lanes.{page_in};
 ghost use Rattle.segment_store.specs.MemoryHost.{bytes_of};
 ghost use Rattle.segment_store.specs.MemoryLane.{pages_of};
@@ -12,7 +13,8 @@ use page_layout::{PAGE_SIZE, Page};
 
 /// The page of a tag in its lane, if it is there.
 pub fn page_in<'a>(lanes: &'a [MemLane], tag: &Tag) -> Option<&'a Page>
-    ensures { option_map (λ page. page.now) result ≡ page_in (map (λ lane. Some (pages_of lane)) lanes.now) tag.now }
+    ensures { option_map (λ page. page.now) result ≡ page_in
+        (map (λ lane. Some (pages_of lane)) lanes.now) tag.now }
 {
     if lanes.is_empty() {
         return None;
@@ -25,7 +27,8 @@ pub fn page_in<'a>(lanes: &'a [MemLane], tag: &Tag) -> Option<&'a Page>
 fn put_blocks(bytes: &mut [u8], first: u32, count: u32, fork: Fork, lanes: &[MemLane])
     requires whole { 8192 * count ≤ length bytes.old }
     requires numbers { first + count < 2 ^ 32 }
-    ensures { bytes.new ≡ with_pages (pages_in fork (map (λ lane. Some (pages_of lane)) lanes.now) first (first_blocks bytes.old count)) bytes.old }
+    ensures { bytes.new ≡ with_pages (pages_in fork (map (λ lane. Some (pages_of lane)) lanes.now)
+        first (first_blocks bytes.old count)) bytes.old }
 {
     for place in 0..count {
         let tag = Tag {
@@ -43,8 +46,10 @@ fn put_blocks(bytes: &mut [u8], first: u32, count: u32, fork: Fork, lanes: &[Mem
 /// Puts the blocks of a relation that its lanes have back at their places in its segments.
 #[tactic(auto, unfolding(crate::specs::Relation::relation_of, crate::specs::Restored::given_back))]
 pub fn give_blocks_back(segments: &mut [Vec<u8>], seg_blocks: u32, fork: Fork, lanes: &[MemLane])
-    ensures bytes { bytes_of segments.new ≡ given_back fork seg_blocks (map (λ lane. Some (pages_of lane)) lanes.now) (bytes_of segments.old) }
-    ensures capacities { map (λ segment. vec_capacity segment) segments.new ≡ map (λ segment. vec_capacity segment) segments.old }
+    ensures bytes { bytes_of segments.new ≡ given_back fork seg_blocks
+        (map (λ lane. Some (pages_of lane)) lanes.now) (bytes_of segments.old) }
+    ensures capacities { map (λ segment. vec_capacity segment) segments.new
+        ≡ map (λ segment. vec_capacity segment) segments.old }
 {
     let mut first = 0u32;
     for index in 0..segments.len() {

@@ -3,7 +3,8 @@ ghost use Rattle.std.specs.Prelude.{◌≡◌, ◌≤◌};
 
 use log_device::FaultPlan;
 
-/// How logs are read: which openings are to fail, which calls of each source, and how many bytes a call gives at most.
+/// How logs are read: which openings are to fail, which calls of each source, and how many bytes a
+/// call gives at most.
 #[derive(Drop)]
 pub struct SourcePlan {
     pub(crate) openings: FaultPlan,

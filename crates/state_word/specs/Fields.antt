@@ -1,8 +1,12 @@
 -- A state word by its fields, and what each change of the word makes of them.
-use Rattle.std.specs.Prelude.{ℕ, ◌+◌, ◌-◌, ◌/◌, ◌%◌, ◌^◌, Bool, true, false, ◌==◌, ◌&&◌, if◌then◌else◌, nat_lt}
+use Rattle.std.specs.Prelude.{ℕ, ◌+◌, ◌-◌, ◌/◌, ◌%◌, ◌^◌, Bool, true, false, ◌==◌, ◌&&◌}
+use Rattle.std.specs.Prelude.{if◌then◌else◌, nat_lt}
 use Rattle.state_word.specs.declared.word.StateWord.{StateWord}
 use Rattle.state_word.specs.declared.word.Flag.{Flag}
-use Rattle.state_word.specs.declared.word.Flag.TheVariants.{Locked, Dirty, Valid, TagValid, IoInProgress, IoError, JustDirtied, PinCountWaiter, CheckpointNeeded, Permanent}
+use Rattle.state_word.specs.declared.word.Flag.TheVariants.{Locked, Dirty, Valid, TagValid}
+use Rattle.state_word.specs.declared.word.Flag.TheVariants.{IoInProgress, IoError, JustDirtied}
+use Rattle.state_word.specs.declared.word.Flag.TheVariants.{PinCountWaiter, CheckpointNeeded}
+use Rattle.state_word.specs.declared.word.Flag.TheVariants.{Permanent}
 use Rattle.state_word.specs.declared.word.IoEnd.{IoEnd}
 use Rattle.state_word.specs.declared.word.IoEnd.TheVariants.{ReadOk, WriteOk, Bad}
 
@@ -10,8 +14,9 @@ use Rattle.state_word.specs.declared.word.IoEnd.TheVariants.{ReadOk, WriteOk, Ba
 abbrev pub bit : ℕ → ℕ → Bool
 bit place w = (w / 2 ^ place % 2) == 1
 
--- The fields of a word. Bits 0 to 31 are those of `buf_internals.h`: 18 bits of reference count, 4 bits
--- of usage count and 10 flags. The high half, the number of the backend that waits, is this project's.
+-- The fields of a word. Bits 0 to 31 are those of `buf_internals.h`: 18 bits of reference count, 4
+-- bits of usage count and 10 flags. The high half, the number of the backend that waits, is this
+-- project's.
 unfoldable pub fields : ℕ → StateWord
 fields w = record {
   pins = w % 2 ^ 18;
@@ -42,7 +47,8 @@ flag_of PinCountWaiter s = s.awaited
 flag_of CheckpointNeeded s = s.checkpoint_needed
 flag_of Permanent s = s.permanent
 
--- the usage count below which a pin raises it: a pin for a ring raises it from 0 alone, another one up to 5
+-- the usage count below which a pin raises it: a pin for a ring raises it from 0 alone, another one
+-- up to 5
 abbrev pub usage_limit : Bool → ℕ
 usage_limit ring = if ring then 1 else 5
 
@@ -70,10 +76,14 @@ unlocked_fields s = record s { locked = false }
 abbrev pub io_started_fields : StateWord → StateWord
 io_started_fields s = record s { in_progress = true }
 
--- after a good write the page is dirty, and the checkpoint has still to write it, only if it was dirtied
--- again since the write began
+-- after a good write the page is dirty, and the checkpoint has still to write it, only if it was
+-- dirtied again since the write began
 abbrev pub written_fields : StateWord → StateWord
-written_fields s = record s { dirty = s.just_dirtied && s.dirty; checkpoint_needed = s.just_dirtied && s.checkpoint_needed }
+written_fields s =
+    record s {
+      dirty = s.just_dirtied && s.dirty;
+      checkpoint_needed = s.just_dirtied && s.checkpoint_needed;
+    }
 
 -- the read or write of the page ends (`TerminateBufferIO`)
 abbrev pub io_ended_fields : IoEnd → StateWord → StateWord

@@ -2,7 +2,10 @@
 use Rattle.std.specs.Prelude.{ℕ, Bool}
 use Rattle.state_word.specs.declared.word.StateWord.{StateWord}
 use Rattle.state_word.specs.declared.word.Flag.{Flag}
-use Rattle.state_word.specs.declared.word.Flag.TheVariants.{Locked, Dirty, Valid, TagValid, IoInProgress, IoError, JustDirtied, PinCountWaiter, CheckpointNeeded, Permanent}
+use Rattle.state_word.specs.declared.word.Flag.TheVariants.{Locked, Dirty, Valid, TagValid}
+use Rattle.state_word.specs.declared.word.Flag.TheVariants.{IoInProgress, IoError, JustDirtied}
+use Rattle.state_word.specs.declared.word.Flag.TheVariants.{PinCountWaiter, CheckpointNeeded}
+use Rattle.state_word.specs.declared.word.Flag.TheVariants.{Permanent}
 
 -- the place of a flag's bit in the word
 abbrev pub bit_place : Flag → ℕ

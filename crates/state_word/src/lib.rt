@@ -13,14 +13,20 @@
 //! The high half is this project's own: PostgreSQL keeps the waiter in the buffer descriptor, as
 //! `wait_backend_pgprocno`.
 //!
-//! The functions are pure. Each change takes a word and gives the word after it, and its contract says
-//! what becomes of each field, as `specs/Fields.antt` has it: a field that it does not name stays. They
-//! hold for every word, also for one that the manager never makes, as one with a usage count of 9. The
-//! functions of PostgreSQL that the docs name are in `src/backend/storage/buffer/bufmgr.c`.
+//! The functions are pure. Each change takes a word and gives the word after it, and its contract
+//! says what becomes of each field, as `specs/Fields.antt` has it: a field that it does not name
+//! stays. They hold for every word, also for one that the manager never makes, as one with a usage
+//! count of 9. The functions of PostgreSQL that the docs name are in
+//! `src/backend/storage/buffer/bufmgr.c`.
 #![tactic(auto)]
 
 ghost use Rattle.std.specs.Prelude.{◌≡◌, ◌+◌, ◌<◌, ◌^◌, ℕ, true, false};
-ghost use Rattle.state_word.specs.Fields.{fields, flag_of, pinned_fields, unpinned_fields, locked_fields, unlocked_fields, io_started_fields, io_ended_fields, written_fields, dirtied_fields, assigned_fields, cleared_fields, waiter_set_fields, waiter_cleared_fields, usage_down_fields, just_dirtied_cleared_fields, checkpoint_needed_fields};
+ghost use Rattle.state_word.specs.Fields.{fields, flag_of, pinned_fields, unpinned_fields};
+ghost use Rattle.state_word.specs.Fields.{locked_fields, unlocked_fields, io_started_fields};
+ghost use Rattle.state_word.specs.Fields.{io_ended_fields, written_fields, dirtied_fields};
+ghost use Rattle.state_word.specs.Fields.{assigned_fields, cleared_fields, waiter_set_fields};
+ghost use Rattle.state_word.specs.Fields.{waiter_cleared_fields, usage_down_fields};
+ghost use Rattle.state_word.specs.Fields.{just_dirtied_cleared_fields, checkpoint_needed_fields};
 ghost use Rattle.state_word.specs.Flags.{with_flag};
 
 use bitflags::Flags;
@@ -34,7 +40,8 @@ pub use word::{Flag, IoEnd, StateWord};
 /// The most pins that a word can count.
 pub const MAX_PINS: u32 = (1 << 18) - 1;
 
-/// The bit of `BM_LOCKED`, for the one or and the one and that lock and unlock a header in shared memory.
+/// The bit of `BM_LOCKED`, for the one or and the one and that lock and unlock a header in shared
+/// memory.
 pub const LOCKED: u64 = 1 << 22;
 
 /// The usage count that pins raise a frame to at most (`BM_MAX_USAGE_COUNT`).
@@ -77,8 +84,8 @@ pub fn has(word: u64, flag: Flag) -> bool
     StateFlags::from_bits_retain(word).contains(StateFlags::from(flag))
 }
 
-/// Two words with the same fields are one word. So each contract below, which says every field of the
-/// result, fixes the result.
+/// Two words with the same fields are one word. So each contract below, which says every field of
+/// the result, fixes the result.
 pub fn fields_fix_the_word()
     ensures { (v w : ℕ) → fields v ≡ fields w → v ≡ w }
 {}
@@ -102,7 +109,8 @@ pub fn pinned(word: u64, ring: bool) -> u64
 /// (`PinBuffer_Locked`).
 pub fn pinned_by_holder(word: u64) -> u64
     requires { (fields word).pins < MAX_PINS }
-    ensures { fields result ≡ unlocked_fields (record (fields word) { pins = (fields word).pins + 1 }) }
+    ensures { fields result ≡ unlocked_fields (record (fields word)
+        { pins = (fields word).pins + 1 }) }
 {
     unlock_with(one_more_pin(word))
 }
@@ -210,8 +218,8 @@ pub fn assigned(word: u64) -> u64
     set_usage(set_flag(tagged, Flag::Permanent), 1)
 }
 
-/// The word of a frame whose tag was taken away (`InvalidateVictimBuffer`). Pins, the header's lock and
-/// the waiter stay.
+/// The word of a frame whose tag was taken away (`InvalidateVictimBuffer`). Pins, the header's lock
+/// and the waiter stay.
 pub fn cleared(word: u64) -> u64
     ensures { fields result ≡ cleared_fields (fields word) }
 {

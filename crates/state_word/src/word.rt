@@ -4,8 +4,8 @@
 //! `bit_place`, `with_flag`, the masks, and the words of 0 in definitions: a definition can't range
 //! over the fields of a record.
 
-/// The fields of a state word, as the contracts read them (`specs/Fields.antt`). The program keeps the
-/// packed number, and makes no value of this type.
+/// The fields of a state word, as the contracts read them (`specs/Fields.antt`). The program keeps
+/// the packed number, and makes no value of this type.
 pub struct StateWord {
     /// The reference count: how many pins stand on the frame.
     pub pins: u32,
@@ -37,7 +37,8 @@ pub struct StateWord {
     pub waiter: u32,
 }
 
-/// One flag of a state word, by the name that `buf_internals.h` gives it after `BM_`, lowest bit first.
+/// One flag of a state word, by the name that `buf_internals.h` gives it after `BM_`, lowest bit
+/// first.
 #[derive(Clone, Copy, PartialEq, Eq, Debug)]
 pub enum Flag {
     Locked,

@@ -10,11 +10,13 @@ use segment_store::{BlockLane, LaneHistory};
 enum Given {
     /// What it is asked to fill stays as it is.
     Untouched,
-    /// A page with one item, whose first byte is the block's number, at this log position. The page of the block `unsound` isn't sound.
+    /// A page with one item, whose first byte is the block's number, at this log position. The page
+    /// of the block `unsound` isn't sound.
     Numbered { unsound: Option<u32>, lsn: Lsn },
 }
 
-/// A lane whose contents contracts don't know. It counts its reads and writes, and one of its writes may fail. It keeps no page that it was given.
+/// A lane whose contents contracts don't know. It counts its reads and writes, and one of its
+/// writes may fail. It keeps no page that it was given.
 #[derive(Drop)]
 pub struct TestLane {
     pub reads: u32,

@@ -2,7 +2,8 @@
 use log_device::{CallCount, Failed, FaultCount, LogDevice};
 use std::alloc::Global;
 
-/// A log whose contents contracts don't know. It has what was appended, and one of its calls may fail.
+/// A log whose contents contracts don't know. It has what was appended, and one of its calls may
+/// fail.
 #[derive(Drop)]
 pub struct TestLog {
     pub bytes: Vec<u8>,

@@ -1,7 +1,8 @@
 //! Pages for tests.
 ghost use Rattle.std.specs.Prelude.{◌≡◌, length};
 
-/// The header and the line pointer of a page with one item of four bytes: log position 0/0, lower 28, upper 8184, special 8192.
+/// The header and the line pointer of a page with one item of four bytes: log position 0/0, lower
+/// 28, upper 8184, special 8192.
 pub const FRONT: [u8; 28] = [
     0x00, 0x00, 0x00, 0x00, 0x00, 0x00, 0x00, 0x00, 0x00, 0x00, 0x00, 0x00, 0x1c, 0x00, 0xf8, 0x1f,
     0x00, 0x20, 0x04, 0x20, 0x00, 0x00, 0x00, 0x00, 0xf8, 0x9f, 0x08, 0x00,
