@@ -162,8 +162,8 @@ impl<F: Read + Drop> Source for FileSource<F> {
         ensures size { length piece.new ≡ length piece.old }
         ensures within { IfOk result (λ n. n ≤ length piece.old) }
         ensures faults { HasCause self.old.faults.count self.new.faults.count result }
-        ensures read { IfOk result (λ n. Consumes (F.remaining self.old.file)
-            (F.remaining self.new.file) (take n piece.new)) }
+        ensures read { IfOk result (λ n.
+            Consumes (F.remaining self.old.file) (F.remaining self.new.file) (take n piece.new)) }
         ensures at_end { IfOk result (λ n. n ≡ 0 → 0 < length piece.old
             → IsAtEnd (F.remaining self.new.file)) }
     {

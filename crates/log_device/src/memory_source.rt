@@ -58,15 +58,15 @@ impl Source for MemSource {
     fn next(&mut self, piece: &mut [u8]) -> Result<usize, Failed>
         ensures size { length piece.new ≡ length piece.old }
         ensures within { IfOk result (λ n. n ≤ length piece.old) }
-        ensures taken { IfOk result (λ n. Takes n piece.new (Some (left_of self.old))
-            (Some (left_of self.new))) }
+        ensures taken { IfOk result (λ n.
+            Takes n piece.new (Some (left_of self.old)) (Some (left_of self.new))) }
         ensures end { IfOk result (λ n. n ≡ 0 → 0 < length piece.old → left_of self.old ≡ []) }
         ensures kept { OnErr result (left_of self.new ≡ left_of self.old) }
         ensures faults { HasCause self.old.faults.count self.new.faults.count result }
         ensures counted { CountsOne self.old.faults.count self.new.faults.count result }
         ensures answer { is_ok result ≡ not (fails_next self.old.calls) }
-        ensures count { IfOk result (λ n. n ≡ min (length piece.old)
-            (min self.old.most (length (left_of self.old)))) }
+        ensures count { IfOk result (λ n.
+            n ≡ min (length piece.old) (min self.old.most (length (left_of self.old)))) }
         ensures calls { self.new.calls ≡ after_call self.old.calls }
         ensures most { self.new.most ≡ self.old.most }
     {

@@ -78,8 +78,8 @@ fn add_blocks(
 
 /// The pages of all blocks that the segments have, up to the first that has fewer than it may have.
 fn all_pages(alloc: Global, segments: &[Vec<u8>], seg_blocks: u32) -> Result<Vec<Page>, AllocError>
-    ensures { IfOk result (λ pages. pages.items ≡ segment_pages seg_blocks
-        (bytes_of segments.now)) }
+    ensures { IfOk result (λ pages.
+        pages.items ≡ segment_pages seg_blocks (bytes_of segments.now)) }
 {
     let mut pages = Vec::new(alloc);
     let mut rest = segments;
@@ -102,8 +102,8 @@ fn relation_pages(
     segments: &[Vec<u8>],
     seg_blocks: u32,
 ) -> Result<Vec<Page>, AllocError>
-    ensures pages { IfOk result (λ pages. pages.items ≡ relation_of seg_blocks
-        (bytes_of segments.now)) }
+    ensures pages { IfOk result (λ pages.
+        pages.items ≡ relation_of seg_blocks (bytes_of segments.now)) }
     ensures few { IfOk result (λ pages. vec_len pages < 2 ^ 32) }
 {
     let mut pages = all_pages(alloc, segments, seg_blocks)?;

@@ -179,8 +179,8 @@ impl MemLogs {
 
     /// Opens the bytes of the log at a path. Fails if the plan says so.
     pub fn source(&mut self, alloc: Global, path: &str) -> Result<MemSource, HostError>
-        ensures opened { IfOk result (λ source. IsSomeAnd (logs_at self.old.files.items path.now)
-            (λ log. left_of source ≡ log.bytes)) }
+        ensures opened { IfOk result (λ source.
+            IsSomeAnd (logs_at self.old.files.items path.now) (λ log. left_of source ≡ log.bytes)) }
         ensures faultless { IfOk result (λ source. source.faults.count ≡ 0) }
         ensures calls { IfOk result (λ source. source.calls ≡ fresh_plan self.old.sources.calls) }
         ensures most { IfOk result (λ source. source.most ≡ self.old.sources.most) }
