@@ -1,5 +1,5 @@
 //! What the lanes over a catalogue's files share.
-ghost use Rattle.std.specs.Prelude.{◌-◌, ◌<◌, ◌^◌, OnOk};
+ghost use Rattle.std.specs.Prelude.{◌≡◌, ◌-◌, ◌<◌, ◌^◌, IfOk, OnOk};
 
 use crate::opening::Segments;
 use block_tag::{Fork, LAST_BLOCK, RelNo, Tag};
@@ -62,7 +62,8 @@ impl<F: OpenFile + Drop> SharedFiles<F> {
 /// The files of a block's relation and fork. A block of another relation or another fork is an
 /// error.
 pub(crate) fn files_of<F: Drop>(shared: &[SharedFiles<F>], tag: Tag) -> io::Result<&SharedFiles<F>>
-    ensures { OnOk result (tag.block < 2 ^ 32 - 1) }
+    ensures block { OnOk result (tag.block < 2 ^ 32 - 1) }
+    ensures own { IfOk result (λ files. (files.now.rel ≡ tag.rel) × (files.now.fork ≡ tag.fork)) }
 {
     if tag.block > LAST_BLOCK {
         return Err(ErrorKind::InvalidInput.into());
