@@ -5,7 +5,7 @@ ghost use Rattle.block_tag.specs.Catalogue.{HasNoTwins, IsCatalogue, IsFirstTwin
 ghost use Rattle.block_tag.specs.Catalogue.{blocks_of, is_twin, IsRefusalOf};
 
 use crate::tag::{Fork, RelNo};
-use std::alloc::{AllocError, Global};
+use std::alloc::Global;
 use std::marker::Model;
 use thiserror::Error;
 

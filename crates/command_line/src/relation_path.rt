@@ -2,7 +2,6 @@
 ghost use Rattle.std.specs.Prelude.{◌≡◌, ◌^◌, ◌-◌, Some, None, if◌then◌else◌, min};
 ghost use Rattle.command_line.specs.RelationPath.{file_name, fork_length, is_relation_number};
 ghost use Rattle.command_line.specs.RelationPath.{number_value, relation_number};
-ghost use Rattle.segment_store.specs.Paths.{fork_of};
 
 use block_tag::Fork;
 use segment_store::{fork_of_path, has_only_digits};

@@ -5,7 +5,6 @@ ghost use Rattle.block_tag.specs.declared.tag.Fork.TheVariants.{Main};
 ghost use Rattle.block_tag.specs.Names.{tag_of_parts};
 ghost use Rattle.block_tag.specs.declared.tag.Tag.{Tag};
 ghost use Rattle.segment_store.specs.Lanes.{HoldTheirs};
-ghost use Rattle.segment_store.specs.MemoryLane.{pages_of};
 ghost use Rattle.table_rule.specs.Shows.{AreLanes, devices};
 ghost use Rattle.library_example.specs.Files.{HasBlock, HasBlocks, HasOnlyOwn, IsOldLane};
 ghost use Rattle.library_example.specs.Files.{relations};

@@ -1,6 +1,6 @@
 //! A log over a file, a sink over a writer, and a source over a reader, whose contents aren't
 //! known.
-ghost use Rattle.std.specs.Prelude.{◌≡◌, ◌+◌, ◌≤◌, ◌<◌, ⊤, None, IfOk, OnErr, OnOk, length, take};
+ghost use Rattle.std.specs.Prelude.{◌≡◌, ◌+◌, ◌≤◌, ◌<◌, None, IfOk, OnOk, length, take};
 ghost use Rattle.std.specs.Io.KnownBytes.{Appends, Consumes, IsAtEnd};
 ghost use Rattle.log_device.specs.Bytes.{Puts};
 ghost use Rattle.log_device.specs.Calls.{calls_counted};

@@ -6,7 +6,7 @@
 //! manager.
 #![tactic(auto)]
 
-ghost use Rattle.std.specs.Prelude.{◌≡◌, ◌≤◌, OnOk, OnErr, length, replicate};
+ghost use Rattle.std.specs.Prelude.{◌≡◌, ◌≤◌, OnOk, OnErr, replicate};
 ghost use Rattle.byteorder.specs.Endian.{little_bytes};
 ghost use Rattle.sample_relation.specs.Samples.{Extends, header_bytes, item_offset, items};
 ghost use Rattle.sample_relation.specs.Samples.{page_of_kind, pointer_bits, pointers, sample_page};

@@ -28,7 +28,7 @@ pub struct MemFile {
 }
 
 impl MemFile {
-    ghost use Rattle.std.specs.Prelude.{◌-◌, ◌<◌, ◌++◌, [], ◌∷◌, IfOk, Some, drop, get_or, map};
+    ghost use Rattle.std.specs.Prelude.{◌-◌, ◌<◌, [], IfOk, Some, drop, get_or, map};
     ghost use Rattle.std.specs.Prelude.{string_bytes, take};
     ghost use Rattle.segment_store.specs.Growth.{extended, grown, with_new_page};
     ghost use Rattle.segment_store.specs.MemoryFile.{IsSameFile, file_room};

@@ -1,5 +1,5 @@
 //! A lane in memory.
-ghost use Rattle.std.specs.Prelude.{[], IsSome, MatchResult, option_map, length, ◌≡◌, ◌+◌, Some};
+ghost use Rattle.std.specs.Prelude.{[], IsSome, MatchResult, option_map, ◌≡◌, ◌+◌, Some};
 ghost use Rattle.std.specs.Prelude.{IfOk, OnOk, OnErr, is_ok, not, ◌&&◌, true, false};
 ghost use Rattle.std.specs.Option.{ForSome};
 ghost use Rattle.log_device.specs.Faults.{CountsOne, HasCause};

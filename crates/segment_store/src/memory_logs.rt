@@ -1,5 +1,5 @@
 //! The logs of a host in memory.
-ghost use Rattle.std.specs.Prelude.{◌≡◌, ◌≤◌, [], Some, None, IfOk, IsErrOf, IsSomeAnd};
+ghost use Rattle.std.specs.Prelude.{◌≡◌, [], Some, None, IfOk, IsErrOf, IsSomeAnd};
 ghost use Rattle.std.specs.Prelude.{MatchResult, option_map, string_bytes, true, ◌↔◌};
 ghost use Rattle.std.specs.List.{position};
 ghost use Rattle.std.specs.Str.{bytes_eq};

@@ -1,5 +1,4 @@
 //! Pages for tests.
-ghost use Rattle.std.specs.Prelude.{◌≡◌, length};
 
 /// The header and the line pointer of a page with one item of four bytes: log position 0/0, lower
 /// 28, upper 8184, special 8192.
