@@ -1,7 +1,7 @@
 -- Segments with room for blocks.
-use Rattle.std.proofs.Common.{◌≡◌, ℕ, ◌+◌, ◌*◌, ◌<◌, ◌≤◌, List, [], ◌∷◌, ◌++◌, Vec, Global, length, map, take, drop, get_or, set, sym, ◌∙◌, ap, subst, arith, vec_capacity}
+use Rattle.std.proofs.Common.{◌≡◌, ℕ, ◌+◌, ◌*◌, ◌<◌, ◌≤◌, List, [], ◌∷◌, ◌++◌, Vec, Global, length, map, get_or, set, sym, ◌∙◌, ap, subst, arith, vec_capacity}
 use Rattle.std.specs.Prelude.{All}
-use Rattle.std.proofs.lemmas.List.{drop_all, get_or-map, get_or_past, get_or_push, length-map, length_push, map-set, map_push, set-get_or, take-append-le}
+use Rattle.std.proofs.lemmas.List.{get_or-map, get_or_past, get_or_push, length-map, map-set, map_push, set-get_or}
 use Rattle.segment_store.specs.MemoryHost.{bytes_of}
 
 -- each segment has room for so many blocks
@@ -47,13 +47,5 @@ bytes_pushed old now segment is empty =
     ∙ ap (λ (l : List ℕ). bytes_of old ++ l ∷ []) empty
 
 module _ (old now : List (List ℕ)) (index : ℕ) (is : now ≡ old ++ [] ∷ []) (size : length old ≡ index) where
-  pub pushed_before : take index now ≡ take index old
-  pushed_before = ap (λ (l : List (List ℕ)). take index l) is ∙ take-append-le index old ([] ∷ []) (omega arith)
-
   pub pushed_here : get_or now index [] ≡ get_or old index []
   pushed_here = ap (λ (l : List (List ℕ)). get_or l index []) is ∙ get_or_push old [] [] index size ∙ sym (get_or_past old index [] (omega arith))
-
-  pub pushed_behind : drop (index + 1) now ≡ drop (index + 1) old
-  pushed_behind =
-      let pushed : length now ≡ length old + 1 = ap (λ (l : List (List ℕ)). length l) is ∙ length_push old [] in
-      drop_all (index + 1) now (omega arith) ∙ sym (drop_all (index + 1) old (omega arith))
