@@ -21,14 +21,12 @@ use crate::run::{MEMORY_LINE, run};
 use backend_pass::Pinned;
 use log_device::{Sink, StdSink};
 use page_jobs::Gate;
+use relation_commands::ToolError;
 use segment_files::FileHost;
 use std::alloc::AllocError;
 use std::env;
 use std::io::ErrorKind;
 use std::process::ExitCode;
-
-/// The status if there is no memory for the words.
-const MEMORY_STATUS: u8 = 8;
 
 /// Lets every block through at once.
 struct OpenGate;
@@ -54,7 +52,7 @@ fn main(rt: HostRuntime) -> ExitCode {
     let mut err = StdSink::new(rt.stderr());
     let Ok(words) = words(&rt) else {
         let _ = err.put(MEMORY_LINE);
-        return ExitCode::from(MEMORY_STATUS);
+        return ExitCode::from(ToolError::Memory.status());
     };
     let status = run(
         &rt,
