@@ -1,4 +1,4 @@
--- What is done as a pin is given up, where a backend may wait until its own is the only one.
+-- What is done as a pin is given up, if a backend may wait until its own is the only one.
 use Rattle.std.specs.Prelude.{◌≡◌, ℕ, Bool, true, false, nat_eq, ◌&&◌}
 use Rattle.state_word.specs.declared.word.StateWord.{StateWord}
 use Rattle.state_word.specs.Fields.{fields}
@@ -18,7 +18,7 @@ abbrev pub end_of_wake : Bool → FrameKind
 end_of_wake true = pages clear_waiter
 end_of_wake false = pins unlock_header
 
--- The header was locked, and the waiter was woken where its pin was still the only one
+-- The header was locked, and the waiter was woken if its pin was still the only one
 pub record Wakes (f : ℕ) (v w : View) : Type 0 where
   pub under : View
   pub was : ℕ
@@ -26,7 +26,7 @@ pub record Wakes (f : ℕ) (v w : View) : Type 0 where
   pub locks : LocksHeader f v under was
   pub did : Did (end_of_wake (is_lone_waiter (fields was))) f under w word
 
--- A pin was given up, and then the waiter was woken where the word that was left shows its pin alone
+-- A pin was given up, and then the waiter was woken if the word that was left shows its pin alone
 pub record Woken (f : ℕ) (v w : View) : Type 0 where
   pub between : View
   pub left : ℕ

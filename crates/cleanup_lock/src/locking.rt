@@ -102,7 +102,8 @@ fn wait<L: BlockLane, G: LogDevice, R: Wait>(
     unreachable!()
 }
 
-/// One attempt: the lock is granted where the backend's pin is the only one. Else the backend becomes the waiter, if there is none, gives the content lock up and waits.
+/// One attempt: the lock is granted if the backend's pin is the only one. Else the backend becomes
+/// the waiter, if there is none, gives the content lock up and waits.
 fn attempt_lock<L: BlockLane, G: LogDevice, R: Wait>(
     table: &FrameTable<L, G>,
     rt: &R,

@@ -26,7 +26,8 @@ pub enum TryCleanup {
     OtherPins { word: u64 },
 }
 
-/// Takes the cleanup lock of a pinned frame of whose pin callers have so many tokens, where no backend has the content lock and no other pins the frame. It doesn't wait.
+/// Takes the cleanup lock of a pinned frame of whose pin callers have so many tokens, if no backend
+/// has the content lock and no other pins the frame. It doesn't wait.
 pub fn try_lock<L: BlockLane, G: LogDevice>(
     table: &FrameTable<L, G>,
     seat: &mut Seat<Value<L, G>, View>,

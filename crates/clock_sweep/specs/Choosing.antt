@@ -108,7 +108,8 @@ pub data Sweeps (n : ℕ) : View → View → ℕ → Type 0 where
 abbrev pub Comes : ℕ → View → View → ℕ → ℕ → Type 0
 Comes n v w f left = (u : View) × (tries : ℕ) × Sweeps n v u tries × NextIs n tries u w f left
 
--- A frame was chosen: the ring's; or where that isn't taken the one that was popped last from the free list; or, where that was found empty, of the clock
+-- A frame was chosen: the ring's; or, if that isn't taken, the one that was popped last from the
+-- free list; or, if that list was found empty, one of the clock
 pub data Chooses (n : ℕ) (place : Option ℕ) (v : View) (q : QueueState) (w : View) (r : QueueState) (held : LockedFrame) : Type 0 where
   from_ring : held.from_ring ≡ true → place ≡ Some held.frame → Takes 1 held v w → r ≡ q → Chooses n place v q w r held
   from_list : {u x : View} {p : QueueState} → held.from_ring ≡ false → LeavesRing n place v u → LeavesFree n u q x p → Takes 0 held x w → r ≡ taking held.frame p → Chooses n place v q w r held
@@ -125,7 +126,7 @@ pub record FindsNone (n : ℕ) (place : Option ℕ) (v : View) (q : QueueState) 
   pub clock : Sweeps n started tired 0
   pub census : Counts v tired n w words
 
--- the ring, where there is one, goes on by a place
+-- the ring, if there is one, goes on by a place
 abbrev pub ring_gone_on : Option RingState → Option RingState
 ring_gone_on ring = option_map ring_after_next ring
 

@@ -6,7 +6,8 @@ use access_rings::Memory;
 use std::alloc::Global;
 use std::marker::Model;
 
-/// The words that a choice loaded where it found each frame pinned, one for each frame, in order. It is empty after a choice that found a frame. Each backend has its own.
+/// The words that a choice loaded if it found each frame pinned, one for each frame, in order. It
+/// is empty after a choice that found a frame. Each backend has its own.
 /// Contracts see for how many frames it has room, and the list of words.
 #[derive(Drop)]
 pub struct Census {

@@ -67,7 +67,8 @@ fn from_ring<L: BlockLane, G: LogDevice, R: Wait>(
     try_frame(table, rt, seat, place?, Source::Ring)
 }
 
-/// Takes the first frame of the free list that is fit. Those before it are off the list. None where the list was found empty.
+/// Takes the first frame of the free list that is fit. Those before it are off the list. None if
+/// the list was found empty.
 fn from_free_list<L: BlockLane, G: LogDevice, R: Wait>(
     table: &FrameTable<L, G>,
     rt: &R,
@@ -98,7 +99,10 @@ fn from_free_list<L: BlockLane, G: LogDevice, R: Wait>(
 ///
 /// The ring, if there is one, goes on by a place, and its frame there is taken if it is one of the pool, not pinned, and its usage count is at most 1. Otherwise the frames of the free list are tried in order, and then those that the clock comes to. A frame from elsewhere is kept at the ring's place.
 ///
-/// The clock has as many tries as there are frames. A pinned frame takes one; a frame that isn't pinned and has been used loses 1 of its usage count and gives all tries back. Where none is left a census loads all frames in order: the first that isn't pinned is next, with all tries again, and the hand stays. Where each is pinned that is the answer, and `census` has their words.
+/// The clock has as many tries as there are frames. A pinned frame takes one; a frame that isn't
+/// pinned and has been used loses 1 of its usage count and gives all tries back. If none is left a
+/// census loads all frames in order: the first that isn't pinned is next, with all tries again, and
+/// the hand stays. If each is pinned that is the answer, and `census` has their words.
 pub fn victim<L: BlockLane, G: LogDevice, R: Wait>(
     table: &FrameTable<L, G>,
     rt: &R,

@@ -46,7 +46,8 @@ pub fn hand<L: BlockLane, G: LogDevice>(
     table.load_hand(seat)
 }
 
-/// Loads all frames in order, up to the first that no backend pins. The census has their words where there is none.
+/// Loads all frames in order, up to the first that no backend pins. The census has their words if
+/// there is none.
 fn take_census<L: BlockLane, G: LogDevice>(
     table: &FrameTable<L, G>,
     seat: &mut Seat<Value<L, G>, View>,
@@ -71,7 +72,8 @@ fn take_census<L: BlockLane, G: LogDevice>(
     None
 }
 
-/// Moves the clock's hand on while tries are left (`ClockSweepTick`), and takes a census where none is left.
+/// Moves the clock's hand on while tries are left (`ClockSweepTick`), and takes a census if none is
+/// left.
 fn next_frame<L: BlockLane, G: LogDevice>(
     table: &FrameTable<L, G>,
     seat: &mut Seat<Value<L, G>, View>,

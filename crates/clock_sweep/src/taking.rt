@@ -38,7 +38,8 @@ impl Source {
     }
 }
 
-/// Whether no backend pins a frame, and its usage count is low enough: 0, or at most 1 where it comes from the ring.
+/// Whether no backend pins a frame, and its usage count is low enough: 0, or at most 1 if it comes
+/// from the ring.
 fn is_fit(word: u64, source: Source) -> bool
     ensures fit { OnTrue result (IsFit (usage_allowed (is_ring source)) (fields word)) }
     ensures unfit { OnFalse result (IsUnfit (usage_allowed (is_ring source)) (fields word)) }
@@ -47,7 +48,8 @@ fn is_fit(word: u64, source: Source) -> bool
     pins(word) == 0 && usage(word) <= most
 }
 
-/// Takes a frame of the ring, or of the free list, where it is one of the table's and fit (`GetBufferFromRing`).
+/// Takes a frame of the ring, or of the free list, if it is one of the table's and fit
+/// (`GetBufferFromRing`).
 pub(crate) fn try_frame<L: BlockLane, G: LogDevice, R: Wait>(
     table: &FrameTable<L, G>,
     rt: &R,

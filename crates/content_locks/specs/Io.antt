@@ -1,4 +1,4 @@
--- The rights to read a page and to write it: where they are given, and why not.
+-- The rights to read a page and to write it: when they are given, and why not.
 use Rattle.std.specs.Prelude.{◌≡◌, ◌≢◌, ℕ, Bool, not, true, false, None}
 use Rattle.state_word.specs.declared.word.IoEnd.{IoEnd}
 use Rattle.state_word.specs.declared.word.StateWord.{StateWord}
@@ -43,7 +43,8 @@ pub record MayEndIo (end : IoEnd) (l : Link) : Type 0 where
   pub home : l.io ≡ io.Input → l.out ≡ None
   pub ends : EndsAs end l
 
--- Loads of the state word of f, and then its header was locked, where the word found was `was` (`TakesHeader` of `clock_sweep` names the word that is held then, too)
+-- Loads of the state word of f, and then its header was locked, in the word `was` (`TakesHeader` of
+-- `clock_sweep` names the word that is held then, too)
 pub record LocksHeader (f : ℕ) (v w : View) (was : ℕ) : Type 0 where
   pub before : View
   pub looks : Looks f v before

@@ -91,7 +91,9 @@ fn try_io<L: BlockLane, G: LogDevice, R: Wait>(
     TryIo::Begun(table.begin_io(seat, frame, word, direction.is_input()))
 }
 
-/// Waits until no other backend reads or writes the page, and begins to read it, or to write it. It answers None where the word that it held shows nothing to do: the page is valid, or for a write it isn't dirty.
+/// Waits until no other backend reads or writes the page, and begins to read it, or to write it. It
+/// answers None if the word that it held shows nothing to do: the page is valid, or for a write it
+/// isn't dirty.
 pub fn start_io<L: BlockLane, G: LogDevice, R: Wait>(
     table: &FrameTable<L, G>,
     rt: &R,

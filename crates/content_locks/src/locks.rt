@@ -29,7 +29,8 @@ pub enum TryLock {
     Changed { was: u64, now: u64 },
 }
 
-/// Takes the content lock of a pinned frame, shared, where no backend has it exclusively and the word doesn't change meanwhile (`ConditionalLockBuffer`).
+/// Takes the content lock of a pinned frame, shared, if no backend has it exclusively and the word
+/// doesn't change meanwhile (`ConditionalLockBuffer`).
 pub fn try_share<L: BlockLane, G: LogDevice>(
     table: &FrameTable<L, G>,
     seat: &mut Seat<Value<L, G>, View>,
@@ -55,7 +56,8 @@ pub fn try_share<L: BlockLane, G: LogDevice>(
     }
 }
 
-/// Takes the content lock of a pinned frame, exclusively, where no backend has it and the word doesn't change meanwhile (`ConditionalLockBuffer`).
+/// Takes the content lock of a pinned frame, exclusively, if no backend has it and the word doesn't
+/// change meanwhile (`ConditionalLockBuffer`).
 pub fn try_exclusive<L: BlockLane, G: LogDevice>(
     table: &FrameTable<L, G>,
     seat: &mut Seat<Value<L, G>, View>,

@@ -25,7 +25,8 @@ module _ {L G : Type 0} where
     pub free : HoldsNothing s.me.0
     pub joined : s.me.0.joined + 1 ≡ s.me.0.next
 
-  -- The lanes and the log are the devices of a state that has the law, where the first backend's view is v and the others are joined into it
+  -- The lanes and the log are the devices of a state that has the law, in which the first backend's
+  -- view is v and the others are joined into it
   pub record Closes (d : Devices L G) (o : Opening L G) (v : View) (lanes : List L) (log : G) : Type 0 where
     pub state : State
     pub laws : Laws state
@@ -34,8 +35,9 @@ module _ {L G : Type 0} where
     pub others : (i : ℕ) (u : View) → i ≢ 0 → get_elem? state.pool.core.views i ≡ some u → u ≡ emptied_view
     pub counted : length lanes ≡ o.config.lanes
     pub lane : (q : ℕ) (l : L) → get_elem? lanes q ≡ some l → IsLane d o.catalog.value state.lanes q l (state.lane q)
-    -- where a lane's own list doesn't have a block, the lane was synced since it took the last of the block's entries that it has
+    -- if a lane's own list doesn't have a block, the lane was synced since it took the last of the
+    -- block's entries that it has
     pub covered : (q word : ℕ) (l : L) (tag : Tag) → get_elem? lanes q ≡ some l → IsPlaced o.catalog.value state.lanes q word tag → d.unsynced l tag ≡ false → synced_upto state word ≡ stored_upto state word
-    -- where the log is down, with its end at the failure
+    -- None, or Some of where the log ended as a call of it failed
     pub mark : Option ℕ
     pub device : IsLog d log mark state.device

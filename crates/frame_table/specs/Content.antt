@@ -71,7 +71,8 @@ copying_link taken l = record l { copying = taken }
 abbrev pub dirtied_link : Link → Link
 dirtied_link l = record l { dirtied = true }
 
--- What a view has at a frame where it begins input or output under the header, whose word is the number
+-- What a view has at a frame as it begins input or output under the header, whose word is the
+-- number
 pub record CanBeginIo (input : Bool) (word : ℕ) (l : Link) : Type 0 where
   pub held : l.header ≡ Some (fields word)
   pub settled : l.pending ≡ false
@@ -82,24 +83,24 @@ pub record CanBeginIo (input : Bool) (word : ℕ) (l : Link) : Type 0 where
   -- for output it is dirty, and the view shares the content lock
   pub to_write : input ≡ false → ((fields word).dirty ≡ true) × (l.content ≡ Shared)
 
--- where it ends them
+-- what a view has at a frame as it ends its input or output under the header
 pub record CanFinishIo (end : IoEnd) (word : ℕ) (l : Link) : Type 0 where
   pub held : l.header ≡ Some (fields word)
   pub page_home : l.io ≡ Input → l.out ≡ None
   pub ends : EndsAs end l
 
--- where under its output right it clears BM_JUST_DIRTIED
+-- what a view has at a frame as it clears BM_JUST_DIRTIED under its output right
 pub record CanClearJust (word : ℕ) (l : Link) : Type 0 where
   pub held : l.header ≡ Some (fields word)
   pub right : l.io ≡ Output
 
--- where its checkpoint has to write the frame
+-- what a view has at a frame that its checkpoint has to write
 pub record CanNeed (word : ℕ) (l : Link) : Type 0 where
   pub held : l.header ≡ Some (fields word)
   pub settled : l.pending ≡ false
   pub dirty : (fields word).dirty ≡ true
 
--- where it begins to wait until its pin is the only one
+-- what a view has at a frame as it begins to wait until its pin is the only one
 pub record CanAwait (word : ℕ) (l : Link) : Type 0 where
   pub held : l.header ≡ Some (fields word)
   pub settled : l.pending ≡ false
@@ -107,7 +108,7 @@ pub record CanAwait (word : ℕ) (l : Link) : Type 0 where
   pub right : l.content ≡ Exclusive
   pub free : (fields word).awaited ≡ false
 
--- and where it wakes the waiter
+-- what a view has at a frame as it wakes the waiter
 pub record CanWake (word : ℕ) (l : Link) : Type 0 where
   pub held : l.header ≡ Some (fields word)
   pub settled : l.pending ≡ false

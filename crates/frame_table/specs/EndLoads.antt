@@ -31,7 +31,8 @@ ReadsHeld relations lanes held (Read f) v = (tag : Tag) (page : Page) → (link 
 ReadsHeld relations lanes held _ v = Unit {0}
 
 module _ {L G : Type 0} where
-  -- the log's end is at its base or past it, and each copied page is logged before it, or is the one at the start; where it is at the base each page that is read is that one
+  -- the log's end is at its base or past it, and each copied page is logged before it, or is the
+  -- one at the start; if it is at the base each page that is read is that one
   abbrev pub tells_end_load : EndLoad → ℕ → ℕ → List RelEntry → ℕ → List (Option Pages) → Step (Value L G) → Me (Value L G) View → ℕ → Me (Value L G) View → Type 0
   tells_end_load what frames base relations lanes held st m found m' = tells_word (end_kind what) st m found m' × ((base ≤ found) × (found ≡ base → ReadsHeld relations lanes held what m.0) × CopiesAreLogged relations lanes held frames found m.0)
 

@@ -22,7 +22,8 @@ use Rattle.history_core.specs.Steps.{CanEnter, logged_as, has_written, paged}
 use Rattle.table_rule.specs.declared.value.Value.{Value}
 use Rattle.table_rule.specs.LogCalls.{block_record}
 
--- The page p of a tag's block may become an entry, by the view v at the frame f, where the log ends at `start`
+-- The page p of a tag's block may become an entry, by the view v at the frame f, if the log ends at
+-- `start`
 pub record MayBecomeEntry (f : ℕ) (tag : Tag) (p : Page) (start : ℕ) (v : View) : Type 0 where
   -- this is the end as the view has loaded it under the log's latch
   pub loaded : v.log.end ≡ Some start
@@ -41,7 +42,7 @@ pub record MayBecomeEntry (f : ℕ) (tag : Tag) (p : Page) (start : ℕ) (v : Vi
   pub ends : lsn_of p ≡ start + record_size
   pub room : start + record_size ≤ last_position
 
--- the bytes are the record of the entry, where the relations name the block
+-- the bytes are the record of the entry, if the relations name the block
 pub record IsRecord (relations : List RelEntry) (tag : Tag) (start : ℕ) (p : Page) (bytes : List ℕ) : Type 0 where
   pub entry : RelEntry
   pub listed : slice_get relations tag.rel.0 ≡ Some entry
@@ -67,7 +68,9 @@ pub record DidEnter (f : ℕ) (p : Page) (v w : View) : Type 0 where
   pub live : v.emptied ≡ false
   pub inside : f < state.pool.core.frames
   pub allowed : CanEnter state f p (image (state.pool.core.frame f).tag p) v
-  pub after : w ≡ has_written (image (state.pool.core.frame f).tag p) (link v f).copied (state.end + record_size) (state.pool.core.frame f).tag p (paged (make_entry p) state.pool f v)
+  pub after : w ≡ has_written (image (state.pool.core.frame f).tag p) (link v f).copied
+      (state.end + record_size) (state.pool.core.frame f).tag p
+      (paged (make_entry p) state.pool f v)
 
 -- what it has at the frame then: the entry isn't applied yet
 abbrev pub entered_link : Page → Link → Link
@@ -77,7 +80,8 @@ entered_link p l = record l { entered = true; unapplied = true; image = Some p; 
 abbrev pub view_entered : ℕ → ℕ → Page → ℕ → View → View
 view_entered f tag p end v = record v {
   links = slice_set v.links f (entered_link p (link v f));
-  calls = v.calls ++ Write v.number tag p end (logged_as (image tag p) v.log.redo (link v f).copied) ∷ [];
+  calls = v.calls
+      ++ Write v.number tag p end (logged_as (image tag p) v.log.redo (link v f).copied) ∷ [];
   front = end;
   end_seen = max v.end_seen end;
   log = record v.log { appended = None; end = Some end };

@@ -37,7 +37,8 @@ SaysOf state_word n fr = fr.word ≡ fields n
 SaysOf tag_word n fr = fr.tag ≡ n
 SaysOf content_word n fr = (fr.sharers ≡ n % 2 ^ 18) × (fr.exclusive ≡ bit 18 n) × (fr.copying ≡ bit 19 n) × (n < 2 ^ 20)
 
--- The view v became w by a step of the kind k at the frame f, where the kind's word was `found`
+-- The view v became w by a step of the kind k at the frame f, which found the kind's word as
+-- `found`
 pub record Did (k : FrameKind) (f : ℕ) (v w : View) (found : ℕ) : Type 0 where
   -- the state that it was at, which has the law
   pub state : State
@@ -57,9 +58,9 @@ pub record Did (k : FrameKind) (f : ℕ) (v w : View) (found : ℕ) : Type 0 whe
 -- Which kind a step is, by its first operand and the number found
 pub data Choice : Type 0 where
   always : FrameKind → Choice
-  -- where the number found is the first operand, and else a load
+  -- this kind if the number found is the first operand, and else a load
   if_found : FrameKind → Choice
-  -- where the word found isn't locked, and else a load
+  -- this kind if the word found isn't locked, and else a load
   if_unlocked : FrameKind → Choice
 
 abbrev pub chosen : Choice → ℕ → ℕ → FrameKind
@@ -74,7 +75,7 @@ choice_part (if_found k) = part_of k
 choice_part (if_unlocked k) = part_of k
 
 module _ {L G : Type 0} where
-  -- a step at a word of the frame f, where the slots in hand stay
+  -- a step at a word of the frame f: the slots in hand stay
   abbrev pub tells : Choice → Step (Value L G) → Me (Value L G) View → ℕ → Me (Value L G) View → Type 0
   tells choice st m found m' = (m'.1 ≡ m.1) × ((f : ℕ) → st.word ≡ part_place (choice_part choice) f → Did (chosen choice st.first found) f m.0 m'.0 found)
 
@@ -107,7 +108,8 @@ Refuses f v w (Untagged was) = Did looking f v w was × (has_locked was ≡ fals
 Refuses f v w (Changed was now) = (has_locked was ≡ false) × (has_tag was ≡ true) × (was ≢ now)
     × ((u : View) × Did looking f v u was × Did looking f u w now)
 
--- the first backend's view after it gave a new backend its number, and the new backend's, where the log begins at `base`
+-- the first backend's view after it gave a new backend its number, and the new backend's, if the
+-- log begins at `base`
 abbrev pub kept_view : View → View
 kept_view v = record v { next = v.next + 1 }
 

@@ -54,7 +54,7 @@ load_kind content_word = pages paged.load_content
 abbrev pub block_of_frame : State → ℕ → Block
 block_of_frame s f = block_of s.pool.logged (s.pool.core.frame f).tag
 
--- Where a kind is allowed, by the frame f and by what the view v has there
+-- When a kind is allowed, by the frame f and by what the view v has there
 abbrev pub IsAllowed : FrameKind → State → ℕ → View → Type 0
 IsAllowed (pins k) s f v = pin.Allowed k (s.pool.core.frame f) (link v f)
 IsAllowed (pages k) s f v = IsPlain k × paged.Allowed k (block_of_frame s f) (s.pool.core.frame f) (link v f)

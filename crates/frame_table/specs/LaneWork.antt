@@ -77,7 +77,8 @@ out_view q taken v = record v { lanes = slice_set v.lanes q (out_lane taken v.fl
 
 -- The call, and what is noted of it at a frame
 module _ {L : Type 0} (d : LaneDevices L) (q : ℕ) (after : L) where
-  -- The call's step, if one was made, and the lane's return. A fault is counted where the call failed; a read is noted at its frame, and a write
+  -- The call's step, if one was made, and the lane's return. A fault is counted if the call failed;
+  -- a read is noted at its frame, and a write
   abbrev pub back_events : LaneCall → ℕ → List Event
   back_events Untouched i = steps.lane i q (lane_back false) ∷ []
   back_events (Read f tag page) i = steps.lane i q (read_block (packed_tag tag) page.value) ∷ steps.note i q f (lane_back false) (note_read page.value) ∷ []
@@ -189,7 +190,8 @@ module _ {L : Type 0} (d : LaneDevices L) where
   abbrev pub was_known : List L → ℕ → Bool
   was_known opened q = is_known_in (get_elem? opened q)
 
-  -- What holds of a lane as it goes out: where its contents are known it holds each block of the relations that lies there, and they are known where they were when the table was opened
+  -- What holds of a lane as it goes out: if its contents are known it holds each block of the
+  -- relations that lies there, and they are known if they were when the table was opened
   pub record IsTakenLane (known : Bool) (relations : List RelEntry) (lanes q : ℕ) (l : L) : Type 0 where
     pub holds : HoldsBlocks d relations lanes q l
     pub known_still : is_some (d.contents l) ≡ known

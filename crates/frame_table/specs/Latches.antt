@@ -1,4 +1,4 @@
--- The steps at latches: where they are allowed, and what they make of the state.
+-- The steps at latches: when they are allowed, and what they make of the state.
 use Rattle.std.specs.Prelude.{◌≡◌, ◌≢◌, ℕ, ◌+◌, ◌<◌, ◌≤◌, Vec, vec_len, vec_capacity, Bool, true, false, List, [], ◌∷◌, map, Some, None}
 use Rattle.std.specs.Global.{Global}
 use mathlib.Core.Option.{some}
@@ -47,7 +47,7 @@ abbrev pub log_kind : Bool → logs.LogKind
 log_kind true = logs.take_log
 log_kind false = logs.leave_log
 
--- where a latch may be taken, or left
+-- when a latch may be taken, or left
 abbrev pub LatchAllowed : Bool → Turn → State → View → Type 0
 LatchAllowed true x s v = is_taken x s ≡ false
 LatchAllowed false x s v = MayLeave x v
@@ -95,7 +95,7 @@ work_of v = record v { partitions = []; lanes = []; log = no_log; steps = 0 }
 abbrev pub SameWork : View → View → Type 0
 SameWork v w = work_of w ≡ work_of v
 
--- a view with one more latch of a partition counted, where it takes one
+-- a view with one more latch of a partition counted, if it takes one
 abbrev pub view_counted : Bool → Turn → View → View
 view_counted true (Partition p) v = record v { turns = v.turns + 1 }
 view_counted true (Lane q) v = v
@@ -103,7 +103,7 @@ view_counted true Log v = v
 view_counted false x v = v
 
 module _ {L G : Type 0} where
-  -- where the latch was free it was taken, and else nothing happened
+  -- if the latch was free it was taken, and else nothing happened
   abbrev pub took : Turn → Step (Value L G) → Me (Value L G) View → ℕ → Me (Value L G) View → Type 0
   took x st m found m' = (m'.1 ≡ m.1) × (found ≡ 0 → DidTurn true x m.0 m'.0) × (found ≢ 0 → m'.0 ≡ m.0)
 
@@ -131,7 +131,8 @@ pub record DidMap (k : parts.TurnKind) (p : ℕ) (v w : View) : Type 0 where
   pub allowed : parts.TurnAllowed k (state.pool.core.partition p) (hold v p)
   pub after : w ≡ parts.view_turned k p (hold v p) v
 
--- the map of a partition comes back with these entries: where the view has named a pair that isn't entered or left out yet, this is done
+-- the map of a partition comes back with these entries: if the view has named a pair that isn't
+-- entered or left out yet, this is done
 pub data ComesBack (entries : List MapEntry) (p : ℕ) (v w : View) : MapChange → Type 0 where
   as_it_was : DidMap (parts.map_back entries) p v w → ComesBack entries p v w Stable
   entered : {tag f : ℕ} (u : View) → DidMap parts.change_map p v u → DidMap (parts.map_back entries) p u w → ComesBack entries p v w (Entering tag f)

@@ -46,7 +46,7 @@ pub record DidTwo (j k : LogKind) (v w : View) : Type 0 where
   pub first : DidLog j v between
   pub second : DidLog k between w
 
--- the log goes out; where it is down its holder sees that
+-- the log goes out; if it is down its holder sees that
 abbrev pub GoesOut : TakenLog → Option ℕ → View → View → Type 0
 GoesOut taken None v w = DidLog (log_out taken) v w
 GoesOut taken (Some end) v w = DidTwo (log_out taken) see_down v w
@@ -60,12 +60,14 @@ out_steps (Some end) = 2
 abbrev pub view_out : TakenLog → View → View
 view_out taken v = record v { log = record v.log { out = Some taken }; saw_down = v.saw_down || is_some taken.down; steps = v.steps + out_steps taken.down }
 
--- an append that fails adds these of its bytes: none where the log's contents aren't known
+-- an append that fails adds these of its bytes: none if the log's contents aren't known
 pub record IsPart (was now : Option (List ℕ)) (part : List ℕ) : Type 0 where
   pub added : now ≡ option_map (λ bytes. bytes ++ part) was
   pub unknown : was ≡ None → part ≡ []
 
--- What the return of the log is, where it was taken as this, has these bytes now, as far as they are known, and so many of its calls have failed: after a call the kind that the call is, and then the return
+-- What the return of the log is, if it was taken as this, has these bytes now, as far as they are
+-- known, and so many of its calls have failed: after a call the kind that the call is, and then the
+-- return
 abbrev pub ComesHome : TakenLog → Option (List ℕ) → ℕ → LogCall → View → View → Type 0
 ComesHome taken bytes faults log_call.Untouched v w = DidLog (log_back false) v w
 ComesHome taken bytes faults (log_call.Appended f tag page piece) v w = DidTwo (append f (packed_tag tag) page.value piece.value.items) (log_back false) v w
@@ -109,7 +111,8 @@ view_home call v = record v {
   steps = v.steps + home_steps call;
 }
 
--- What the view has where this record was to be appended: its page may be entered, and under this latch no record was appended before, and no sync made
+-- What the view has if this record was to be appended: its page may be entered, and under this
+-- latch no record was appended before, and no sync made
 pub record MayAppend (relations : List RelEntry) (f : ℕ) (tag : Tag) (p : Page) (bytes : List ℕ) (v : View) : Type 0 where
   pub start : ℕ
   pub enters : MayBecomeEntry f tag p start v
@@ -117,7 +120,8 @@ pub record MayAppend (relations : List RelEntry) (f : ℕ) (tag : Tag) (p : Page
   pub entered : v.log.appended ≡ None
   pub unsynced : v.log.synced ≡ false
 
--- where this call was to be made: under this latch no record was appended before a sync
+-- what the view has if this call was to be made: under this latch no record was appended before a
+-- sync
 abbrev pub MayCall : List RelEntry → LogCall → View → Type 0
 MayCall relations (log_call.Appended f tag page piece) v = MayAppend relations f tag page.value piece.value.items v
 MayCall relations (log_call.AppendFailed f tag page piece) v = MayAppend relations f tag page.value piece.value.items v
@@ -130,7 +134,8 @@ abbrev pub is_called : LogCall → Bool
 is_called log_call.Untouched = false
 is_called _ = true
 
--- The mark of a failure, where the log had the mark `taken` and the view has loaded the log's end as `end`: a log that is down isn't called, and the first call that fails marks it with the end
+-- The mark of a failure, if the log had the mark `taken` and the view has loaded the log's end as
+-- `end`: a log that is down isn't called, and the first call that fails marks it with the end
 pub record MarksLogDown (call : LogCall) (taken end now : Option ℕ) : Type 0 where
   pub up : is_called call ≡ true → taken ≡ None
   pub kept : has_failed call ≡ false → now ≡ taken
@@ -141,7 +146,7 @@ pub record MarksLogDown (call : LogCall) (taken end now : Option ℕ) : Type 0 w
 abbrev pub IsFresh : {G : Type 0} → NotedLog G → Type 0
 IsFresh x = (x.call ≡ log_call.Untouched) × (record_size ≤ vec_capacity x.buffer)
 
--- A log tells its bytes, where they are known, how many of them are durable, and how many calls failed
+-- A log tells its bytes, if they are known, how many of them are durable, and how many calls failed
 module _ {G : Type 0} (bytes : G → Option (List ℕ)) (synced faults calls : G → ℕ) where
   -- the device was taken as this
   pub record IsTakenLog (g : G) (taken : TakenLog) : Type 0 where

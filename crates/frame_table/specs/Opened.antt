@@ -1,4 +1,5 @@
--- What a backend knows of the pages that the lanes held as the table was opened, where these are known.
+-- What a backend knows of the pages that the lanes held as the table was opened, if these are
+-- known.
 use Rattle.std.specs.Prelude.{◌≡◌, ◌⊎◌, ℕ, ◌<◌, ◌≤◌, true, false, List, Option, Some}
 use mathlib.Core.Option.{some}
 use lib.ListN.{get_elem?}
@@ -20,7 +21,8 @@ use Rattle.frame_table.specs.declared.table.FrameTable.{FrameTable}
 use Rattle.frame_table.specs.Seats.{frames_of, lanes_in, opened_of, relations_of}
 use Rattle.frame_table.specs.FrameSteps.{always, looking, tells}
 
--- The page of a tag's block is the one that its lane, of so many, held at the start, where that is known: `held` has the pages of each lane then
+-- The page of a tag's block is the one that its lane, of so many, held at the start, if that is
+-- known: `held` has the pages of each lane then
 abbrev pub WasHeld : List RelEntry → ℕ → List (Option Pages) → Tag → Page → Type 0
 WasHeld relations lanes held tag page = (q : ℕ) (known : Pages) → IsBlockOf relations lanes q tag → get_elem? held q ≡ some (Some known) → known tag ≡ Some page
 
@@ -28,7 +30,8 @@ WasHeld relations lanes held tag page = (q : ℕ) (known : Pages) → IsBlockOf 
 abbrev pub WasHeldSound : List RelEntry → ℕ → List (Option Pages) → Tag → Type 0
 WasHeldSound relations lanes held tag = (q : ℕ) (known : Pages) (page : Page) → IsBlockOf relations lanes q tag → get_elem? held q ≡ some (Some known) → known tag ≡ Some page → is_sound_page page ≡ true
 
--- What a backend has at a frame, and a state word that it loads there, show of the page that the frame's block had at the start, where its pin remembers the tag
+-- What a backend has at a frame, and a state word that it loads there, show of the page that the
+-- frame's block had at the start, if its pin remembers the tag
 pub record FitsHeld (relations : List RelEntry) (lanes : ℕ) (held : List (Option Pages)) (l : Link) (w : StateWord) : Type 0 where
   -- a page that the lane gave and that isn't sound is the page at the start
   pub unsound : (tag : Tag) (page : Page) → l.tag ≡ Some (packed_tag tag) → l.read ≡ Some page → is_sound_page page ≡ false → WasHeld relations lanes held tag page

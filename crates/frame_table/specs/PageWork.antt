@@ -20,7 +20,8 @@ pub record MayTakePage (l : Link) : Type 0 where
   pub shared : l.content ≡ Shared → l.copying ≡ true
   pub unlocked : l.content ≡ Unlocked → l.io ≡ Input
 
--- The kind by which a page that is out is overwritten before it comes back: with the image of the backend's entry, where that isn't applied yet, or with the page that the lane gave
+-- The kind by which a page that is out is overwritten before it comes back: with the image of the
+-- backend's entry, if that isn't applied yet, or with the page that the lane gave
 abbrev pub by_input : Io → Option Page → Option paged.Kind
 by_input Input (Some p) = Some (paged.overwrite_read p)
 by_input Input None = None

@@ -1,5 +1,6 @@
 -- What callers see of a table and of a seat.
-use Rattle.std.specs.Prelude.{◌≡◌, ◌≢◌, ℕ, ◌<◌, ◌≤◌, ◌+◌, Bool, true, false, not, ◌||◌, ◌&&◌, List, [], ◌++◌, Option, Some, None}
+use Rattle.std.specs.Prelude.{◌≡◌, ◌≢◌, ℕ, ◌<◌, ◌≤◌, ◌+◌, Bool, true, false, not, ◌||◌, ◌&&◌}
+use Rattle.std.specs.Prelude.{List, [], ◌++◌, Option, Some, None}
 use Rattle.std.specs.List.{All}
 use mathlib.Core.Option.{some}
 use lib.ListN.{get_elem?}
@@ -70,13 +71,17 @@ pub record IsListedStill (before after : Resident) : Type 0 where
 
 -- Each stays listed, at its place
 abbrev pub KeepsResidents : List Resident → List Resident → Type 0
-KeepsResidents before after = (k : ℕ) (r : Resident) → get_elem? before k ≡ some r → (x : Resident) × (get_elem? after k ≡ some x) × IsListedStill r x
+KeepsResidents before after = (k : ℕ) (r : Resident)
+    → get_elem? before k ≡ some r
+    → (x : Resident) × (get_elem? after k ≡ some x) × IsListedStill r x
 
 -- The view lists that it has seen the block of the tag in the frame f
 abbrev pub HasResident : ℕ → ℕ → View → Type 0
-HasResident f tag v = (k : ℕ) × (r : Resident) × (get_elem? v.residents k ≡ some r) × (r.frame ≡ f) × (r.tag ≡ tag)
+HasResident f tag v = (k : ℕ) × (r : Resident)
+    × (get_elem? v.residents k ≡ some r) × (r.frame ≡ f) × (r.tag ≡ tag)
 
--- The loads and the changes of state words that a view lists are only added to, its count of steps doesn't fall, and the blocks that it has seen in frames stay listed
+-- The loads and the changes of state words that a view lists are only added to, its count of steps
+-- doesn't fall, and the blocks that it has seen in frames stay listed
 pub record Grows (v w : View) : Type 0 where
   pub loads : (ls : List Load) × (w.loads ≡ v.loads ++ ls)
   pub changes : (cs : List WordChange) × (w.changes ≡ v.changes ++ cs)
@@ -160,7 +165,7 @@ pub record Looked (l m : Link) : Type 0 where
   pub inside : m.inside ≡ l.inside
   -- what was seen stays seen
   pub seen_valid : l.seen_valid ≡ true → m.seen_valid ≡ true
-  -- where no wait was there, none is
+  -- if no wait was there, none is
   pub waits : l.waits ≡ None → m.waits ≡ None
   -- a frame that the checkpoint has visited stays visited, and none becomes one that it has to write
   pub visited : l.visited ≡ true → m.visited ≡ true
@@ -176,7 +181,13 @@ mapped_link tag ring l = record l { role = HandedOut; tag = Some tag; ring = rin
 
 -- and without a pin
 abbrev pub unpinned_link : Link → Link
-unpinned_link l = record l { role = Absent; tag = None; seen_valid = false; ring = false; inside = false }
+unpinned_link l = record l {
+  role = Absent;
+  tag = None;
+  seen_valid = false;
+  ring = false;
+  inside = false;
+}
 
 -- with the header locked, whose word is the number
 abbrev pub locked_link : ℕ → Link → Link
@@ -325,7 +336,8 @@ abbrev pub cleared_stored : Option Tag → ℕ → ℕ
 cleared_stored None n = n + 1
 cleared_stored (Some tag) n = n
 
--- A step at the frame f that may name a pair, or take a tag away: the view has at other frames what it had
+-- A step at the frame f that may name a pair, or take a tag away: the view has at other frames what
+-- it had
 pub record Stores (f : ℕ) (v w : View) : Type 0 where
   pub self : SameSelf (record v { cleared = w.cleared }) w
   pub grows : Grows v w

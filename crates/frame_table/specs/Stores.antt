@@ -14,9 +14,11 @@ use Rattle.history_core.specs.State.{State, next_hand}
 use Rattle.history_core.specs.Words.{counter_count, hint_count}
 use Rattle.table_rule.specs.declared.value.Value.{Value}
 use Rattle.table_rule.specs.declared.opening.Opening.{Opening}
-use Rattle.table_rule.specs.Layout.{end_place, flushed_place, redo_place, hand_place, counter_place, hint_place, state_place}
+use Rattle.table_rule.specs.Layout.{end_place, flushed_place, redo_place, hand_place}
+use Rattle.table_rule.specs.Layout.{counter_place, hint_place, state_place}
 use Rattle.table_rule.specs.Shows.{Devices, RuleHolds}
-use Rattle.frame_table.specs.WordSteps.{add_hand, raise_flushed, raise_redo, add_counter, store_hint, tells_word}
+use Rattle.frame_table.specs.WordSteps.{add_hand, raise_flushed, raise_redo, add_counter}
+use Rattle.frame_table.specs.WordSteps.{store_hint, tells_word}
 use Rattle.frame_table.specs.Kinds.{state_word, FrameKind, frame_after}
 use Rattle.frame_table.specs.FrameSteps.{Choice, chosen, choice_part, tells}
 
@@ -57,16 +59,27 @@ module _ {L G : Type 0} (d : Devices L G) (o : Opening L G) where
   -- Whatever operation g on the word of the redo position keeps the rule and tells that the
   -- position was raised: it stores the larger of that word and of the log's end
   abbrev pub RedoMustRise : Type 0
-  RedoMustRise = (slots id a b : ℕ) (g : ℕ → ℕ) (me : Me (Value L G) View) (t : table.State (Value L G) View) → IsSeated slots id (redo_place o.config.frames) me t
-      → Allows (RuleHolds d o) slots id me (redo_place o.config.frames) g (tells_word raise_redo (step slots (redo_place o.config.frames) a b none) me)
-      → g (slice_index t.words (redo_place o.config.frames)) ≡ max (slice_index t.words (redo_place o.config.frames)) (slice_index t.words (end_place o.config.frames))
+  RedoMustRise = (slots id a b : ℕ) (g : ℕ → ℕ)
+      (me : Me (Value L G) View) (t : table.State (Value L G) View)
+      → IsSeated slots id (redo_place o.config.frames) me t
+      → Allows (RuleHolds d o) slots id me (redo_place o.config.frames) g
+      (tells_word raise_redo (step slots (redo_place o.config.frames) a b none) me)
+      → g (slice_index t.words (redo_place o.config.frames))
+      ≡ max (slice_index t.words (redo_place o.config.frames))
+      (slice_index t.words (end_place o.config.frames))
 
   -- Whatever operation g on a counter keeps the rule and tells that so much was added: it stores
   -- the sum of the counter and of that
   abbrev pub CounterMustRise : Type 0
-  CounterMustRise = (number more slots id a b : ℕ) (g : ℕ → ℕ) (me : Me (Value L G) View) (t : table.State (Value L G) View) → number < counter_count → IsSeated slots id (counter_place o.config.frames number) me t
-      → Allows (RuleHolds d o) slots id me (counter_place o.config.frames number) g (tells_word (add_counter number more) (step slots (counter_place o.config.frames number) a b none) me)
-      → g (slice_index t.words (counter_place o.config.frames number)) ≡ slice_index t.words (counter_place o.config.frames number) + more
+  CounterMustRise = (number more slots id a b : ℕ) (g : ℕ → ℕ)
+      (me : Me (Value L G) View) (t : table.State (Value L G) View)
+      → number < counter_count
+      → IsSeated slots id (counter_place o.config.frames number) me t
+      → Allows (RuleHolds d o) slots id me (counter_place o.config.frames number) g
+      (tells_word (add_counter number more)
+      (step slots (counter_place o.config.frames number) a b none) me)
+      → g (slice_index t.words (counter_place o.config.frames number))
+      ≡ slice_index t.words (counter_place o.config.frames number) + more
 
   -- Whatever operation g on a hint word keeps the rule and tells that the word got a value: it
   -- stores that value

@@ -1,6 +1,7 @@
 -- Steps at the words after those of the frames: the log's end, the flushed and the redo position,
 -- the clock's hand, the counters, and the hint words.
-use Rattle.std.specs.Prelude.{◌≡◌, ◌≢◌, ℕ, ◌+◌, ◌*◌, ◌<◌, ◌≤◌, false, true, [], ◌∷◌, ◌++◌, Option, Some, None, unwrap_or}
+use Rattle.std.specs.Prelude.{◌≡◌, ◌≢◌, ℕ, ◌+◌, ◌*◌, ◌<◌, ◌≤◌, false, true, [], ◌∷◌, ◌++◌}
+use Rattle.std.specs.Prelude.{Option, Some, None, unwrap_or}
 use mathlib.Core.Option.{some}
 use lib.ListN.{get_elem?}
 use Rattle.atomic_table.specs.Table.{Me, Step}
@@ -11,7 +12,8 @@ use Rattle.pin_core.specs.declared.view.LoadedWord.TheVariants as seen
 use Rattle.pin_core.specs.State.{Page, link}
 use Rattle.history_core.specs.State.{State}
 use Rattle.history_core.specs.Words as core
-use Rattle.history_core.specs.Words.{Word, end_word, most_published, word_of, word_at, WordAllowed, number_after}
+use Rattle.history_core.specs.Words.{Word, end_word, most_published, word_of, word_at}
+use Rattle.history_core.specs.Words.{WordAllowed, number_after}
 use Rattle.history_core.specs.Laws.{Laws}
 use Rattle.history_core.specs.Steps.{Event, word, read, looked, has_read, view_after_word, state_set}
 use Rattle.table_rule.specs.declared.value.Value.{Value}
@@ -86,7 +88,7 @@ pub record IsCopied (l : Link) : Type 0 where
   pub applied : l.unapplied ≡ false
   pub remembered : l.tag ≢ None
 
--- where a kind is allowed
+-- when a kind is allowed
 abbrev pub IsWordAllowed : WordKind → State → View → Type 0
 IsWordAllowed (read_end f) s v = (f < s.pool.core.frames) × IsCopied (link v f)
 IsWordAllowed (at_word core.raise_flushed) s v = (v.log.synced ≡ true) × (v.log.end ≡ Some s.end)
@@ -101,20 +103,23 @@ read_of _ _ end v = v
 abbrev pub end_known : View → ℕ
 end_known v = unwrap_or v.log.end 0
 
--- What a kind makes of the view, where the number found is `found`
+-- What a kind makes of the view, if the number found is `found`
 abbrev pub view_of : WordKind → ℕ → View → View
 view_of (at_word k) found v = view_after_word k found (end_known v) v
 view_of (read_end f) found v = looked (seen.LogEnd found) (read_of (link v f).tag (link v f).copied found v)
 
 -- a view that has added to a counter
 abbrev pub view_published : ℕ → ℕ → View → View
-view_published number more v = record v { steps = v.steps + 1; published = v.published ++ record { count = number; more = more } ∷ [] }
+view_published number more v = record v {
+  steps = v.steps + 1;
+  published = v.published ++ record { count = number; more = more } ∷ [];
+}
 
 -- the state after it, by backend i, whose view is v
 abbrev pub next_of : WordKind → State → ℕ → View → State
 next_of k s i v = state_set (kind_word k) (number_left k s) s i (view_of k (word_of (kind_word k) s) v)
 
--- The view v became w by a step of the kind k, where its word was `found`
+-- The view v became w by a step of the kind k, which found its word as `found`
 pub record DidWord (k : WordKind) (v w : View) (found : ℕ) : Type 0 where
   -- the state that it was at, which has the law
   pub state : State
@@ -128,7 +133,7 @@ pub record DidWord (k : WordKind) (v w : View) (found : ℕ) : Type 0 where
   pub after : w ≡ view_of k found v
 
 module _ {L G : Type 0} where
-  -- a step at such a word, where the slots in hand stay
+  -- a step at such a word: the slots in hand stay
   abbrev pub tells_word : WordKind → Step (Value L G) → Me (Value L G) View → ℕ → Me (Value L G) View → Type 0
   tells_word k st m found m' = (m'.1 ≡ m.1) × DidWord k m.0 m'.0 found
 
@@ -137,5 +142,7 @@ module _ {L G : Type 0} where
   tells_hint n number st m found m' = tells_word (load_hint number) st m found m' × (found ≤ n)
 
   -- a load of a counter: it is at most what 64 backends may add
-  abbrev pub tells_counter : ℕ → Step (Value L G) → Me (Value L G) View → ℕ → Me (Value L G) View → Type 0
-  tells_counter number st m found m' = tells_word (load_counter number) st m found m' × (found ≤ 64 * most_published)
+  abbrev pub tells_counter : ℕ → Step (Value L G) → Me (Value L G) View → ℕ
+      → Me (Value L G) View → Type 0
+  tells_counter number st m found m' = tells_word (load_counter number) st m found m'
+      × (found ≤ 64 * most_published)

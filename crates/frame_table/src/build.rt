@@ -1,5 +1,6 @@
 //! A table is built, and closed.
-ghost use Rattle.std.specs.Prelude.{◌≡◌, ◌≤◌, ◌^◌, [], length, IfOk, IfErr};
+ghost use Rattle.std.specs.Prelude.{◌≡◌, ◌≤◌, [], length, IfOk, IfErr};
+ghost use Rattle.history_core.specs.State.{last_position};
 ghost use Rattle.table_rule.specs.Shows.{AreLanes, IsNewLog, devices, starting};
 ghost use Rattle.frame_table.specs.Closes.{CanClose, Closes};
 ghost use Rattle.frame_table.specs.Seats.{Fits, IsIdle};
@@ -32,7 +33,7 @@ impl<L: BlockLane, G: LogDevice> FrameTable<L, G> {
         requires frames { (1 ≤ config.frames) × (config.frames ≤ 4096) }
         requires backends { (1 ≤ config.passes) × (config.passes ≤ 64) }
         requires lanes { (1 ≤ config.lanes) × (config.lanes ≤ 16) × (length lanes.items ≡ config.lanes) }
-        requires base { base ≤ 2 ^ 62 }
+        requires base { base ≤ last_position }
         requires devices { AreLanes (devices L.BlockLane G.LogDevice) catalog lanes.items }
         requires log { IsNewLog (devices L.BlockLane G.LogDevice) base log }
         ensures key { IfOk result (λ t. (t.0.table.shared.key.config ≡ config) × (t.0.table.shared.key.catalog.value ≡ catalog) × (t.0.table.shared.key.lanes.value ≡ lanes) × (t.0.table.shared.key.log.value ≡ log) × (t.0.table.shared.key.base ≡ base)) }

@@ -36,7 +36,8 @@ impl<L: BlockLane, G: LogDevice> FrameTable<L, G> {
         self.table.shared.load::<Look<D>>(seat, state_place(_frame))
     }
 
-    /// The state word of a frame. By it a pin sees that the page is valid, a wait is over where the word has no waiter, and the backend's checkpoint passes a frame that isn't dirty.
+    /// The state word of a frame. By it a pin sees that the page is valid, a wait is over if the
+    /// word has no waiter, and the backend's checkpoint passes a frame that isn't dirty.
     pub fn look(&self, seat: &mut Seat<Value<L, G>, View>, frame: u32) -> u64
         requires { CanStep self.now seat.old frame }
         ensures seat { SameSeat seat.old seat.new }
@@ -76,7 +77,7 @@ impl<L: BlockLane, G: LogDevice> FrameTable<L, G> {
             .compare_exchange::<Step<D>>(seat, state_place(frame), was, new)
     }
 
-    /// Pins a frame that has a tag, where its word does not change meanwhile (`PinBuffer`).
+    /// Pins a frame that has a tag, if its word doesn't change meanwhile (`PinBuffer`).
     pub fn try_pin(
         &self,
         seat: &mut Seat<Value<L, G>, View>,
@@ -108,7 +109,8 @@ impl<L: BlockLane, G: LogDevice> FrameTable<L, G> {
         }
     }
 
-    /// Gives up a pin, once the header is not locked, and answers the word that is left (`UnpinBuffer`). A backend that holds that header itself would wait for ever.
+    /// Gives up a pin, once the header is not locked, and answers the word that is left
+    /// (`UnpinBuffer`). A backend that holds that header itself would wait forever.
     pub fn unpin<R: Wait>(&self, rt: &R, seat: &mut Seat<Value<L, G>, View>, pin: Pin) -> u64
         requires seat { CanStep self.now seat.old pin.frame }
         requires pinned { MayUnpin (link seat.old.me.0 pin.frame) }

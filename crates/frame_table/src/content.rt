@@ -34,7 +34,8 @@ impl<L: BlockLane, G: LogDevice> FrameTable<L, G> {
             .load::<Step<LookContent>>(seat, content_place(frame))
     }
 
-    /// Takes the content lock, shared, where the content word is still `was`. Its Err is the word that it found.
+    /// Takes the content lock, shared, if the content word is still `was`. Its Err is the word that
+    /// it found.
     pub fn add_share(
         &self,
         seat: &mut Seat<Value<L, G>, View>,
@@ -58,7 +59,8 @@ impl<L: BlockLane, G: LogDevice> FrameTable<L, G> {
         if found == was { Ok(()) } else { Err(found) }
     }
 
-    /// Takes the content lock, exclusive, where the content word is still `was`, which is 0. Its Err is the word that it found.
+    /// Takes the content lock, exclusive, if the content word is still `was`, which is 0. Its Err
+    /// is the word that it found.
     pub fn set_exclusive(
         &self,
         seat: &mut Seat<Value<L, G>, View>,
@@ -82,7 +84,8 @@ impl<L: BlockLane, G: LogDevice> FrameTable<L, G> {
         if found == was { Ok(()) } else { Err(found) }
     }
 
-    /// Takes the copy latch, as a sharer, where the content word is still `was`. Its Err is the word that it found.
+    /// Takes the copy latch, as a sharer, if the content word is still `was`. Its Err is the word
+    /// that it found.
     pub fn take_copy(
         &self,
         seat: &mut Seat<Value<L, G>, View>,

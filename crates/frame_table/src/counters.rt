@@ -2,7 +2,8 @@
 ghost use Rattle.std.specs.Prelude.{◌≡◌, ℕ, ◌+◌, ◌*◌, ◌<◌, ◌≤◌};
 ghost use Rattle.history_core.specs.Balances.{added_to};
 ghost use Rattle.history_core.specs.Words.{counter_count, most_published};
-ghost use Rattle.frame_table.specs.WordSteps.{DidWord, add_counter, load_counter, view_of, view_published};
+ghost use Rattle.frame_table.specs.WordSteps.{DidWord, add_counter, load_counter, view_of};
+ghost use Rattle.frame_table.specs.WordSteps.{view_published};
 ghost use Rattle.frame_table.specs.Seats.{IsSeat, SameSeat};
 
 use crate::table::FrameTable;
@@ -46,7 +47,8 @@ impl<L: BlockLane, G: LogDevice> FrameTable<L, G> {
         requires below { number < counter_count }
         requires room { added_to number seat.old.me.0 + more ≤ most_published }
         ensures seat { SameSeat seat.old seat.new }
-        ensures did { (found : ℕ) × DidWord (add_counter number more) seat.old.me.0 seat.new.me.0 found }
+        ensures did { (found : ℕ)
+            × DidWord (add_counter number more) seat.old.me.0 seat.new.me.0 found }
     {
         let at = counter_place(self.frames(), number);
         self.table.shared.fetch_add::<StepAt<D>>(seat, at, more);
@@ -59,7 +61,8 @@ impl<L: BlockLane, G: LogDevice> FrameTable<L, G> {
         requires room { added_to number seat.old.me.0 + more ≤ most_published }
         ensures seat { SameSeat seat.old seat.new }
         ensures view { seat.new.me.0 ≡ view_published number more seat.old.me.0 }
-        ensures did { (found : ℕ) × DidWord (add_counter number more) seat.old.me.0 seat.new.me.0 found }
+        ensures did { (found : ℕ)
+            × DidWord (add_counter number more) seat.old.me.0 seat.new.me.0 found }
     {
         self.rise_at::<Brand>(seat, number, more)
     }

@@ -13,7 +13,12 @@ ghost use Rattle.pin_core.specs.Steps.{HasNoVictim};
 ghost use Rattle.table_rule.specs.Blocks.{has_block, is_block};
 ghost use Rattle.table_rule.specs.Layout.{tag_partition};
 ghost use Rattle.frame_table.specs.Kinds.{pins};
-ghost use Rattle.frame_table.specs.Seats.{CanErase, CanStep, MayStoreTag, CanStoreAs, HasFlag, HasRoom, HoldsNumber, HasOnlyPin, IsUsed, NamesStored, SameMarks, SameSeat, Stores, Touches, assigned_link, cleared_link, partitions_stored, read_link, relations_of, stored_link, tag_word, unlocked_link, victim_link, cleared_stored};
+ghost use Rattle.frame_table.specs.Seats.{CanErase, CanStep, CanStoreAs, HasFlag, HasOnlyPin};
+ghost use Rattle.frame_table.specs.Seats.{HasRoom, HoldsNumber, IsUsed, MayStoreTag, NamesStored};
+ghost use Rattle.frame_table.specs.Seats.{SameMarks, SameSeat, Stores, Touches, assigned_link};
+ghost use Rattle.frame_table.specs.Seats.{cleared_link, cleared_stored, partitions_stored};
+ghost use Rattle.frame_table.specs.Seats.{read_link, relations_of, stored_link, tag_word};
+ghost use Rattle.frame_table.specs.Seats.{unlocked_link, victim_link};
 ghost use Rattle.frame_table.specs.FrameSteps.{Did, always, storing};
 
 use crate::pin::Pin;

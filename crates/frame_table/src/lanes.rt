@@ -89,7 +89,8 @@ impl<L: BlockLane, G: LogDevice> FrameTable<L, G> {
         self.table.shared.load::<Back<D>>(seat, place);
     }
 
-    /// The lane is back, the one of that number, and has no call noted. A fault is counted where the call failed; a page that was read or written is noted at its frame.
+    /// The lane is back, the one of that number, and has no call noted. A fault is counted if the
+    /// call failed; a page that was read or written is noted at its frame.
     pub fn lane_back(&self, seat: &mut Seat<Value<L, G>, View>, lane: u32, noted: NotedLane<L>)
         requires seat { CanTurn self.now seat.old (Lane lane) }
         requires hand { seat.old.me.1 ≡ (slot_of (frames_of self.now) (Of (Lane lane)), value.Away) ∷ rest seat.old.me.1 }

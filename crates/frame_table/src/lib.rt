@@ -1,9 +1,10 @@
-//! The table that the backends share (`BufferDescriptors` and more): the frames, the partitions of the mapping table,
-//! the lanes and the log in one `atomic_table`, whose rule is the law of `history_core`.
+//! The table that the backends share (`BufferDescriptors` and more): the frames, the partitions of
+//! the mapping table, the lanes and the log in one `atomic_table`, whose rule is the law of
+//! `history_core`.
 //!
-//! Start with [`FrameTable`]. Each of its calls is one step of the protocol, or the call of a device and its return,
-//! after loads where it tests or waits, and its contract says which. docs/PROTOCOL.md has the steps in words. Engines
-//! use `backend_pass`, a few crates up.
+//! Start with [`FrameTable`]. Each of its calls is one step of the protocol, or the call of a device
+//! and its return, after loads if it tests or waits, and its contract says which. docs/PROTOCOL.md
+//! has the steps in words. Engines use `backend_pass`, a few crates up.
 #![tactic(auto)]
 
 mod blocks;

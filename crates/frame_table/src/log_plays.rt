@@ -18,7 +18,7 @@ pub(crate) trait AtLog {
 
     ghost call: { LogCall };
 
-    // The bytes, where they are known.
+    // The bytes, if they are known.
     ghost bytes: { Option (List ℕ) };
 
     ghost faults: { ℕ };

@@ -43,7 +43,12 @@ impl<L: BlockLane, G: LogDevice> FrameTable<L, G> {
         self.table.shared.load::<LoadEnd<D>>(seat, at)
     }
 
-    /// The log's end, and what it is loaded for: as the place of a read it joins the backend's calls, and is its front then. The end never falls: it is the last end that the backend has seen, or past it. A checkpoint that starts has visited no frame, and none is left for it to write. A read whose place is the log's base is of the page that the block's lane held as the table was opened, where that is known; and then each page that the backend has copied has a position at the end or before it, or is that one.
+    /// The log's end, and what it is loaded for: as the place of a read it joins the backend's
+    /// calls, and is its front then. The end never falls: it is the last end that the backend has
+    /// seen, or past it. A checkpoint that starts has visited no frame, and none is left for it to
+    /// write. A read whose place is the log's base is of the page that the block's lane held as the
+    /// table was opened, if that is known; and then each page that the backend has copied has a
+    /// position at the end or before it, or is that one.
     pub fn load_log_end(&self, seat: &mut Seat<Value<L, G>, View>, what: EndLoad) -> u64
         requires seat { IsSeat self.now seat.old }
         requires allowed { IsEndAllowed (frames_of self.now) what seat.old.me.0 }

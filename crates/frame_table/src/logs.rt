@@ -44,7 +44,7 @@ impl<L: BlockLane, G: LogDevice> FrameTable<L, G> {
         self.table.shared.exchange(seat, slot, Value::Away)
     }
 
-    /// The log goes out with the seat that has its latch. Where the log is down the backend sees it.
+    /// The log goes out with the seat that has its latch. If the log is down the backend sees it.
     pub fn log_out(&self, seat: &mut Seat<Value<L, G>, View>) -> NotedLog<G>
         requires seat { CanTurn self.now seat.old Log }
         requires held { (seat.old.me.0.log.held ≡ true) × (seat.old.me.0.log.out ≡ None) }

@@ -68,7 +68,9 @@ impl<L: BlockLane, G: LogDevice> FrameTable<L, G> {
         self.swap_mapped::<Brand>(seat, frame, tag, ring, was, new) == was
     }
 
-    /// Pins the frame that the map of the tag's partition gives for the tag, once its header is not locked (`BufferAlloc`, where the block is found). A backend that holds that header itself would wait for ever.
+    /// Pins the frame that the map of the tag's partition gives for the tag, once its header is not
+    /// locked (`BufferAlloc`, if the block is found). A backend that holds that header itself
+    /// would wait forever.
     pub fn pin<R: Wait>(
         &self,
         rt: &R,

@@ -45,7 +45,8 @@ impl<L: BlockLane, G: LogDevice> FrameTable<L, G> {
         self.table.shared.exchange(seat, slot, Value::Away)
     }
 
-    /// The map of a partition goes out with the seat that has its latch. Where the backend is entering a pair, the list has room for it.
+    /// The map of a partition goes out with the seat that has its latch. If the backend is entering
+    /// a pair, the list has room for it.
     pub fn map_out(&self, seat: &mut Seat<Value<L, G>, View>, partition: u32) -> Vec<Mapped>
         requires seat { CanTurn self.now seat.old (Partition partition) }
         requires held { ((hold seat.old.me.0 partition).held ≡ true) × ((hold seat.old.me.0 partition).out ≡ None) }
@@ -92,7 +93,8 @@ impl<L: BlockLane, G: LogDevice> FrameTable<L, G> {
         self.table.shared.load::<MapBack<D>>(seat, place);
     }
 
-    /// The map is back. Where the backend named a pair in change, the pair is entered now, or left out (`BufTableInsert`, `BufTableDelete`).
+    /// The map is back. If the backend named a pair in change, the pair is entered now, or left out
+    /// (`BufTableInsert`, `BufTableDelete`).
     pub fn map_back(&self, seat: &mut Seat<Value<L, G>, View>, partition: u32, entries: Vec<Mapped>)
         requires seat { CanTurn self.now seat.old (Partition partition) }
         requires hand { seat.old.me.1 ≡ (slot_of (frames_of self.now) (Of (Partition partition)), value.Away) ∷ rest seat.old.me.1 }

@@ -83,7 +83,9 @@ impl<L: BlockLane, G: LogDevice> FrameTable<L, G> {
             .load::<PageBack<D>>(seat, content_place(_frame));
     }
 
-    /// The page is back. It is as it was taken, but where an entry of the backend isn't applied yet it is the entry's image, and where the lane gave a page under the backend's input right it is that page.
+    /// The page is back. It is as it was taken, unless an entry of the backend isn't applied yet:
+    /// then it is the entry's image; or the lane gave a page under the backend's input right: then
+    /// it is that page.
     pub fn page_back(&self, seat: &mut Seat<Value<L, G>, View>, frame: u32, page: Page)
         requires seat { CanStep self.now seat.old frame }
         requires hand { seat.old.me.1 ≡ (slot_of (frames_of self.now) (place.Page frame), value.Away) ∷ rest seat.old.me.1 }

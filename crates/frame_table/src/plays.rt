@@ -82,7 +82,7 @@ impl Does for UnlockHeader {
     ghost choice = { always (pins pin.unlock_header) };
 }
 
-/// The relations of the table where a tag word is loaded. Each call picks them.
+/// The relations of the table whose tag word is loaded. Each call picks them.
 pub(crate) trait Related {
     ghost relations: { List RelEntry };
 }

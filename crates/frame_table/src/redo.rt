@@ -28,7 +28,8 @@ impl<L: BlockLane, G: LogDevice> FrameTable<L, G> {
         self.table.shared.load::<StepAt<LoadRedo>>(seat, at)
     }
 
-    /// Raises the redo position to the log's end, which the backend has loaded under the log's latch.
+    /// Raises the redo position to the log's end, which the backend has loaded under the log's
+    /// latch.
     pub fn raise_redo(&self, seat: &mut Seat<Value<L, G>, View>, end: u64)
         requires seat { IsSeat self.now seat.old }
         requires end { seat.old.me.0.log.end ≡ Some end }

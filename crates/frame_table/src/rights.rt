@@ -28,7 +28,8 @@ use std::thread;
 use table_rule::{Value, state_place};
 
 impl<L: BlockLane, G: LogDevice> FrameTable<L, G> {
-    /// Marks the frame dirty under its exclusive lock, once the header is not locked (`MarkBufferDirty`). A backend that holds that header itself would wait for ever.
+    /// Marks the frame dirty under its exclusive lock, once the header is not locked
+    /// (`MarkBufferDirty`). A backend that holds that header itself would wait forever.
     pub fn mark_dirty<R: Wait>(&self, rt: &R, seat: &mut Seat<Value<L, G>, View>, frame: u32)
         requires seat { CanStep self.now seat.old frame }
         requires right { (link seat.old.me.0 frame).content ≡ Exclusive }

@@ -8,7 +8,8 @@ ghost use Rattle.table_rule.specs.Layout as layout;
 ghost use Rattle.table_rule.specs.Shows.{devices};
 ghost use Rattle.frame_table.specs.Kinds as kinds;
 ghost use Rattle.frame_table.specs.Kinds.{FrameKind, pages, part_of, pins};
-ghost use Rattle.frame_table.specs.Stores.{CounterMustRise, FlushedMustRise, RedoMustRise, HandMustMove, HintMustBeStored, Makes, MustStore};
+ghost use Rattle.frame_table.specs.Stores.{CounterMustRise, FlushedMustRise, HandMustMove};
+ghost use Rattle.frame_table.specs.Stores.{HintMustBeStored, Makes, MustStore, RedoMustRise};
 
 use atomic_table::Table;
 use block_tag::Catalog;

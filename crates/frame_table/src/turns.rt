@@ -64,7 +64,8 @@ impl<L: BlockLane, G: LogDevice> FrameTable<L, G> {
             == 0
     }
 
-    /// Waits until the latch is free, and takes it (`LWLockAcquire`). A backend that has it already would wait for ever.
+    /// Waits until the latch is free, and takes it (`LWLockAcquire`). A backend that has it already
+    /// would wait forever.
     pub fn take_turn<R: Wait>(&self, rt: &R, seat: &mut Seat<Value<L, G>, View>, turn: Turn)
         requires seat { CanTurn self.now seat.old turn }
         ensures seat { SameSeat seat.old seat.new }
@@ -78,7 +79,8 @@ impl<L: BlockLane, G: LogDevice> FrameTable<L, G> {
             if self.try_take::<Brand>(seat, turn, place) {
                 return;
             }
-            // The log's holder may be in a sync: after some tries this backend sleeps until it leaves.
+            // The log's holder may be in a sync: after some tries this backend sleeps until it
+            // leaves.
             match turn {
                 Turn::Log if tries >= YIELDS => self.table.shared.park(rt, place, 1),
                 _ => thread::yield_now(),

@@ -5,7 +5,9 @@ ghost use Rattle.segment_store.specs.Contents.{Pages};
 ghost use Rattle.frame_table.specs.declared.log_words.EndLoad.{EndLoad};
 ghost use Rattle.frame_table.specs.declared.log_words.EndLoad.TheVariants.{Plain};
 ghost use Rattle.frame_table.specs.EndLoads.{tells_end_load};
-ghost use Rattle.frame_table.specs.WordSteps.{WordKind, tells_counter, tells_hint, tells_word, load_flushed, raise_flushed, load_redo, raise_redo, load_hand, add_hand};
+ghost use Rattle.frame_table.specs.WordSteps.{WordKind, tells_counter, tells_hint, tells_word};
+ghost use Rattle.frame_table.specs.WordSteps.{load_flushed, raise_flushed, load_redo, raise_redo};
+ghost use Rattle.frame_table.specs.WordSteps.{load_hand, add_hand};
 
 use atomic_table::Play;
 use pin_core::View;

@@ -26,7 +26,7 @@ NamesLeaving tag (Leaving t f) = t ≡ tag
 abbrev pub entries_seen : View → ℕ → List MapEntry
 entries_seen v p = unwrap_or (hold v p).seen []
 
--- The map of the partition p went out as `was`, and came back as `entries`, where the view v became w
+-- The map of the partition p went out as `was`, and came back as `entries`, as the view v became w
 pub record WentAndCame (was entries : List MapEntry) (p : ℕ) (v w : View) : Type 0 where
   pub between : View
   pub out : DidMap (map_out was) p v between

@@ -17,7 +17,8 @@ use pin_core::View;
 use segment_store::BlockLane;
 use table_rule::Value;
 
-/// A number modulo a count: by a mask if that is a power of two, since a division would take longer than the rest of the way to a hint.
+/// A number modulo a count: by a mask if that is a power of two, since a division would take longer
+/// than the rest of the way to a hint.
 fn remainder(number: u64, count: u64) -> u64
     requires { 0 < count }
     ensures { result ≡ number % count }

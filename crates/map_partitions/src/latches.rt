@@ -14,7 +14,8 @@ use segment_store::BlockLane;
 use std::sync::Wait;
 use table_rule::{Turn, Value};
 
-/// Waits until the partition's latch is free, and takes it. A backend that has it already would wait for ever.
+/// Waits until the partition's latch is free, and takes it. A backend that has it already would
+/// wait forever.
 pub fn take_turn<L: BlockLane, G: LogDevice, R: Wait>(
     table: &FrameTable<L, G>,
     rt: &R,

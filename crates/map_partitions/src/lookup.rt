@@ -19,7 +19,8 @@ use pin_core::View;
 use segment_store::BlockLane;
 use table_rule::Value;
 
-/// The frame that the map gives for the tag, whose partition's latch the backend has (`BufTableLookup`). Where the backend pins that frame and remembers a tag there, it is this tag.
+/// The frame that the map gives for the tag, whose partition's latch the backend has
+/// (`BufTableLookup`). If the backend pins that frame and remembers a tag there, it is this tag.
 pub fn find<L: BlockLane, G: LogDevice>(
     table: &FrameTable<L, G>,
     seat: &mut Seat<Value<L, G>, View>,

@@ -14,7 +14,8 @@ ghost use Rattle.table_rule.specs.Layout.{tag_partition};
 ghost use Rattle.table_rule.specs.declared.turn.Turn.TheVariants.{Partition};
 ghost use Rattle.frame_table.specs.Content.{CanLock, exclusive_link};
 ghost use Rattle.frame_table.specs.Latches.{MayLeave};
-ghost use Rattle.frame_table.specs.Seats.{CanStep, CanTurn, Finds, HasFlag, HasOnlyPin, HoldsWord, MayChange, relations_of};
+ghost use Rattle.frame_table.specs.Seats.{CanStep, CanTurn, Finds, HasFlag, HasOnlyPin, HoldsWord};
+ghost use Rattle.frame_table.specs.Seats.{MayChange, relations_of};
 ghost use Rattle.map_partitions.specs.Partition.{HoldsLatch};
 ghost use Rattle.buffer_frames.specs.Rests.{HasOneLatch};
 

@@ -9,7 +9,7 @@ use Rattle.table_rule.specs.declared.noted_lane.LaneCall.TheVariants.{Untouched,
 
 -- Lanes, as their trait tells them
 pub record LaneDevices (L : Type 0) : Type 0 where
-  -- the pages of a lane, and the blocks whose last write failed, where they are known
+  -- the pages of a lane, and the blocks whose last write failed, if they are known
   pub contents : L → Option Pages
   pub failed_writes : L → Marks
   -- the blocks that were written since the last sync that succeeded
@@ -55,7 +55,7 @@ module _ {L : Type 0} (d : LaneDevices L) where
     pub reads : d.read_faults after ≡ d.read_faults before
     pub writes : Rose (d.write_faults before) (d.write_faults after)
 
-  -- where the contents are known they have this page for the tag
+  -- if the contents are known they have this page for the tag
   abbrev pub Gave : Tag → List ℕ → L → Type 0
   Gave tag page l = (known : Pages) → d.contents l ≡ Some known → known tag ≡ Some page
 

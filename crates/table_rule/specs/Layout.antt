@@ -2,13 +2,15 @@
 use Rattle.std.specs.Prelude.{ℕ, ◌+◌, ◌*◌, ◌<◌, List, ◌∷◌, replicate, Option, Some, None}
 use Rattle.block_tag.specs.declared.tag.Tag.{Tag}
 use Rattle.block_tag.specs.Names.{unpacked_tag, partition_number, lane_number}
-use Rattle.history_core.specs.Words.{Word, end_word, flushed_word, redo_word, hand_word, counter_word, counter_count, hint_word, hint_count}
+use Rattle.history_core.specs.Words.{Word, end_word, flushed_word, redo_word, hand_word}
+use Rattle.history_core.specs.Words.{counter_word, counter_count, hint_word, hint_count}
 use Rattle.table_rule.specs.declared.turn.Place.{Place}
 use Rattle.table_rule.specs.declared.turn.Place.TheVariants.{Page, Of}
 use Rattle.table_rule.specs.declared.turn.Turn.{Turn}
 use Rattle.table_rule.specs.declared.turn.Turn.TheVariants.{Partition, Lane, Log}
 
--- the words of the frame f: its state word, its tag word, and its content word, and five that aren't used, so that frames share no cache line
+-- the words of the frame f: its state word, its tag word, and its content word, and five that
+-- aren't used, so that frames share no cache line
 abbrev pub state_place : ℕ → ℕ
 state_place f = 8 * f
 

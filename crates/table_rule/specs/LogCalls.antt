@@ -11,7 +11,7 @@ use Rattle.table_rule.specs.declared.noted_log.LogCall.{LogCall}
 use Rattle.table_rule.specs.declared.noted_log.LogCall.TheVariants as log_call
 use Rattle.table_rule.specs.Blocks.{block_name}
 
--- the record of the entry of a page, which starts at this position, where the block's relation is this
+-- the record of the entry of a page, which starts at this position, if the block's relation is this
 abbrev pub block_record : RelEntry → Tag → ℕ → Page → List ℕ
 block_record e tag start page = record_bytes (λ _. block_name e tag) (record { start = start; backend = 0; change = image (packed_tag tag) page })
 
@@ -31,7 +31,8 @@ has_failed (log_call.AppendFailed f tag page bytes) = true
 has_failed log_call.SyncFailed = true
 has_failed _ = false
 
--- A log tells its bytes, where they are known, how many of them are durable, how many calls failed, and how many were made
+-- A log tells its bytes, if they are known, how many of them are durable, how many calls failed,
+-- and how many were made
 module _ {G : Type 0} (bytes : G → Option (List ℕ)) (synced faults calls : G → ℕ) where
   -- the piece follows the bytes that were there
   pub record HasAppended (piece : List ℕ) (g g' : G) : Type 0 where

@@ -58,7 +58,7 @@ HasTurn lanes turn.Log = Unit {0}
 
 -- What the words say of the latches, and of the other words
 pub record ShowsLatches (n lanes : ℕ) (words : List ℕ) (s : State) : Type 0 where
-  -- a latch is taken where its word is 1, and else its word is 0
+  -- a latch is taken if its word is 1, and else its word is 0
   pub latch : (x : Turn) → HasTurn lanes x → slice_index words (latch_place n x) ≡ flag_weight (is_taken x s)
   pub word : (w : Word) → HasWord n w → slice_index words (word_place n w) ≡ word_of w s
 
@@ -137,7 +137,7 @@ pub record GivesEntries (n : ℕ) (entries : Vec Mapped Global) (m : ℕ → Opt
 
 -- The devices, as their traits tell them
 pub record Devices (L G : Type 0) : Type 0 where
-  -- the pages of a lane, and the blocks whose last write failed, where they are known
+  -- the pages of a lane, and the blocks whose last write failed, if they are known
   pub contents : L → Option Pages
   pub failed_writes : L → Marks
   -- the blocks that were written since the last sync that succeeded
@@ -146,7 +146,7 @@ pub record Devices (L G : Type 0) : Type 0 where
   pub read_faults : L → ℕ
   pub write_faults : L → ℕ
   pub lane_calls : L → ℕ
-  -- the bytes of a log, and how many of them are durable, where they are known
+  -- the bytes of a log, and how many of them are durable, if they are known
   pub bytes : G → Option (List ℕ)
   pub synced : G → ℕ
   -- how many appends and syncs have failed, and how many were made
@@ -194,12 +194,13 @@ module _ {L G : Type 0} where
     pub faults : dev.faults ≡ d.log_faults g
     pub down : dev.down ≡ mark
 
-  -- What the devices are as a table is built over them: where a lane's contents are known it holds the relations' blocks that lie there, and the last write of none of these has failed
+  -- What the devices are as a table is built over them: if a lane's contents are known it holds the
+  -- relations' blocks that lie there, and the last write of none of these has failed
   pub record AreLanes (d : Devices L G) (relations : List RelEntry) (lanes : List L) : Type 0 where
     pub held : (q : ℕ) (l : L) (known : Pages) (word : ℕ) (tag : Tag) → get_elem? lanes q ≡ some l → d.contents l ≡ Some known → IsPlaced relations (length lanes) q word tag → is_some (known tag) ≡ true
     pub unfailed : (q : ℕ) (l : L) (known : Pages) (word : ℕ) (tag : Tag) → get_elem? lanes q ≡ some l → d.contents l ≡ Some known → IsPlaced relations (length lanes) q word tag → d.failed_writes l tag ≡ false
 
-  -- and where the log's are, it holds just the head
+  -- A new log, as a table is built over it: if its contents are known they are just the head
   pub record IsNewLog (d : Devices L G) (base : ℕ) (g : G) : Type 0 where
     pub head : (known : List ℕ) → d.bytes g ≡ Some known → known ≡ head_bytes base
     pub synced : (known : List ℕ) → d.bytes g ≡ Some known → d.synced g ≤ length known

@@ -1,4 +1,4 @@
--- What a lane is as it goes out: its counts and, where its contents are known, its blocks.
+-- What a lane is as it goes out: its counts and, if its contents are known, its blocks.
 use Rattle.std.specs.Prelude.{◌≡◌, ℕ, zero, suc, ◌^◌, Bool, true, false, ◌&&◌, nat_eq, List, [], ◌∷◌, ◌++◌, filter, map, Option, Some, None, unwrap_or, IsSome}
 use Rattle.std.specs.Option.{ForSome}
 use Rattle.block_tag.specs.declared.tag.Tag.{Tag}
@@ -51,7 +51,7 @@ block_page known marks word = record { tag = word; page = page_named known (unpa
 abbrev pub block_mark : Marks → ℕ → BlockMark
 block_mark marks word = record { tag = word; unsynced = mark_named marks (unpacked_tag word) }
 
--- the page that a lane holds for a tag, where its contents are known, and else this one
+-- the page that a lane holds for a tag, if its contents are known, and else this one
 abbrev pub page_held : Option Pages → Tag → List ℕ → List ℕ
 page_held None tag page = page
 page_held (Some known) tag page = unwrap_or (known tag) page
@@ -65,6 +65,6 @@ module _ {L : Type 0} (d : LaneDevices L) (relations : List RelEntry) (lanes q :
   abbrev pub taken_lane : L → TakenLane
   taken_lane l = record { pages = block_pages (blocks_in_lane relations lanes q) (d.contents l) (d.failed_writes l); marks = map (block_mark (d.unsynced l)) (blocks_in_lane relations lanes q); read_faults = d.read_faults l; write_faults = d.write_faults l; calls = d.calls l }
 
-  -- where its contents are known it holds each block that lies there
+  -- if its contents are known it holds each block that lies there
   abbrev pub HoldsBlocks : L → Type 0
   HoldsBlocks l = (tag : Tag) → IsBlockOf relations lanes q tag → ForSome (d.contents l) (λ known. IsSome (known tag))

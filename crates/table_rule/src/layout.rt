@@ -13,7 +13,8 @@ pub const FIRST_LANE: usize = PARTITIONS as usize;
 /// Where the log's latch and slot lie after those of the frames: after the lanes'.
 pub const LOG_PLACE: usize = FIRST_LANE + MOST_LANES;
 
-/// How many counters there are: hits, reads, writes, evictions and reuses, without a ring and for each of the three kinds of ring.
+/// How many counters there are: hits, reads, writes, evictions and reuses, without a ring and for
+/// each of the three kinds of ring.
 pub const COUNTERS: u32 = 20;
 
 /// How many hint words there are for each frame.

@@ -1,8 +1,8 @@
-//! The rule of the table that the backends share: what its words and slots are, where they lie, and what they show of
-//! the state of the protocol in `history_core`.
+//! The rule of the table that the backends share: what its words and slots are, where they lie, and
+//! what they show of the state of the protocol in `history_core`.
 //!
-//! [`Opening`] has what a table is built from, [`Value`] what lies in a slot, and [`Rule`] ties both to the protocol.
-//! The functions to call are in `frame_table`.
+//! [`Opening`] has what a table is built from, [`Value`] what lies in a slot, and [`Rule`] ties both
+//! to the protocol. The functions to call are in `frame_table`.
 #![tactic(auto)]
 
 mod build;
@@ -24,7 +24,7 @@ pub use layout::{
     end_place, flushed_place, hand_place, hint_place, redo_place, state_place, tag_place,
 };
 pub use noted_lane::{LaneCall, NotedLane};
-pub use noted_log::{LogCall, NotedLog, RECORD_SIZE};
+pub use noted_log::{LAST_POSITION, LogCall, NotedLog, RECORD_SIZE};
 pub use opening::Opening;
 pub use rule::Rule;
 pub use turn::{Place, Turn};

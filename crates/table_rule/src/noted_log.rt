@@ -19,6 +19,9 @@ use std::snapshot::Snapshot;
 /// How many bytes of the log the record of a page takes. No record takes more.
 pub const RECORD_SIZE: Lsn = 8224;
 
+/// The greatest position that a log may reach.
+pub const LAST_POSITION: Lsn = 1 << 62;
+
 /// The kind of a record of a page.
 const PAGE_RECORD: u32 = 1;
 
@@ -167,7 +170,8 @@ impl<G: LogDevice> NotedLog<G> {
         self.down = Some(end);
     }
 
-    /// Appends the record in the buffer, for this page of a frame's block. Where that fails the log is down, with its end.
+    /// Appends the record in the buffer, for this page of a frame's block. If that fails the log is
+    /// down, with its end.
     pub fn append(&mut self, frame: u32, tag: Tag, page: &Page, end: u64) -> Result<(), Failed>
         requires untouched { self.old.call ≡ log_call.Untouched }
         requires up { self.old.down ≡ None }
@@ -198,7 +202,8 @@ impl<G: LogDevice> NotedLog<G> {
         result
     }
 
-    /// Makes what was appended durable (`issue_xlog_fsync`). Where that fails the log is down, with its end.
+    /// Makes what was appended durable (`issue_xlog_fsync`). If that fails the log is down, with
+    /// its end.
     pub fn sync(&mut self, end: u64) -> Result<(), Failed>
         requires untouched { self.old.call ≡ log_call.Untouched }
         requires up { self.old.down ≡ None }

@@ -65,7 +65,7 @@ pub record StillUnflushed (lsn end : ℕ) (Work : View → View → Type 0) (v w
   pub second : SeesUnflushed lsn v looked
   pub work : Work looked w
 
--- What the holder of the latch did where it found the log flushed up to `lsn`, or flushed it
+-- What the holder of the latch did if it found the log flushed up to `lsn`, or flushed it
 abbrev pub HolderFlushed : ℕ → ℕ → FlushedBy → View → View → Type 0
 HolderFlushed lsn end NoSync v w = FindsFlushed lsn end v w
 HolderFlushed lsn end OneSync v w = StillUnflushed lsn end SyncsLog v w
@@ -112,7 +112,8 @@ FlushSeesEnd (LogShort lsn end) v w = (v.end_seen ≤ end) × (end ≤ w.end_see
 FlushSeesEnd (LogDown at) v w = (v.end_seen ≤ at) × (at ≤ w.end_seen)
 FlushSeesEnd LogFault v w = Unit {0}
 
--- where the log is too short each page that the view has copied has a position at its end or before it, or is the one that its block's lane held as the table was opened, where that is known
+-- if the log is too short each page that the view has copied has a position at its end or before
+-- it, or is the one that its block's lane held as the table was opened, if that is known
 abbrev pub ShortOf : {L G : Type 0} → (L → Option Pages) → FrameTable L G → View → FlushLog → Type 0
 ShortOf contents t v (LogShort lsn end) = LoggedOrOpening contents t end v
 ShortOf contents t v _ = Unit {0}

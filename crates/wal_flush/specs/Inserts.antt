@@ -52,7 +52,8 @@ pub record Enters (relations : List RelEntry) (f : ℕ) (tag : Tag) (start : ℕ
   pub did : DidEnter f p home w
   pub after : w ≡ view_entered f (packed_tag tag) p (start + record_size) home
 
--- The one call of the log was the append of such a record, and it failed: a part, the first bytes of the record, follows the log; where the log's contents aren't known it is []
+-- The one call of the log was the append of such a record, and it failed: a part, the first bytes
+-- of the record, follows the log; if the log's contents aren't known it is []
 pub record FailsToAppend (relations : List RelEntry) (f : ℕ) (tag : Tag) (start : ℕ) (p : Page) (v w : View) : Type 0 where
   pub out : View
   pub bytes : List ℕ

@@ -71,7 +71,8 @@ fn sync<L: BlockLane, G: LogDevice>(
     }
 }
 
-/// Looks at the flushed position once more, under the latch, and syncs the log where no other backend has flushed it as far as `lsn` meanwhile.
+/// Looks at the flushed position once more, under the latch, and syncs the log if no other backend
+/// has flushed it as far as `lsn` meanwhile.
 fn flush_held<L: BlockLane, G: LogDevice>(
     table: &FrameTable<L, G>,
     seat: &mut Seat<Value<L, G>, View>,
@@ -122,7 +123,11 @@ fn await_flushed<L: BlockLane, G: LogDevice, R: Wait>(
 
 /// Makes the log durable up to the position `lsn` (`XLogFlush`). The backend has then seen a flushed position of `lsn` or more.
 ///
-/// Where the flushed position is so far already no device is called. Else it waits for the log's latch and looks once more: where another backend has flushed the log so far meanwhile no device is called either, whether the log is down by then or not. Else it makes one sync at most. It refuses where the log ends before `lsn`, as for the position of a page that was on disk before the log began; then, where it isn't flushed so far under the latch, where it is down, and where the sync fails.
+/// If the flushed position is so far already no device is called. Else it waits for the log's latch
+/// and looks once more: if another backend has flushed the log so far meanwhile no device is called
+/// either, whether the log is down by then or not. Else it makes one sync at most. It refuses if
+/// the log ends before `lsn`, as for the position of a page that was on disk before the log began;
+/// then, if it isn't flushed so far under the latch, if it is down, and if the sync fails.
 pub fn flush_to<L: BlockLane, G: LogDevice, R: Wait>(
     table: &FrameTable<L, G>,
     rt: &R,

@@ -22,11 +22,8 @@ use page_layout::{Lsn, Page};
 use pin_core::View;
 use segment_store::BlockLane;
 use std::sync::Wait;
-use table_rule::RECORD_SIZE;
+use table_rule::{LAST_POSITION, RECORD_SIZE};
 use thiserror::Error;
-
-/// The greatest position that a log may reach.
-pub const LAST_POSITION: Lsn = 1 << 62;
 
 /// Why a page was not inserted.
 #[derive(Clone, Copy, PartialEq, Eq, Debug, Error)]
@@ -58,7 +55,7 @@ fn show_bytes(bytes: &[u8])
     ensures { (k : ℕ) → slice_index bytes.now k < 256 }
 {}
 
-/// The page's log position. Where another one is set, this one puts the page back.
+/// The page's log position. If another one is set, this one puts the page back.
 fn position_of(page: &Page) -> Lsn
     ensures size { length page.now ≡ 8192 }
     ensures restores { (lsn : ℕ) → with_lsn result (with_lsn lsn page.now) ≡ page.now }
@@ -138,7 +135,9 @@ fn enter<L: BlockLane, G: LogDevice>(
 
 /// Inserts a page of the frame's block into the log (`XLogInsert`). It answers the position of the entry's end, which the page has then (`pd_lsn`). The backend has the frame's content lock exclusively, and marked the frame dirty under it; it has to apply the entry to the frame next.
 ///
-/// It waits for the log's latch, and makes one append at most. It refuses where the log is full, then where it is down, then where the append fails. After a refusal the page is as it was, and no entry was made.
+/// It waits for the log's latch, and makes one append at most. It refuses if the log is full, then
+/// if it is down, then if the append fails. After a refusal the page is as it was, and no entry was
+/// made.
 pub fn insert<L: BlockLane, G: LogDevice, R: Wait>(
     table: &FrameTable<L, G>,
     rt: &R,
