@@ -46,7 +46,7 @@ one_token tokens = nat_eq tokens 1
 abbrev pub refused_tokens : ℕ → Option ℕ
 refused_tokens tokens = if one_token tokens then None else Some tokens
 
--- and how many an answer refuses
+-- how many local pins an answer refuses
 abbrev pub local_pins : {A : Type 0} → Result A CleanupError → Option ℕ
 local_pins (Err (lock.LocalPins count)) = Some count
 local_pins _ = None

@@ -32,7 +32,8 @@ with_pushed f v = record v { pushed = v.pushed ++ f ∷ [] }
 abbrev pub with_taken : ℕ → QueueView → QueueView
 with_taken f v = record v { taken = v.taken ++ f ∷ [] }
 
--- after it gave a part away, and what a new backend knows; after it took another in, of which nothing is left
+-- what a backend knows after it gave a part away, and what a new backend knows; what it knows after
+-- it took another in, of which nothing is left
 abbrev pub kept_part : QueueView → QueueView
 kept_part v = record v { parts = v.parts - 1 }
 

@@ -18,7 +18,7 @@ pub record KeepsFrames (v w : View) : Type 0 where
   pub grows : Grows v w
   pub links : (g : ℕ) → Looked (link v g) (link w g)
 
--- and it has got the header of the frame f, with this word
+-- the view keeps frames so, and has got the header of the frame f, with this word
 pub record GetsHeader (f word : ℕ) (v w : View) : Type 0 where
   pub aside : SameAside v w
   pub grows : Grows v w

@@ -38,7 +38,7 @@ pub record CanStartIo (input : Bool) (l : Link) : Type 0 where
   pub to_read : input ≡ true → l.role ≡ HandedOut
   pub to_write : input ≡ false → l.content ≡ Shared
 
--- it may end: for a read the page is home
+-- a read or a write may end so: for a read the page is home
 pub record MayEndIo (end : IoEnd) (l : Link) : Type 0 where
   pub home : l.io ≡ io.Input → l.out ≡ None
   pub ends : EndsAs end l

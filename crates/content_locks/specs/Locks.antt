@@ -50,7 +50,7 @@ pub record CanCopy (l : Link) : Type 0 where
   pub home : l.out ≡ None
   pub no_copy : l.copying ≡ false
 
--- and it has what the page needs to go out
+-- the view may copy the page of a frame: it has what the page needs to go out
 pub record MayCopy (l : Link) : Type 0 where
   pub right : l.content ≢ Unlocked
   pub applied : l.unapplied ≡ false
@@ -70,7 +70,8 @@ pub record CopiesPage (f : ℕ) (page : Page) (v w : View) : Type 0 where
   pub found : (link between f).out ≡ Some page
   pub back : ReturnsBy (overwriting (link between f)) f between w came
 
--- it did so after loads of the content word, or under the copy latch, which was taken and left
+-- The page was copied after loads of the content word, or under the copy latch, which was taken and
+-- left
 pub data Copies (f : ℕ) (page : Page) : View → View → Type 0 where
   alone : {v u w : View} → LooksAtContent f v u → CopiesPage f page u w → Copies f page v w
   latched : {v u x w : View} (left : ℕ) → LocksContent paged.take_copy f v u → CopiesPage f page u x → Did (pages paged.leave_copy) f x w left → Copies f page v w

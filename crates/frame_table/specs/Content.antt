@@ -42,7 +42,7 @@ pub record CanDropExclusive (l : Link) : Type 0 where
   pub applied : l.unapplied ≡ false
   pub page_home : l.out ≡ None
 
--- and whose copy latch it gives up
+-- a frame whose copy latch the view gives up
 pub record CanDropCopy (l : Link) : Type 0 where
   pub right : l.copying ≡ true
   pub page_home : l.out ≡ None
@@ -51,19 +51,19 @@ pub record CanDropCopy (l : Link) : Type 0 where
 abbrev pub shared_link : Link → Link
 shared_link l = record l { content = Shared }
 
--- and exclusive
+-- the link with an exclusive content lock
 abbrev pub exclusive_link : Link → Link
 exclusive_link l = record l { content = Exclusive }
 
--- without the shared lock, and so without what was copied under it
+-- the link without the shared lock, and so without what was copied under it
 abbrev pub unshared_link : Link → Link
 unshared_link l = record l { content = Unlocked; copied = None }
 
--- without the exclusive lock, likewise
+-- the link without the exclusive lock, and so without what was copied, marked or entered under it
 abbrev pub unexclusive_link : Link → Link
 unexclusive_link l = record l { content = Unlocked; copied = None; dirtied = false; entered = false }
 
--- with the copy latch, and without it
+-- the link with the copy latch, and without it
 abbrev pub copying_link : Bool → Link → Link
 copying_link taken l = record l { copying = taken }
 
@@ -125,14 +125,14 @@ abbrev pub begun_link : Bool → Link → Link
 begun_link true l = record l { header = None; io = Input; read = None; read_is_home = false }
 begun_link false l = record l { header = None; io = Output }
 
--- without the right, after this end: a good read has seen BM_VALID
+-- the link without the right, after this end: a good read has seen BM_VALID
 abbrev pub finished_link : IoEnd → Link → Link
 finished_link end l = record l { seen_valid = saw_valid end l.seen_valid; header = None; io = Quiet; read = None; read_is_home = false; last_write = Unwritten }
 
--- at a frame that the checkpoint has visited and that is left for it to write
+-- the link at a frame that the checkpoint has visited and that is left for it to write
 abbrev pub left_to_write_link : Link → Link
 left_to_write_link l = record l { header = None; visited = true; left_to_write = true }
 
--- with a wait under the number
+-- the link with a wait under the number
 abbrev pub waiting_link : ℕ → Link → Link
 waiting_link number l = record l { header = None; waits = Some number }

@@ -59,7 +59,7 @@ abbrev pub IsAllowed : FrameKind → State → ℕ → View → Type 0
 IsAllowed (pins k) s f v = pin.Allowed k (s.pool.core.frame f) (link v f)
 IsAllowed (pages k) s f v = IsPlain k × paged.Allowed k (block_of_frame s f) (s.pool.core.frame f) (link v f)
 
--- and by the whole view, and the partitions
+-- when a kind is allowed, by the whole view, and the partitions
 abbrev pub IsAllowedAround : FrameKind → State → ℕ → View → Type 0
 IsAllowedAround (pins k) s f v = pin_steps.AllowedAround k s.pool.core v f
 IsAllowedAround (pages k) s f v = page_steps.AllowedAround k s.pool v f
@@ -69,12 +69,12 @@ abbrev pub frame_after : FrameKind → State → ℕ → Frame
 frame_after (pins k) s f = pin.frame_after k (s.pool.core.frame f)
 frame_after (pages k) s f = paged.frame_after k (block_of_frame s f) (s.pool.core.frame f)
 
--- and of what the view v has there
+-- what a kind makes of what the view v has at the frame f
 abbrev pub link_after : FrameKind → State → ℕ → View → Link
 link_after (pins k) s f v = pin.link_after k (s.pool.core.frame f) (link v f)
 link_after (pages k) s f v = paged.link_after k (block_of_frame s f) (s.pool.core.frame f) (link v f)
 
--- and of the whole view
+-- what a kind at the frame f makes of the whole view
 abbrev pub view_after : FrameKind → State → ℕ → View → View
 view_after (pins k) s f v = pin.view_after k s.pool.core.partition_of f (s.pool.core.frame f) (link v f) v
 view_after (pages k) s f v = paged.view_after k f (block_of_frame s f) (s.pool.core.frame f) (link v f) v

@@ -212,7 +212,7 @@ module _ {L G : Type 0} where
   lane_went d known relations lanes frames q place st m found m' = (l : NotedLane L) × (m'.1 ≡ (place, value.Lane l) ∷ m.1) × (l.call ≡ Untouched) × (l.number ≡ q) × IsTakenLane d known relations lanes q l.device
       × (m'.0 ≡ out_view q (taken_lane d relations lanes q l.device) m.0) × DidSteps (out_events q (taken_lane d relations lanes q l.device)) m.0 m'.0 × IsWide frames lanes m.0
 
-  -- in a table: what its lane is, when it may go out and when it may come back
+  -- what a lane of a table is as it goes out, when it may go out, and when it may come back
   abbrev pub taken_at : LaneDevices L → FrameTable L G → ℕ → L → TakenLane
   taken_at d t q l = taken_lane d (relations_of t) (lanes_in t) q l
 

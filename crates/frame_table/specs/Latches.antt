@@ -52,13 +52,13 @@ abbrev pub LatchAllowed : Bool → Turn → State → View → Type 0
 LatchAllowed true x s v = is_taken x s ≡ false
 LatchAllowed false x s v = MayLeave x v
 
--- What it makes of the view
+-- What a step at a latch makes of the view
 abbrev pub view_latched : Bool → Turn → State → View → View
 view_latched takes (Partition p) s v = parts.view_turned (part_kind takes) p (hold v p) v
 view_latched takes (Lane q) s v = stepped (laned (lane_kind takes) q v v)
 view_latched takes Log s v = logs.view_logged (log_kind takes) v
 
--- and of the state, by backend i, whose view is v
+-- what a step at a latch makes of the state, by backend i, whose view is v
 abbrev pub state_latched : Bool → Turn → State → ℕ → View → State
 state_latched takes (Partition p) s i v = record s { pool = record s.pool { core = pin_steps.state_turned (part_kind takes) s.pool.core i p v } }
 state_latched takes (Lane q) s i v = record s { pool = aside s.pool i (view_latched takes (Lane q) s v); lane = put s.lane q (lanes.lane_after (lane_kind takes) (s.lane q)) }
@@ -164,12 +164,12 @@ module _ {L G : Type 0} where
   IsMap n (value.Map m) entries = (map entry_of m.items ≡ entries) × AreApart m.items × (n ≤ vec_capacity m)
   IsMap n _ entries = ⊥
 
-  -- and it has room for the pair that the view is entering
+  -- the value is a map with room for the pair that the view is entering
   abbrev pub TakesPair : PartitionHold → Value L G → Type 0
   TakesPair h (value.Map m) = HasRoomFor h m
   TakesPair h _ = ⊥
 
-  -- its frames are among the n of the table
+  -- the value is a map whose frames are among the n of the table
   abbrev pub GivesFrames : ℕ → Value L G → Type 0
   GivesFrames n (value.Map m) = AreBelow n m.items
   GivesFrames n _ = ⊥

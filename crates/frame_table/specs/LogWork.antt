@@ -95,7 +95,7 @@ abbrev pub torn_home : LogCall → List TornRecord → List TornRecord
 torn_home (log_call.AppendFailed f tag page piece) xs = xs ++ record { tag = packed_tag tag; page = page.value } ∷ []
 torn_home _ xs = xs
 
--- and the steps
+-- how many steps the return of the log takes, after this call
 abbrev pub home_steps : LogCall → ℕ
 home_steps log_call.Untouched = 1
 home_steps _ = 2

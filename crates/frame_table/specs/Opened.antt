@@ -26,7 +26,7 @@ use Rattle.frame_table.specs.FrameSteps.{always, looking, tells}
 abbrev pub WasHeld : List RelEntry → ℕ → List (Option Pages) → Tag → Page → Type 0
 WasHeld relations lanes held tag page = (q : ℕ) (known : Pages) → IsBlockOf relations lanes q tag → get_elem? held q ≡ some (Some known) → known tag ≡ Some page
 
--- and that page is sound
+-- the page of a tag's block at the start is sound, if it is known
 abbrev pub WasHeldSound : List RelEntry → ℕ → List (Option Pages) → Tag → Type 0
 WasHeldSound relations lanes held tag = (q : ℕ) (known : Pages) (page : Page) → IsBlockOf relations lanes q tag → get_elem? held q ≡ some (Some known) → known tag ≡ Some page → is_sound_page page ≡ true
 

@@ -31,7 +31,7 @@ by_input Quiet read = None
 abbrev pub overwriting : Link → Option paged.Kind
 overwriting l = if l.unapplied then Some paged.overwrite_logged else by_input l.io l.read
 
--- and the page that it is then; else it is as it was taken
+-- the page that comes back: what it was overwritten with, or else as it was taken
 abbrev pub input_page : Io → Option Page → Option Page → Option Page
 input_page Input (Some p) out = Some p
 input_page Input None out = out
@@ -79,6 +79,6 @@ module _ {L G : Type 0} where
   abbrev pub page_went : ℕ → ℕ → Step (Value L G) → Me (Value L G) View → ℕ → Me (Value L G) View → Type 0
   page_went f slot st m found m' = (y : Value L G) × (page : Page) × (m'.1 ≡ (slot, y) ∷ m.1) × IsPage y page × ((link m'.0 f).out ≡ Some page) × Did (pages paged.page_out) f m.0 m'.0 found
 
-  -- and came back
+  -- the page of f came back from the seat
   abbrev pub page_came : ℕ → Step (Value L G) → Me (Value L G) View → ℕ → Me (Value L G) View → Type 0
   page_came f st m found m' = (m'.1 ≡ rest m.1) × ReturnsBy (overwriting (link m.0 f)) f m.0 m'.0 found

@@ -175,11 +175,11 @@ pub record Looked (l m : Link) : Type 0 where
 abbrev pub pinned_link : Bool → Link → Link
 pinned_link ring l = record l { role = HandedOut; ring = ring }
 
--- after a pin of the frame that a map gives for the tag
+-- the link after a pin of the frame that a map gives for the tag
 abbrev pub mapped_link : ℕ → Bool → Link → Link
 mapped_link tag ring l = record l { role = HandedOut; tag = Some tag; ring = ring }
 
--- and without a pin
+-- the link without a pin
 abbrev pub unpinned_link : Link → Link
 unpinned_link l = record l {
   role = Absent;
@@ -189,11 +189,11 @@ unpinned_link l = record l {
   inside = false;
 }
 
--- with the header locked, whose word is the number
+-- the link with the header locked, whose word is the number
 abbrev pub locked_link : ℕ → Link → Link
 locked_link word l = record l { header = Some (fields word) }
 
--- and unlocked
+-- the link with the header unlocked
 abbrev pub unlocked_link : Link → Link
 unlocked_link l = record l { header = None }
 
@@ -359,14 +359,14 @@ module _ {L G : Type 0} where
   abbrev pub relations_of : FrameTable L G → List RelEntry
   relations_of t = t.table.shared.key.catalog.value
 
-  -- how many lanes it has, and what they were when it was opened
+  -- how many lanes the table has, and what they were when it was opened
   abbrev pub lanes_in : FrameTable L G → ℕ
   lanes_in t = t.table.shared.key.config.lanes
 
   abbrev pub opened_of : FrameTable L G → List L
   opened_of t = t.table.shared.key.lanes.value.items
 
-  -- where its log begins
+  -- where the table's log begins
   abbrev pub base_of : FrameTable L G → ℕ
   base_of t = t.table.shared.key.base
 
@@ -374,12 +374,12 @@ module _ {L G : Type 0} where
   abbrev pub Fits : FrameTable L G → Seat (Value L G) View → Type 0
   Fits t s = s.table_id ≡ t.table.shared.table_id
 
-  -- and its backend is there
+  -- the seat is one of the table, and its backend is there
   pub record IsSeat (t : FrameTable L G) (s : Seat (Value L G) View) : Type 0 where
     pub fits : Fits t s
     pub live : s.me.0.emptied ≡ false
 
-  -- and can step at the frame f
+  -- the seat is one of the table, its backend is there, and it can step at the frame f
   pub record CanStep (t : FrameTable L G) (s : Seat (Value L G) View) (f : ℕ) : Type 0 where
     pub fits : Fits t s
     pub live : s.me.0.emptied ≡ false

@@ -32,7 +32,7 @@ module _ {L G : Type 0} where
   MayGoOut t s (place.Of (Lane q)) = CanTurn t s (Lane q) × ((lane_hold s.me.0 q).held ≡ true) × ((lane_hold s.me.0 q).out ≡ None)
   MayGoOut t s (place.Of Log) = CanTurn t s Log × (s.me.0.log.held ≡ true) × (s.me.0.log.out ≡ None)
 
-  -- it went out as this value, and the view v became w
+  -- what lies there went out as this value, and the view v became w
   abbrev pub WentOutAs : Devices L G → FrameTable L G → Place → Value L G → View → View → Type 0
   WentOutAs d t (place.Page f) (value.Page p) v w = Touches f v w × SameMarks v w × (link w f ≡ page_out_link p (link v f)) × ((link w f).overwritten ≡ None) × ((found : ℕ) × Did (pages kinds.page_out) f v w found)
   WentOutAs d t (place.Of (Partition p)) (value.Map m) v w = AreApart m.items × (frames_of t ≤ vec_capacity m) × HasRoomFor (hold v p) m × SameWork v w × MapStep p (out_hold (map entry_of m.items) (hold v p)) v w × AreBelow (frames_of t) m.items × DidMap (map_out (map entry_of m.items)) p v w
@@ -48,7 +48,7 @@ module _ {L G : Type 0} where
   MayReturnAs d t s (place.Of Log) (value.Log g) = CanTurn t s Log × (record_size ≤ vec_capacity g.buffer) × MayComeHome d.bytes d.synced d.log_faults d.log_calls (relations_of t) g s.me.0
   MayReturnAs d t s x y = ⊥
 
-  -- and as it did the view v became w
+  -- as the value came back the view v became w
   abbrev pub CameBackAs : Devices L G → Place → Value L G → View → View → Type 0
   CameBackAs d (place.Page f) (value.Page p) v w = Touches f v w × SameMarks v w × (link w f ≡ returned_link p (link v f)) × ((found : ℕ) × ReturnsBy (overwriting (link v f)) f v w found)
   CameBackAs d (place.Of (Partition p)) (value.Map m) v w = SameWork v w × MapStep p (back_hold (map entry_of m.items) (hold v p)) v w × ComesBack (map entry_of m.items) p v w (hold v p).change

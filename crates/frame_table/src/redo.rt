@@ -14,8 +14,8 @@ use segment_store::BlockLane;
 use table_rule::{Value, redo_place};
 
 impl<L: BlockLane, G: LogDevice> FrameTable<L, G> {
-    /// Loads the redo position (`RedoRecPtr`), for which the backend holds the log's latch. A page
-    /// whose position is at most this is logged whole.
+    /// Loads the redo position (`RedoRecPtr`). The backend holds the log's latch, so the position
+    /// stays while it does. No call needs it yet: every page is logged whole.
     pub fn load_redo(&self, seat: &mut Seat<Value<L, G>, View>) -> u64
         requires seat { IsSeat self.now seat.old }
         requires held { seat.old.me.0.log.held ≡ true }

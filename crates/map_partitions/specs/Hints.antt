@@ -19,7 +19,7 @@ hint_value (Some f) = f + 1
 abbrev pub LoadsHint : ℕ → Tag → Option ℕ → View → View → Type 0
 LoadsHint n tag frame v w = DidWord (load_hint (hint_number tag n)) v w (hint_value frame)
 
--- and by a store of it, which names the frame f then
+-- The view v became w by a store of the tag's hint word, which names the frame f then
 pub record StoresHint (n : ℕ) (tag : Tag) (f : ℕ) (v w : View) : Type 0 where
   pub found : ℕ
   pub did : DidWord (store_hint (hint_number tag n) (f + 1)) v w found

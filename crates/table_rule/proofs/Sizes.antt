@@ -8,23 +8,23 @@ use Rattle.block_tag.specs.declared.catalogue.RelEntry.{RelEntry}
 use Rattle.block_tag.specs.Names.{unpacked_tag, fork_of_number, tag_if_named, tag_of_parts}
 use Rattle.block_tag.specs.Catalogue.{blocks_at}
 use Rattle.pin_core.specs.State.{is_below, tag_fork, tag_block}
-use Rattle.table_rule.specs.Blocks.{has_block, is_block, has_named, size_named, fewer, fork_size}
+use Rattle.table_rule.specs.Blocks.{has_block, is_block, has_named, size_named, numbered_blocks, fork_size}
 
 -- the tag of these parts, if there is one
 abbrev of_parts : ℕ → ℕ → Option Fork → Option Tag
 of_parts rel block fork = option_and_then (λ f. tag_if_named (tag_of_parts rel f block)) fork
 
-below_parts : (relations : List RelEntry) (rel block : ℕ) (fork : Option Fork) → block < 4294967296 → nat_lt block (fewer (size_named relations (of_parts rel 0 fork))) ≡ has_named relations (of_parts rel block fork)
+below_parts : (relations : List RelEntry) (rel block : ℕ) (fork : Option Fork) → block < 4294967296 → nat_lt block (numbered_blocks (size_named relations (of_parts rel 0 fork))) ≡ has_named relations (of_parts rel block fork)
 below_parts relations rel block None low = grind (arith)
 below_parts relations rel block (Some fork) low = by_place (nat_lt rel 1024) refl
   where
-    by_place : (b : Bool) → nat_lt rel 1024 ≡ b → nat_lt block (fewer (size_named relations (of_parts rel 0 (Some fork)))) ≡ has_named relations (of_parts rel block (Some fork))
+    by_place : (b : Bool) → nat_lt rel 1024 ≡ b → nat_lt block (numbered_blocks (size_named relations (of_parts rel 0 (Some fork)))) ≡ has_named relations (of_parts rel block (Some fork))
     by_place b e = grind (arith, e, low)
 
 pub below_sizes : (relations : List RelEntry) (word : ℕ) → is_below (fork_size relations) word ≡ is_block relations word
 unfolding is_block fork_size tag_fork tag_block unpacked_tag
 below_sizes relations word =
-    ap (λ (t : Option Tag). nat_lt (word % 4294967296) (fewer (size_named relations t))) first ∙ below_parts relations (word / 2 ^ 40) (word % 2 ^ 32) (fork_of_number ((word / 2 ^ 32) % 2 ^ 8)) (omega arith)
+    ap (λ (t : Option Tag). nat_lt (word % 4294967296) (numbered_blocks (size_named relations t))) first ∙ below_parts relations (word / 2 ^ 40) (word % 2 ^ 32) (fork_of_number ((word / 2 ^ 32) % 2 ^ 8)) (omega arith)
   where
     start : ℕ
     start = (word / 4294967296) * 2 ^ 32

@@ -15,7 +15,8 @@ abbrev pub has_named : List RelEntry → Option Tag → Bool
 has_named relations None = false
 has_named relations (Some tag) = has_block relations tag
 
--- by the tag's number; false for a number that is no tag
+-- whether a tag, by its number, is that of a block of the relations; false for a number that is no
+-- tag
 unfoldable pub is_block : List RelEntry → ℕ → Bool
 is_block relations word = has_named relations (unpacked_tag word)
 
@@ -25,20 +26,21 @@ size_named relations None = 0
 size_named relations (Some tag) = blocks_at relations tag.rel.0 tag.fork
 
 -- whether the tag's relation is one of these
-abbrev pub is_in : List RelEntry → Option Tag → Bool
-is_in relations None = false
-is_in relations (Some tag) = nat_lt tag.rel.0 (length relations)
+abbrev pub has_relation : List RelEntry → Option Tag → Bool
+has_relation relations None = false
+has_relation relations (Some tag) = nat_lt tag.rel.0 (length relations)
 
--- a fork's blocks are numbered below the invalid number, whatever a catalogue says
-abbrev pub fewer : ℕ → ℕ
-fewer n = if nat_lt n (2 ^ 32 - 1) then n else 2 ^ 32 - 1
+-- how many of n blocks have numbers: those below the invalid block number, whatever a catalogue
+-- says
+abbrev pub numbered_blocks : ℕ → ℕ
+numbered_blocks n = if nat_lt n (2 ^ 32 - 1) then n else 2 ^ 32 - 1
 
 unfoldable pub fork_size : List RelEntry → ℕ → ℕ
-fork_size relations fork = fewer (size_named relations (unpacked_tag (fork * 2 ^ 32)))
+fork_size relations fork = numbered_blocks (size_named relations (unpacked_tag (fork * 2 ^ 32)))
 
--- a fork is numbered by the relation's place and its own number
+-- whether a fork, numbered by the relation's place and its own number, is one of the relations
 unfoldable pub is_fork : List RelEntry → ℕ → Bool
-is_fork relations fork = is_in relations (unpacked_tag (fork * 2 ^ 32))
+is_fork relations fork = has_relation relations (unpacked_tag (fork * 2 ^ 32))
 
 -- How the log names a block: the relation's three numbers, the fork, and the block, in 4 bytes each
 abbrev pub block_name : RelEntry → Tag → List ℕ

@@ -23,7 +23,8 @@ pub record AreBlank (words : List ℕ) (n : ℕ) : Type 0 where
   pub tags : (f : ℕ) → f < n → slice_index words (tag_place f) ≡ no_tag
   pub contents : (f : ℕ) → f < n → slice_index words (content_place f) ≡ 0
 
--- and after them free latches, and a log that begins and ends at `base` and is flushed
+-- the words of a new table of n frames: after those of the frames free latches, and a log that
+-- begins and ends at `base` and is flushed
 pub record AreOpening (words : List ℕ) (n base : ℕ) : Type 0 where
   pub blank : List ℕ
   pub frames : AreBlank blank n
@@ -50,7 +51,7 @@ module _ {L G : Type 0} where
   abbrev pub home_lane : ℕ → L → Value L G
   home_lane q l = value.Lane (record { number = q; device = l; call = lane_call.Untouched })
 
-  -- and lanes in a row, from this number on
+  -- lanes in a row, home, from this number on
   abbrev pub home_lanes : ℕ → List L → List (Value L G)
   home_lanes q [] = []
   home_lanes q (l ∷ ls) = home_lane q l ∷ home_lanes (q + 1) ls
@@ -59,7 +60,7 @@ module _ {L G : Type 0} where
   abbrev pub AreMaps : ℕ → List (Value L G) → Type 0
   AreMaps n ys = (k : ℕ) (y : Value L G) → get_elem? ys k ≡ some y → GivesMap n y (λ _. None)
 
-  -- as many empty maps were put after the values
+  -- so many empty maps were put after the values
   pub record AddsMaps (n count : ℕ) (before after : List (Value L G)) : Type 0 where
     pub maps : List (Value L G)
     pub counted : length maps ≡ count

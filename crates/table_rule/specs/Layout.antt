@@ -45,13 +45,13 @@ word_place n (hint_word number) = 8 * n + 169 + number
 abbrev pub word_count : ℕ → ℕ
 word_count n = 8 * n + 169 + hint_count n
 
--- which of them a table of n frames has
+-- which of the other words a table of n frames has
 abbrev pub HasWord : ℕ → Word → Type 0
 HasWord n (counter_word number) = number < counter_count
 HasWord n (hint_word number) = number < hint_count n
 HasWord n _ = Unit {0}
 
--- and their numbers at the start of a log at `base`, in the order of their places
+-- the numbers of the other words at the start of a log at `base`, in the order of their places
 abbrev pub opening_numbers : ℕ → ℕ → List ℕ
 opening_numbers n base = base ∷ base ∷ 0 ∷ base ∷ replicate (counter_count + hint_count n) 0
 
@@ -91,7 +91,7 @@ first_lane_slot n = n + 128
 abbrev pub log_slot : ℕ → ℕ
 log_slot n = slot_of n (Of Log)
 
--- and of the list in which the lanes came
+-- the slot of the list in which the lanes came
 abbrev pub list_slot : ℕ → ℕ
 list_slot n = n + 145
 
@@ -106,7 +106,7 @@ partition_of_tag (Some tag) = partition_number tag
 abbrev pub tag_partition : ℕ → ℕ
 tag_partition word = partition_of_tag (unpacked_tag word)
 
--- and the lane, of so many
+-- the lane in which a tag lies, of so many
 abbrev pub lane_of_tag : ℕ → Option Tag → ℕ
 lane_of_tag lanes None = 0
 lane_of_tag lanes (Some tag) = lane_number tag lanes

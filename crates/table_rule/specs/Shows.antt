@@ -153,7 +153,7 @@ pub record Devices (L G : Type 0) : Type 0 where
   pub log_faults : G → ℕ
   pub log_calls : G → ℕ
 
--- as the traits of the lanes and the log tell them
+-- what devices are, as the traits of the lanes and the log tell it
 abbrev pub devices : {L G : Type 0} → lane_trait.Ghosts L → log_trait.Ghosts G → Devices L G
 devices l g = record {
   contents = l.contents;
@@ -214,12 +214,12 @@ module _ {L G : Type 0} where
   GivesMap n (value.Map entries) m = GivesEntries n entries m
   GivesMap n _ m = ⊥
 
-  -- a lane and the log are home without the note of a call, and a lane with its number
+  -- a lane is home without the note of a call, and with its number
   abbrev pub GivesLane : Devices L G → List RelEntry → ℕ → ℕ → Value L G → Lane → Type 0
   GivesLane d relations lanes q (value.Lane l) ln = IsLane d relations lanes q l.device ln × (l.call ≡ lane_call.Untouched) × (l.number ≡ q)
   GivesLane d relations lanes q _ ln = ⊥
 
-  -- and there is room for a record
+  -- the log is home without the note of a call, and with room for a record
   abbrev pub GivesLog : Devices L G → Value L G → Device → Type 0
   GivesLog d (value.Log g) dev = IsLog d g.device g.down dev × (g.call ≡ log_call.Untouched) × (record_size ≤ vec_capacity g.buffer)
   GivesLog d _ dev = ⊥

@@ -23,7 +23,7 @@ pub record IsBlockOf (relations : List RelEntry) (lanes q : ℕ) (tag : Tag) : T
   pub listed : has_block relations tag ≡ true
   pub placed : lane_number tag lanes ≡ q
 
--- the same of the number of a tag
+-- whether a tag, by its number, is that of a block of the relations that lies in the lane q
 abbrev pub is_block_of : List RelEntry → ℕ → ℕ → ℕ → Bool
 is_block_of relations lanes q word = is_block relations word && nat_eq (tag_lane lanes word) q
 

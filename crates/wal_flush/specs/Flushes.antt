@@ -20,18 +20,18 @@ pub record SeesFlushed (lsn : ℕ) (v w : View) : Type 0 where
   pub did : DidWord load_flushed v w found
   pub enough : lsn ≤ found
 
--- it is before `lsn`
+-- The flushed position was loaded, and it is before `lsn`
 pub record SeesUnflushed (lsn : ℕ) (v w : View) : Type 0 where
   pub found : ℕ
   pub did : DidWord load_flushed v w found
   pub before : found < lsn
 
--- so it was, any number of times
+-- The flushed position was loaded any number of times, and was before `lsn` each time
 pub data LoadsBelow (lsn : ℕ) : View → View → Type 0 where
   still : {v : View} → LoadsBelow lsn v v
   again : {v u w : View} → LoadsBelow lsn v u → SeesUnflushed lsn u w → LoadsBelow lsn v w
 
--- It was loaded until it was at `lsn` or past it
+-- The flushed position was loaded until it was at `lsn` or past it
 pub record Awaits (lsn : ℕ) (v w : View) : Type 0 where
   pub last : View
   pub waits : LoadsBelow lsn v last
@@ -133,7 +133,7 @@ pub data FlushWork (lsn : ℕ) (v w : View) : FlushedBy → Type 0 where
 pub record Flushed (lsn : ℕ) (v w : View) : Type 0 where
   pub by : FlushedBy
   pub work : FlushWork lsn v w by
-  -- and this is all that it makes of the view
+  -- the flush makes this of the view, and no more
   pub view : w ≡ as_looked (flushed_view by v) w
 
 -- the view after a refusal

@@ -45,7 +45,7 @@ pub record Appends (relations : List RelEntry) (f : ℕ) (tag : Tag) (start : �
   pub went : GoesOutUp v out
   pub did : DidTwo (append f (packed_tag tag) p bytes) (log_back false) out w
 
--- and it became an entry of the log
+-- The record was appended, and it became an entry of the log
 pub record Enters (relations : List RelEntry) (f : ℕ) (tag : Tag) (start : ℕ) (p : Page) (v w : View) : Type 0 where
   pub home : View
   pub appends : Appends relations f tag start p v home
@@ -72,7 +72,7 @@ EnterRefused relations f tag p end (LogFull e) v w = (e ≡ end) × (last_positi
 EnterRefused relations f tag p end (LogDown at) v w = (at ≡ end) × (end + record_size ≤ last_position) × FindsDown at v w
 EnterRefused relations f tag p end LogFault v w = (end + record_size ≤ last_position) × FailsToAppend relations f tag end (with_lsn (end + record_size) p) v w
 
--- the same under the log's latch
+-- Why the page p was not inserted, and what was done under the log's latch
 abbrev pub InsertRefused : List RelEntry → ℕ → Tag → Page → View → View → InsertError → Type 0
 InsertRefused relations f tag p v w why = (end : ℕ) × UnderLatch end (EnterRefused relations f tag p end why) v w
 
@@ -105,7 +105,7 @@ inserted_view f tag p lsn v = record v {
   device_calls = v.device_calls ++ LogAppend true ∷ [];
 }
 
--- and after a refusal
+-- the view after an insert was refused
 abbrev pub refused_view : InsertError → View → View
 refused_view (LogFull end) v = v
 refused_view (LogDown at) v = downed v

@@ -17,7 +17,7 @@ pub record Opens (end : ℕ) (v w : View) : Type 0 where
   pub takes : DidTurn true Log v held
   pub loads : DidWord load_end held w end
 
--- it was, then this was done, and the latch was left
+-- The log's latch was taken, and the log's end loaded; then this was done, and the latch was left
 pub record UnderLatch (end : ℕ) (Work : View → View → Type 0) (v w : View) : Type 0 where
   pub loaded : View
   pub worked : View
@@ -47,7 +47,7 @@ pub record FindsDown (at : ℕ) (v w : View) : Type 0 where
 abbrev pub as_counted : View → View → View
 as_counted v w = record v { steps = w.steps; loads = w.loads; end_seen = w.end_seen; torn = w.torn }
 
--- with these records that it failed to append
+-- the view with these records that it failed to append
 abbrev pub with_torn : List TornRecord → View → View
 with_torn xs v = record v { torn = xs }
 
