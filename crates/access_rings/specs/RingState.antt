@@ -14,7 +14,7 @@ pub record RingState : Type 0 where
 abbrev pub ring_state : RingKind → List (Option ℕ) → ℕ → RingState
 ring_state kind places current = record { kind = kind; places = places; current = current }
 
--- how many places a ring of a kind has where the pool is large enough
+-- how many places a ring of a kind has if the pool is large enough
 abbrev pub full_size : RingKind → ℕ
 full_size BulkRead = 32
 full_size BulkWrite = 2048

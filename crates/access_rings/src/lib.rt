@@ -7,7 +7,7 @@
 //! place. It knows nothing of the pool. Whoever chooses a frame to reuse
 //!
 //! 1. asks [`Ring::next`] for the frame at the next place, and looks whether it may be taken;
-//! 2. takes a frame from elsewhere where it may not, and stores it at that place by [`Ring::keep`];
+//! 2. takes a frame from elsewhere if it may not, and stores it at that place by [`Ring::keep`];
 //! 3. may find that the log would have to be flushed before the ring's frame can be reused, and asks
 //!    [`Ring::reject`] whether to choose another one instead.
 #![tactic(auto)]

@@ -24,7 +24,7 @@ pub enum RingKind {
 }
 
 impl RingKind {
-    /// How many places a ring of this kind has where the pool is large enough.
+    /// How many places a ring of this kind has if the pool is large enough.
     fn full_size(self) -> u32
         ensures { result ≡ full_size self }
     {
@@ -107,8 +107,8 @@ impl Ring {
         self.places[self.current] = Some(frame);
     }
 
-    /// Whether the ring gives the frame up for another one (`StrategyRejectBuffer`): exactly where it is
-    /// for bulk reads and the current place holds the frame. That place is empty then.
+    /// Whether the ring gives the frame up for another one (`StrategyRejectBuffer`): exactly when
+    /// it is for bulk reads and the current place holds the frame. That place is empty then.
     ///
     /// Ask it only for a frame that `next` has answered: one from elsewhere stands at the current place
     /// too, once it is kept there, and PostgreSQL doesn't reject that one (`from_ring`).

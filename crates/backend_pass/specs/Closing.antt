@@ -83,7 +83,7 @@ pub record ClosesPass (s : State) (p : PassState) : Type 0 where
   -- what it saw flushed is flushed, and is durable in the log
   pub flushed : p.view.flushed ≤ s.flushed
   pub durable : AreDurable s p.view.flushed
-  -- where it was told that the log is down, the log's count of faults rose since the start
+  -- if it saw the log down, the log's count of faults rose since the start
   pub down : p.view.saw_down ≡ true → HasRisen s.log_faults s.device.faults
   -- what it swept is still stored, and synced
   pub swept : (upto : ℕ) → HasSwept s.lanes upto p.view → AreSynced s upto × AreStored s upto
@@ -125,25 +125,27 @@ module _ {L G : Type 0} where
     pub others : (i : ℕ) (u : View) → i ≢ 0 → get_elem? state.pool.core.views i ≡ some u → u ≡ emptied_view
     pub counted : length lanes ≡ o.config.lanes
     pub lane : (q : ℕ) (l : L) → get_elem? lanes q ≡ some l → IsLane d o.catalog.value state.lanes q l (state.lane q)
-    -- where a lane's own list doesn't have a block, the lane was synced since it took the last of the block's entries that it has
+    -- if a block isn't in a lane's list of unsynced blocks, the lane was synced after the last of
+    -- the block's entries that it has
     pub covered : (q word : ℕ) (l : L) (tag : Tag) → get_elem? lanes q ≡ some l → IsPlaced o.catalog.value state.lanes q word tag → d.unsynced l tag ≡ false → synced_upto state word ≡ stored_upto state word
-    -- where the log is down, with its end at the failure
+    -- the end of the log at the failure, if the log is down
     pub mark : Option ℕ
     pub device : IsLog d log mark state.device
-    -- where it isn't, it holds the log's bytes and nothing else
+    -- if the log isn't down, its device holds the log's bytes and nothing else
     pub bytes : mark ≡ None → state.device.bytes ≡ log_bytes state.names state.log
-    -- where it is, what follows the log's bytes begins a record that one of the passes failed to append
+    -- if the log is down, what follows its bytes begins a record that one of the passes failed to
+    -- append
     pub torn : (some : laws.rest.behind.rest ≢ []) → mark ≢ None → PassTore ps (laws.rest.behind.begins some).entry.change
     pub history : IsHistory state.known state.origin state.opened_sizes state.log (calls_in_order ps)
     pub each : EachPass (ClosesPass state) ps
-    -- faults were met exactly where a device's count of them rose
+    -- faults were met exactly when a device's count of them rose
     pub reads_rose : 0 < (met_by_passes ps).reads → (q : ℕ) × (q < state.lanes) × HasRisen (state.lane q).read_faults_at_start (state.lane q).read_faults
     pub writes_rose : 0 < (met_by_passes ps).writes → (q : ℕ) × (q < state.lanes) × HasRisen (state.lane q).write_faults_at_start (state.lane q).write_faults
     pub logs_rose : 0 < (met_by_passes ps).logs → HasRisen state.log_faults state.device.faults
     pub reads_met : (q : ℕ) → q < state.lanes → (state.lane q).read_faults_at_start < (state.lane q).read_faults → 0 < (met_by_passes ps).reads
     pub writes_met : (q : ℕ) → q < state.lanes → (state.lane q).write_faults_at_start < (state.lane q).write_faults → 0 < (met_by_passes ps).writes
     pub logs_met : state.log_faults < state.device.faults → 0 < (met_by_passes ps).logs
-    -- where a block's last write failed a fault of writing was met
+    -- if a block's last write failed, a fault of writing was met
     pub failed_met : (tag : ℕ) → failed state tag ≡ true → 0 < (met_by_passes ps).writes
     pub unmarked : EachPass HasNoMark ps → NothingWritten state ps
     pub without_puts : EachPass PutNothing ps → NothingPut state ps

@@ -21,28 +21,31 @@ use Rattle.backend_pass.specs.declared.errors.FlushError.TheVariants.{WriteFault
 use Rattle.backend_pass.specs.declared.met.Shown.{Shown}
 use Rattle.backend_pass.specs.Passes.{PassState, shown_log, shown_write}
 
--- the refusal of a pass's frames that it tells of, and their answer
+-- the refusal by a pass's frames that the pass hands on as this one
 abbrev pub frame_refusal : FlushError → frames.FrameFlushError
 frame_refusal (WriteFault tag) = flush.WriteFault tag
 frame_refusal LogFault = flush.Log log.LogFault
 frame_refusal (LogDown at) = flush.Log (log.LogDown at)
 frame_refusal (LogShort lsn end) = flush.Log (log.LogShort lsn end)
 
+-- the answer of a pass's frames, by the pass's answer
 abbrev pub frame_answer : {A : Type 0} → Result A FlushError → Result A frames.FrameFlushError
 frame_answer (Ok done) = Ok done
 frame_answer (Err why) = Err (frame_refusal why)
 
--- so it is with a page that was written, or was clean
+-- the answer of a pass's frames to a flush, by the pass's answer: the page was written, or was
+-- clean
 abbrev pub page_answer : Result Bool FlushError → Result FlushedPage frames.FrameFlushError
 page_answer (Ok true) = Ok flushed.Written
 page_answer (Ok false) = Ok flushed.Clean
 page_answer (Err why) = Err (frame_refusal why)
 
--- the page is past the log's end; the call was Ok, or was refused so
+-- the call is refused because the page is past the log's end
 abbrev pub IsShort : FlushError → Type 0
 IsShort (LogShort lsn end) = Unit {0}
 IsShort _ = ⊥
 
+-- the call is Ok, or is refused because the page is past the log's end
 abbrev pub IsOkOrShort : {A : Type 0} → Result A FlushError → Type 0
 IsOkOrShort (Ok done) = Unit {0}
 IsOkOrShort (Err why) = IsShort why

@@ -18,7 +18,8 @@ IsUnusedOrHad Unused = Unit {0}
 IsUnusedOrHad (Had f) = Unit {0}
 IsUnusedOrHad _ = ⊥
 
--- What is told of the hint of a block was seen in the course of the call, which found the view v, and left w. Where the hint was not loaded nothing was done
+-- What is told of a block's hint was seen in the call, which found the view v, and left w. If the
+-- hint was not loaded, nothing was done
 abbrev pub ShowsHint : ℕ → Tag → Tokens → Bool → View → View → HintSeen → Type 0
 ShowsHint n tag held ring v w Unused = w ≡ v
 ShowsHint n tag held ring v w (Had f) = Within (HasByHint n tag f ring) v w

@@ -6,7 +6,7 @@ use Rattle.pin_core.specs.declared.view.Content.{Content}
 use Rattle.pin_core.specs.State.{link}
 use Rattle.backend_pass.specs.Passes.{PassState}
 
--- the content lock that it has of the frame f is this one
+-- the pass's content lock of the frame f is this one
 abbrev pub HasLock : Content → ℕ → PassState → Type 0
 HasLock lock f p = (link p.view f).content ≡ lock
 
@@ -14,7 +14,8 @@ HasLock lock f p = (link p.view f).content ≡ lock
 abbrev pub IsTagged : Tag → ℕ → PassState → Type 0
 IsTagged tag f p = (link p.view f).tag ≡ Some (packed_tag tag)
 
--- It is this one now, and what the pass has at other frames is untouched
+-- the pass's content lock of the frame f is this one now, and what it has at other frames is
+-- untouched
 pub record ChangesLock (lock : Content) (f : ℕ) (p q : PassState) : Type 0 where
   pub here : HasLock lock f q
   pub others : (g : ℕ) → g ≢ f → link q.view g ≡ link p.view g

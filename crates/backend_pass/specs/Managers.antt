@@ -44,16 +44,18 @@ module _ {L G : Type 0} where
     -- its tokens are of frames of the pool, which have blocks of the relations
     pub inside : (f : ℕ) (h : HeldFrame) → held_at p.tokens f ≡ Some h → f < frames_of m.table
     pub blocks : (f : ℕ) (h : HeldFrame) → held_at p.tokens f ≡ Some h → is_block (relations_of m.table) h.tag ≡ true
-    -- no two of them of one block
+    -- no two of its tokens are of one block
     pub alone : (f g : ℕ) (h k : HeldFrame) → held_at p.tokens f ≡ Some h → held_at p.tokens g ≡ Some k → h.tag ≡ k.tag → f ≡ g
-    -- which were sound as the table was opened, where the lanes' contents at that time are known
+    -- the blocks of its tokens were sound as the table was opened, if the lanes' contents then are
+    -- known
     pub sound : (f : ℕ) (h : HeldFrame) → held_at p.tokens f ≡ Some h → (tag : Tag) → packed_tag tag ≡ h.tag → names_block tag ≡ true → WasSoundAtOpening contents m.table tag
-    -- its front is the largest place of what it has read and put, and where the log begins before that
+    -- its front is the largest place of what it has read and put, and before that where the log
+    -- begins
     pub front : IsFront (base_of m.table) p.view.calls p.view.front
     -- it has seen an end of the log, or the beginning
     pub seen : base_of m.table ≤ p.view.end_seen
 
-  -- The pass number i of so many, which has done nothing yet
+  -- The pass number i of a manager's `passes`, which has done nothing yet
   pub record IsNewPass (contents : L → Option Pages) (m : Manager L G) (passes i : ℕ) (p : PassState) : Type 0 where
     pub belongs : Belongs contents m p
     pub tokens : p.tokens ≡ no_tokens
@@ -69,7 +71,7 @@ module _ {L G : Type 0} where
     pub rest : i ≡ 0 → p.queue.known.parts + passes ≡ all_parts + 1
     pub part : i ≢ 0 → p.queue.known.parts ≡ 1
 
-  -- so many, in order
+  -- These are all passes of a new manager, in the order of their numbers
   pub record AreNewPasses (contents : L → Option Pages) (m : Manager L G) (passes : ℕ) (ps : List PassState) : Type 0 where
     pub counted : length ps ≡ passes
     pub each : (i : ℕ) (p : PassState) → get_elem? ps i ≡ some p → IsNewPass contents m passes i p

@@ -25,7 +25,7 @@ pub record PassState : Type 0 where
   pub queue : QueueState
   -- the tokens that its callers have
   pub tokens : List HeldFrame
-  -- the words that its last choice of a victim loaded, where that found each frame pinned
+  -- the words that its last choice of a victim loaded, if it found each frame pinned
   pub census : CensusList
   -- the frames that its checkpoint has marked
   pub marked : List MarkedFrame
@@ -56,7 +56,8 @@ pub record IsFreshView (number id base : ℕ) (v : View) : Type 0 where
   pub met : v.met ≡ record { reads = 0; writes = 0; logs = 0 }
   pub turns : v.turns ≡ 0
 
--- What a pass has of its own and keeps: for how many frames its census has room, and its pass of the free list, but for what it pushed there and took
+-- What a pass has of its own and keeps: for how many frames its census has room, and its part of
+-- the free list, but for what it pushed there and took
 pub record PassOwn : Type 0 where
   pub frames : ℕ
   pub queue : QueueState
@@ -64,7 +65,7 @@ pub record PassOwn : Type 0 where
 abbrev pub own_of : PassState → PassOwn
 own_of p = record { frames = p.census.frames; queue = lasting p.queue }
 
--- It is the same pass: what every call leaves of it, and what only rises
+-- It is the same pass: what every call keeps of it, and what only rises
 pub record KeepsPass (p q : PassState) : Type 0 where
   pub table : q.table ≡ p.table
   pub id : q.id ≡ p.id
@@ -75,24 +76,27 @@ pub record KeepsPass (p q : PassState) : Type 0 where
   pub kept : q.view.joined_checkpoints ≡ p.view.joined_checkpoints
   pub advances : OnlyRises p.view q.view
 
--- and its checkpoint began where it had begun; it may have failed to append records
+-- It is the same pass, its checkpoint began where it did before, and it may have failed to append
+-- records
 pub record SameButTorn (p q : PassState) : Type 0 where
   pub keeps : KeepsPass p q
   pub upto : q.view.upto ≡ p.view.upto
 
--- or it failed to append none
+-- It is the same pass, its checkpoint began where it did before, and it failed to append no record
 pub record SamePass (p q : PassState) : Type 0 where
   pub keeps : KeepsPass p q
   pub upto : q.view.upto ≡ p.view.upto
   pub torn : q.view.torn ≡ p.view.torn
 
--- What it read and put, and its front, are as they were
+-- What the pass read and put, and its front, are as they were
 pub record KeepsCalls (p q : PassState) : Type 0 where
   pub calls : q.view.calls ≡ p.view.calls
   pub front : q.view.front ≡ p.view.front
   pub place_loads : q.view.place_loads ≡ p.view.place_loads
 
--- It looked up no block: what was seen of a hint, how many latches of partitions it took, the hints that it stored, what it took from the free list and pushed there, and how often it moved the hand of the clock are as they were.
+-- It looked up no block: what it saw of a hint, how many latches of partitions it took, the hints
+-- that it stored, what it took from the free list and pushed there, and how often it moved the
+-- clock's hand are as before.
 -- Only reads take latches of partitions and store hints; so a pass's other calls need this one
 -- short clause. Calls below a pass need none, since the equations of their views say it.
 pub record KeepsSought (p q : PassState) : Type 0 where
@@ -102,7 +106,8 @@ pub record KeepsSought (p q : PassState) : Type 0 where
   pub queue : q.queue ≡ p.queue
   pub ticks : q.view.ticks ≡ p.view.ticks
 
--- What its callers have of it is as it was: their tokens and content locks, the census, what the pass read and put, and what it failed to append; and it looked up no block
+-- What callers have of the pass is as it was: their tokens and content locks, the census, what the
+-- pass read and put, and what it failed to append; and it looked up no block
 pub record KeepsCallers (p q : PassState) : Type 0 where
   pub keeps : KeepsPass p q
   pub tokens : q.tokens ≡ p.tokens
@@ -112,11 +117,11 @@ pub record KeepsCallers (p q : PassState) : Type 0 where
   pub torn : q.view.torn ≡ p.view.torn
   pub sought : KeepsSought p q
 
--- whether it has marked a frame dirty or synced a lane
+-- whether the pass has marked a frame dirty or synced a lane is as before
 abbrev pub KeepsMark : PassState → PassState → Type 0
 KeepsMark p q = q.view.dirtied_or_synced ≡ p.view.dirtied_or_synced
 
--- The content locks that it has are as they were
+-- The pass's content locks are as they were
 abbrev pub KeepsLocks : PassState → PassState → Type 0
 KeepsLocks p q = SameLocks p.view q.view
 
@@ -130,14 +135,14 @@ pub record NoDeviceFails (p q : PassState) : Type 0 where
   pub up : q.view.saw_down ≡ false
   pub met : q.view.met ≡ p.view.met
 
--- what is shown with one fault more, of a write of a lane, and of the log
+-- what is shown with one more fault, of a lane's write or of the log
 abbrev pub shown_write : Shown → Shown
 shown_write s = record s { met = record s.met { writes = shown_count (s.met.writes + 1) } }
 
 abbrev pub shown_log : Shown → Shown
 shown_log s = record s { met = record s.met { logs = shown_count (s.met.logs + 1) } }
 
--- and after a put was refused
+-- what is shown after a refused put
 abbrev pub shown_unput : InsertError → Shown → Shown
 shown_unput (LogFull end) s = s
 shown_unput (LogDown at) s = s

@@ -92,7 +92,9 @@ met_shown (Unsound tag) m = m
 abbrev pub shown_after : ReadError → Shown → Shown
 shown_after why s = record s { met = met_shown why s.met }
 
--- What it leaves of the census, which has room for the words of n frames. A call that chooses a victim empties it, and leaves it empty where the victim's flush is refused; one that chooses none leaves it as it was. Where all frames are pinned the refusal tells the words
+-- What a read leaves of the census, which has room for the words of n frames. A read that chooses a
+-- victim empties it, and leaves it empty if the victim's flush is refused; one that chooses none
+-- leaves it as it was. If all frames are pinned the refusal tells the words
 abbrev pub ReadingCensus : ℕ → CensusList → CensusList → Result Pinned ReadError → Type 0
 ReadingCensus n c d (Ok pinned) = KeptOrEmptied n c d
 ReadingCensus n c d (Err (PastEnd block blocks)) = d ≡ c
@@ -112,7 +114,8 @@ IsReadUnsoundOrAllPinned (Err (Unsound failed)) = Unit {0}
 IsReadUnsoundOrAllPinned (Err (NoUnpinned frames)) = Unit {0}
 IsReadUnsoundOrAllPinned _ = ⊥
 
--- The same, or a victim's page is past the log's end, as far as the log was flushed in the call
+-- The block is pinned, or its page isn't sound, or all frames are pinned, or a victim's page is
+-- past the log's end
 abbrev pub IsReadUnsoundAllPinnedOrShort : Result Pinned ReadError → Type 0
 IsReadUnsoundAllPinnedOrShort (Err (LogShort lsn end)) = Unit {0}
 IsReadUnsoundAllPinnedOrShort r = IsReadUnsoundOrAllPinned r
@@ -124,7 +127,9 @@ module _ {L G : Type 0} (contents : L → Option Pages) (t : FrameTable L G) whe
     pub within : (other : Tag) → names_block other ≡ true → has_block (relations_of t) other ≡ true → WasWithin contents t other p.view.end_seen
     pub devices : NoDeviceFails p q
 
-  -- By a pass that has these tokens, and saw this of the block's hint, where the choice's state was c, and is d: the lane was read for the block where the answer says so, and no lane else. Where neither the hint nor the map gave a frame for it at first, all else was done after that.
+  -- By a pass that has these tokens, and saw this of the block's hint; the choice's state was c,
+  -- and is d. The lane was read for the block if the answer says so, and no other lane. If neither
+  -- the hint nor the map gave a frame for it at first, all else was done after that.
   module _ (tag : Tag) (held : Tokens) (ring : Bool) (seen : HintSeen) (c d : ChoiceState) where
     abbrev pub ReadingCalls : ℕ → View → View → Result Pinned ReadError → Type 0
     ReadingCalls lane v w (Ok pinned) = Locates contents t tag held ring seen c d pinned.frame
@@ -156,7 +161,9 @@ module _ {L G : Type 0} (contents : L → Option Pages) (t : FrameTable L G) whe
     pub census : after.census ≡ q.census
     pub refused : VictimRefused contents t p.view missed before q.view after why
 
-  -- why a block was not read that was looked up: all frames were pinned; a victim's page was not written; or the block's own page was not read, or isn't sound, and wasn't as the table was opened, where that is known
+  -- why a block was not read that was looked up: all frames were pinned; a victim's page was not
+  -- written; or the block's own page was not read, or isn't sound, and wasn't as the table was
+  -- opened, if that is known
   abbrev pub ReadingRefused : Tag → PassState → PassState → ReadError → Type 0
   ReadingRefused tag p q (PastEnd block blocks) = ⊥
   ReadingRefused tag p q PinsFull = ⊥
@@ -169,7 +176,8 @@ module _ {L G : Type 0} (contents : L → Option Pages) (t : FrameTable L G) whe
       (victim.Flush (flush.Log (log.LogShort lsn end)))
   ReadingRefused tag p q (Unsound failed) = (failed ≡ tag) × WasUnsoundAtOpening contents t tag
 
-  -- The block is pinned with its first token, BM_VALID was seen, no content lock is held there, and the block was sound as the table was opened, where that is known
+  -- The block is pinned with its first token, BM_VALID was seen, no content lock is held there, and
+  -- the block was sound as the table was opened, if that is known
   pub record PinsFirst (tag : Tag) (p q : PassState) (pinned : Pinned) : Type 0 where
     pub named : pinned.tag ≡ tag
     pub tokens : q.tokens ≡ tokens_with pinned.frame (packed_tag tag) p.tokens
@@ -179,12 +187,13 @@ module _ {L G : Type 0} (contents : L → Option Pages) (t : FrameTable L G) whe
     pub unlocked : (link q.view pinned.frame).content ≡ Unlocked
     pub sound : WasSoundAtOpening contents t tag
 
-  -- what came of a block that was looked up
+  -- the answer for a block that was looked up
   abbrev pub ReadingAnswer : Tag → PassState → PassState → Result Pinned ReadError → Type 0
   ReadingAnswer tag p q (Ok pinned) = PinsFirst tag p q pinned
   ReadingAnswer tag p q (Err why) = (q.tokens ≡ p.tokens) × ReadingRefused tag p q why
 
-  -- A block was looked up, with this answer and these calls of devices, by a ring, if there was one, that is the other now
+  -- A block was looked up, with this answer and these calls of devices. The ring, if one was given,
+  -- is `after` now
   pub record ReadsBlock (tag : Tag) (ring after : Option RingState) (p q : PassState)
       (r : Result Pinned ReadError) : Type 0 where
     pub answer : ReadingAnswer tag p q r

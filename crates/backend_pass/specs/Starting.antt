@@ -9,7 +9,8 @@ use Rattle.backend_pass.specs.declared.errors.StartError.TheVariants.{BadConfig,
 abbrev pub is_out_of_range : ℕ → ℕ → ℕ → Bool
 is_out_of_range least most n = nat_lt n least || nat_lt most n
 
--- what is refused, where so many lanes are given: the first number that is out of range, or another number of lanes; out of memory aside
+-- what is refused, given this many lanes: the first number that is out of range, or another number
+-- of lanes; out of memory aside
 abbrev pub start_refusal : Config → ℕ → Option StartError
 start_refusal c given =
     if is_out_of_range 16 4096 c.frames then Some (BadConfig Frames c.frames)

@@ -43,7 +43,7 @@ impl Pass {
         ensures others { (g : ℕ) → g ≢ pinned.frame → link self.new.view g ≡ link self.old.view g }
         ensures tagged { IsTagged pinned.tag pinned.frame self.new }
 
-        // It is refused for the pass's other tokens exactly where there are such.
+        // It is refused for the pass's other tokens exactly when there are any.
         ensures local { local_pins (why_of result) ≡ refused_tokens (tokens_of (held_at self.old.tokens pinned.frame)) }
 
         ensures token { IfOk result (λ taken. taken.pinned ≡ pinned) }

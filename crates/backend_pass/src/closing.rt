@@ -56,7 +56,7 @@ impl Pass {
     }
 }
 
-/// Where the first pass stands.
+/// The index of the first pass.
 pub(crate) fn place_of_first(passes: &[Pass]) -> usize
     requires { 0 < (first_in passes.now).next }
     ensures { IsFirstAt result passes.now }

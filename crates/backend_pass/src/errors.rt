@@ -35,7 +35,8 @@ pub struct StartRefused<L, G> {
 /// Why a block was not read. What the pass had pinned is as before.
 #[derive(Clone, Copy, PartialEq, Eq, Debug, Error)]
 pub enum ReadError {
-    /// The relation's fork has so many blocks, none where the catalogue lacks the relation.
+    /// The block is past the end of the relation's fork, which has this many blocks: none if the
+    /// catalogue lacks the relation.
     #[error("block {block} of {blocks}")]
     PastEnd { block: u32, blocks: u32 },
     /// Callers have as many tokens of the pass as they may.
@@ -53,7 +54,7 @@ pub enum ReadError {
     /// The log failed, which is down from now on.
     #[error("the log failed")]
     LogFault,
-    /// A call of the log failed before, where the log ended here.
+    /// A call of the log failed before; the log ended here.
     #[error("the log is down at {at}")]
     LogDown { at: Lsn },
     /// A page that was to be written has a position past the log's end.
@@ -73,7 +74,7 @@ pub enum FlushError {
     /// The log failed, which is down from now on.
     #[error("the log failed")]
     LogFault,
-    /// A call of the log failed before, where the log ended here.
+    /// A call of the log failed before; the log ended here.
     #[error("the log is down at {at}")]
     LogDown { at: Lsn },
     /// The page has a position past the log's end.

@@ -83,7 +83,8 @@ impl Shown {
     }
 }
 
-/// Says that a tag names a block of the relations, where its number is one of them, and does nothing.
+/// Shows that a tag names a block of the relations, given that its number is that of one. It does
+/// nothing.
 pub(crate) fn show_block<L: BlockLane, G: LogDevice>(_table: &FrameTable<L, G>, _tag: Tag)
     requires { is_block (relations_of _table.now) (packed_tag _tag) ≡ true }
     ensures named { names_block _tag ≡ true }
@@ -163,10 +164,12 @@ impl Pass {
         ensures ended { IfErr result (λ _. EndedInError pinned.now.frame self.old.view self.new.view) }
         ensures written { IfOk result (λ wrote. wrote ≡ true → EndedWritten pinned.now.frame self.old.view self.new.view) }
 
-        // It is done where no device fails and the log isn't down, unless the page is past the log's end.
+        // It is done if no device fails and the log isn't down, unless the page is past the log's
+        // end.
         ensures short { NoDeviceFails self.old self.new → IsOkOrShort result }
 
-        // So, where no device fails and the log isn't down, it is done if no page has a position past the end that was seen.
+        // So it is done if no device fails, the log isn't down, and no page has a position past the
+        // end that was seen.
         ensures complete { WasWithin L.contents manager.now.table pinned.now.tag self.old.view.end_seen → self.new.view.saw_down ≡ false → self.new.view.met ≡ self.old.view.met → IsOk result }
     {
         let frame = pinned.frame;

@@ -24,7 +24,7 @@ pub struct Manager<L: BlockLane, G: LogDevice> {
     pub ghost sized: { (16 ≤ frames_of table) × (frames_of table ≤ 4096) },
 }
 
-/// What a configuration is refused for, where so many lanes are given.
+/// What a configuration is refused for, given this many lanes.
 fn refusal(config: &Config, given: usize) -> Option<StartError>
     ensures { result ≡ start_refusal config.now given }
 {

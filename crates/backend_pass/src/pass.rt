@@ -128,7 +128,8 @@ impl Pass {
         // With the last token the pin is given up, by one step after loads of the state word, and the backend is woken that waits for its own pin to be the only one.
         ensures unpins { tokens_of (held_at self.old.tokens pinned.frame) ≡ 1 → Woken pinned.frame self.old.view self.new.view }
 
-        // What the pass has at other frames is untouched, and all of it where another token of the frame is left.
+        // What the pass has at other frames is untouched, and all of it if another token of the
+        // frame is left.
         ensures others { (g : ℕ) → g ≢ pinned.frame → link self.new.view g ≡ link self.old.view g }
         ensures left { tokens_of (held_at self.old.tokens pinned.frame) ≢ 1 → self.new.view ≡ self.old.view }
     {

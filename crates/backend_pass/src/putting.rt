@@ -124,7 +124,7 @@ impl Pass {
         ensures refused { IfErr result (λ _. KeepsCalls self.old self.new) }
         ensures place_loads { self.new.view.place_loads ≡ self.old.view.place_loads }
 
-        // It is done where the log isn't seen down, or full.
+        // It is done if the log isn't seen down, or full.
         ensures complete { self.new.view.saw_down ≡ false → IsDoneOrFull self.new.view result }
     {
         let frame = exclusive.pinned.frame;

@@ -258,25 +258,30 @@ impl Pass {
         ensures hint { ShowsHint (frames_of manager.now.table) tag self.old.tokens
             (is_some ring.old) self.old.view self.new.view self.new.hint }
 
-        // It took no latch of a partition exactly where the hint was not loaded, or gave the frame. What `turns` shows says so too, unless it stood at its last value.
+        // It took no latch of a partition exactly when the hint was not loaded, or gave the frame.
+        // What `turns` shows says so too, unless it stood at its last value.
         ensures turns { IsUnusedOrHad self.new.hint ↔ (self.new.view.turns ≡ self.old.view.turns) }
         ensures shown { shown_count self.old.view.turns ≢ last_count
             → (IsUnusedOrHad self.new.hint
             ↔ (shown_count self.new.view.turns ≡ shown_count self.old.view.turns)) }
         ensures rises { self.old.view.turns ≤ self.new.view.turns }
 
-        // Where it took one and is Ok, it has stored the frame that is answered in the block's hint word, and no other hint. A refusal has stored none, unless the block had a frame and its page didn't come.
+        // If it took one and is Ok, it has stored the frame that it answers in the block's hint
+        // word, and no other hint. A refusal has stored none, unless the block had a frame and its
+        // page didn't come.
         ensures stored { StoresHints (frames_of manager.now.table) tag self.new.hint
             self.old.view.hints self.new.view.hints result }
 
-        // Where no device fails and the log isn't down, the block is read, unless its page isn't sound, each frame is pinned, or a victim's page is past the log's end.
+        // If no device fails and the log isn't down, the block is read, unless its page isn't
+        // sound, each frame is pinned, or a victim's page is past the log's end.
         ensures short { refused_at_once (relations_of manager.now.table) self.old.tokens tag ≡ None
             → NoDeviceFails self.old self.new → IsReadUnsoundAllPinnedOrShort result }
 
         // If no page had a position past the log end that the pass had seen, the last of these doesn't happen.
         ensures complete { refused_at_once (relations_of manager.now.table) self.old.tokens tag ≡ None → NothingFails L.contents manager.now.table self.old self.new → IsReadUnsoundOrAllPinned result }
 
-        // It is called unsound only where it was unsound as the table was opened, if that is known.
+        // It is called unsound only if it was unsound as the table was opened, as far as that is
+        // known.
         ensures unsound { (failed : Tag) → result ≡ Err (Unsound failed) → (failed ≡ tag) × WasUnsoundAtOpening L.contents manager.now.table tag }
 
         ensures tag { IfOk result (λ pinned. pinned.tag ≡ tag) }

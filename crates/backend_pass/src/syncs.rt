@@ -118,10 +118,12 @@ impl Pass {
         // A frame without BM_CHECKPOINT_NEEDED is none that the pass's checkpoint has still to write.
         ensures not_left_to_write { result ≡ Ok Skipped → only ≡ Needed → (link self.new.view frame).left_to_write ≡ false }
 
-        // It is done where no device fails and the log isn't down, unless the page is past the log's end.
+        // It is done if no device fails and the log isn't down, unless the page is past the log's
+        // end.
         ensures short { NoDeviceFails self.old self.new → IsOkOrShort result }
 
-        // So, where no device fails and the log isn't down, it is done if no page has a position past the end that was seen.
+        // So it is done if no device fails, the log isn't down, and no page has a position past the
+        // end that was seen.
         ensures complete { NothingFails L.contents manager.now.table self.old self.new → IsOk result }
     {
         let mut seat = take_seat::<L, G>(&mut self.seat);
@@ -171,7 +173,8 @@ impl Pass {
         upto
     }
 
-    /// Sets BM_CHECKPOINT_NEEDED in a frame that is dirty, and returns the tag of its block. The pass's checkpoint passes the frame, and has to write it where it was dirty.
+    /// Sets BM_CHECKPOINT_NEEDED in a frame that is dirty, and returns the tag of its block. The
+    /// pass's checkpoint passes the frame, and has to write it if it was dirty.
     pub fn need_checkpoint<L: BlockLane, G: LogDevice, R: Wait>(
         &mut self,
         manager: &Manager<L, G>,
@@ -219,7 +222,8 @@ impl Pass {
         ensures seen { IfErr result (λ why. FlushSeesEnd why self.old.view self.new.view) }
         ensures cause { IfErr result (FlushRefused lsn self.old.view self.new.view) }
 
-        // It is done where the log isn't down, no call fails, and the log ends at the position or past it.
+        // It is done if the log isn't down, no call fails, and the log ends at the position or past
+        // it.
         ensures complete { lsn ≤ self.old.view.end_seen → self.new.view.saw_down ≡ false → IsOk result }
     {
         let mut seat = take_seat::<L, G>(&mut self.seat);
@@ -230,7 +234,8 @@ impl Pass {
         answer
     }
 
-    /// Syncs a lane. Where the pass's checkpoint has visited all frames and has none left to write, the lane is swept up to where it began.
+    /// Syncs a lane. If the pass's checkpoint has visited all frames and has none left to write,
+    /// the lane is swept up to where it began.
     pub fn sync_lane<L: BlockLane, G: LogDevice, R: Wait>(
         &mut self,
         manager: &Manager<L, G>,

@@ -64,10 +64,11 @@ pub fn round<L: BlockLane, G: LogDevice, R: Wait>(
     ensures written { IfOk result (λ round. WritesPages round.written pass.old.view pass.new.view) }
     ensures met { pass.new.view.met ≡ met_flushing (frame_answer result) pass.old.view.met }
 
-    // It ends where no device fails and the log isn't down, unless a page is past the log's end.
+    // It ends well if no device fails and the log isn't down, unless a page is past the log's end.
     ensures short { NoDeviceFails pass.old pass.new → IsOkOrShort result }
 
-    // So, where no device fails and the log isn't down, it ends if no page has a position past the end that was seen.
+    // So it ends well if no device fails, the log isn't down, and no page has a position past the
+    // end that was seen.
     ensures complete { NothingFails L.contents manager.now.table pass.old pass.new → IsOk result }
 {
     let frames = manager.frames();

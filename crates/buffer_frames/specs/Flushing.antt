@@ -48,13 +48,14 @@ abbrev pub log_syncs : Bool → List DeviceCall
 log_syncs true = LogSync true ∷ []
 log_syncs false = []
 
--- and those of one that refuses: where the log failed, the sync that did
+-- the calls of the log of a flush that is refused: the sync that failed, if one did
 abbrev pub syncs_refused : FlushLog → List DeviceCall
 syncs_refused LogFault = LogSync false ∷ []
 syncs_refused (LogDown at) = []
 syncs_refused (LogShort lsn end) = []
 
--- The lane q was called for the page, and this is what it has of the block since: the page itself, where the write was done
+-- The lane q was called for the page, and this is what it has of the block since: the page itself,
+-- if the write was done
 pub record CallsLane (done : Bool) (q tag : ℕ) (page : Page) (v w : View) : Type 0 where
   pub left : Page
   pub whole : done ≡ true → left ≡ page
@@ -68,7 +69,8 @@ pub record WentToLane (done : Bool) (q tag : ℕ) (page : Page) (v w : View) : T
   pub synced : Bool
   pub log_calls : Made (log_syncs synced) v ready
   pub log_first : lsn_of page ≤ ready.flushed
-  -- and then the one call of the lane, which has this of the block since: the page itself, where the write was done
+  -- and then the one call of the lane, which has this of the block since: the page itself, if the
+  -- write was done
   pub left : Page
   pub whole : done ≡ true → left ≡ page
   pub lane_call : Made (LaneWrite q tag left done ∷ []) ready w
@@ -89,7 +91,9 @@ pub record EndedInError (f : ℕ) (v w : View) : Type 0 where
   pub failed : stored.failed ≡ true
   pub output : w.had_output ≡ true
 
--- In this call a write of the frame f ended without one, and no read or write ended after it. The state word that it stored is valid and has no BM_IO_ERROR. It is dirty only where it has BM_JUST_DIRTIED: the frame was dirtied again
+-- In this call a write of the frame f ended without one, and no read or write ended after it. The
+-- state word that it stored is valid and has no BM_IO_ERROR. It is dirty only if it has
+-- BM_JUST_DIRTIED: the frame was dirtied again
 pub record EndedWritten (f : ℕ) (v w : View) : Type 0 where
   pub stored : StateWord
   pub ends : Within (EndsWork Output WriteOk f stored) v w
@@ -159,7 +163,10 @@ pub record SharesDirty (f : ℕ) (v w : View) : Type 0 where
   pub shares : LocksAtOnce share f seen w
 
 module _ {L G : Type 0} (contents : L → Option Pages) (t : FrameTable L G) where
-  -- What a refusal of the log shows, of the page that was to be written: the log ended before its position, which is that of the page that the block's lane held as the table was opened, where that is known; or the log is down, and that was seen. The end that is named was seen, and isn't before one that was seen at first
+  -- What a refusal of the log shows, of the page that was to be written: the log ended before its
+  -- position, which is that of the page that the block's lane held as the table was opened, if that
+  -- is known; or the log is down, and that was seen. The end that is named was seen, and isn't
+  -- before one that was seen at first
   abbrev pub LogShows : FlushLog → Tag → Page → View → View → Type 0
   LogShows (LogShort lsn end) tag page v w = (lsn ≡ lsn_of page) × (end < lsn) × (v.end_seen ≤ end) × (end ≤ w.end_seen) × WasAtOpening contents t tag page
   LogShows (LogDown at) tag page v w = (v.end_seen ≤ at) × (at ≤ w.end_seen) × (w.saw_down ≡ true)

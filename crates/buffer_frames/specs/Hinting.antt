@@ -54,7 +54,8 @@ module _ (n : ℕ) (tag : Tag) (held : Tokens) (ring : Bool) where
     pub load : LoadsHint n tag (Some frame) v loaded
     pub sees : SeesOther tag frame ring loaded w seen
 
-  -- What was seen of the tag's hint where it didn't give the block's frame: it named none, or one that callers have pinned, or one that was tried
+  -- What was seen of the tag's hint, which didn't give the block's frame: it named none, or one
+  -- that callers have pinned, or one that was tried
   abbrev pub SeesHint : View → View → HintSeen → Type 0
   SeesHint v w Unused = ⊥
   SeesHint v w Nothing = LoadsHint n tag None v w
@@ -73,13 +74,15 @@ pub record NotesHint (n : ℕ) (tag : Tag) (f : ℕ) (old new : List HintStore) 
   pub found : ℕ
   pub listed : new ≡ old ++ record { number = hint_number tag n; found = found; left = f + 1 } ∷ []
 
--- What a read has stored of hints whose block has the frame f: none where the block's hint was not loaded, or gave the frame, which is f; else the block's, once, and it names f
+-- The hints that a read stored whose block has the frame f: none if it didn't load the block's
+-- hint, or the hint gave the frame, which is f; else the block's, once, and it names f
 abbrev pub LeavesHint : ℕ → Tag → ℕ → HintSeen → List HintStore → List HintStore → Type 0
 LeavesHint n tag f Unused old new = new ≡ old
 LeavesHint n tag f (Had g) old new = (g ≡ f) × (new ≡ old)
 LeavesHint n tag f _ old new = NotesHint n tag f old new
 
--- The hint of a block was used. Only where it gave the frame no latch of a partition was taken: here they are counted before and after
+-- The hint of a block was used. No latch of a partition was taken only if it gave the frame: here
+-- the latches taken are counted before and after
 abbrev pub TakesTurns : HintSeen → ℕ → ℕ → Type 0
 TakesTurns Unused before after = ⊥
 TakesTurns (Had f) before after = after ≡ before

@@ -33,7 +33,7 @@ reading_calls q tag (Ok done) = LaneRead q tag true ∷ []
 reading_calls q tag (Err Unsound) = LaneRead q tag true ∷ []
 reading_calls q tag (Err ReadFault) = LaneRead q tag false ∷ []
 
--- and that of a load, which makes none where the page is there already
+-- the calls of a load, which makes none if the page is there already
 abbrev pub loading_calls : ℕ → ℕ → Result Loaded LoadError → List DeviceCall
 loading_calls q tag (Ok Hit) = []
 loading_calls q tag (Ok Read) = LaneRead q tag true ∷ []
@@ -77,7 +77,8 @@ pub record FailsRead (why : LoadError) (tag : Tag) (f : ℕ) (v w : View) : Type
   pub last : w.last_ended ≡ Some unread.stored
 
 module _ {L G : Type 0} (contents : L → Option Pages) (t : FrameTable L G) where
-  -- The page of the tag's block was this one as the table was opened, where that is known, and it isn't sound
+  -- The page of the tag's block was this one as the table was opened, if that is known, and it
+  -- isn't sound
   pub record WasUnsoundAtOpening (tag : Tag) : Type 0 where
     pub page : Page
     pub unsound : is_sound_page page ≡ false

@@ -65,7 +65,9 @@ pub record SharesToRead (f : ℕ) (page : Page) (place : ℕ) (v w : View) : Typ
   pub unlocks : Did (pages kinds.unshare) f read w was
 
 module _ {L G : Type 0} (contents : L → Option Pages) (t : FrameTable L G) where
-  -- The page of a block was read at this place in the log, which is the front now and not before the old one. It is sound, and at the log's base it is the page that the lane held as the table was opened, where that is known
+  -- The page of a block was read at this place in the log, which is the front now and not before
+  -- the old one. It is sound, and at the log's base it is the page that the lane held as the table
+  -- was opened, if that is known
   pub record ReadsPage (tag : Tag) (page : Page) (place : ℕ) (v w : View) : Type 0 where
     pub calls : w.calls ≡ v.calls ++ call.Read v.number (packed_tag tag) page place ∷ []
     pub place_loads : w.place_loads ≡ v.place_loads + 1

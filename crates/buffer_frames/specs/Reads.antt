@@ -50,7 +50,8 @@ module _ (n : ℕ) (tag : Tag) (held : Tokens) (ring : Bool) (seen : HintSeen) w
     pub calls : MadeThen last v w
 
 module _ {L G : Type 0} (contents : L → Option Pages) (t : FrameTable L G) where
-  -- By a backend whose callers have these pins, and which saw this of the block's hint, where the choice's state was c, and is d
+  -- By a backend whose callers have these pins, and which saw this of the block's hint; the
+  -- choice's state was c, and is d
   module _ (tag : Tag) (held : Tokens) (ring : Bool) (seen : HintSeen) (c d : ChoiceState) where
     -- At first the hint or the map gave the frame f, which was pinned then, for a ring or not; no work was done at another one, the hand was not moved, these were the calls of devices, and no victim was chosen. Or neither gave one, and after that the block was brought into the frame
     pub data Locates (f : ℕ) (last : List DeviceCall) (v w : View) : Type 0 where
@@ -73,7 +74,7 @@ module _ {L G : Type 0} (contents : L → Option Pages) (t : FrameTable L G) whe
     abbrev pub LocatesUnread : LoadError → List DeviceCall → View → View → ℕ → Type 0
     LocatesUnread why last v w f = Locates f last v w × FailsRead why tag f v w
 
-    -- and read: this lane was read where the answer says so, and no lane else
+    -- how a block was read, or wasn't: this lane was read if the answer says so, and no other lane
     abbrev pub ReadCalls : ℕ → View → View → Result PinnedBlock BlockError → Type 0
     ReadCalls lane v w (Ok block) = Locates block.pin.frame
         (loading_calls lane (packed_tag tag) (Ok (loaded_by block.hit))) v w
@@ -84,7 +85,7 @@ module _ {L G : Type 0} (contents : L → Option Pages) (t : FrameTable L G) whe
     ReadCalls lane v w (Err (Unsound failed)) = (f : ℕ)
         × LocatesUnread load.Unsound (loading_calls lane (packed_tag tag) (Err load.Unsound)) v w f
 
--- What a call that pins a block, and one that reads it, has stored of hints, by the answer: where no frame was freed, nothing
+-- The hints that a call stored that pins a block, by its answer: none if no frame was freed
 abbrev pub PinNotes : ℕ → Tag → HintSeen → List HintStore → List HintStore
     → Result Pin VictimError → Type 0
 PinNotes n tag seen old new (Ok pin) = LeavesHint n tag pin.frame seen old new
@@ -121,7 +122,10 @@ CensusRead n c d (Err (ReadFault failed)) = KeptOrEmptied n c d
 CensusRead n c d (Err (Unsound failed)) = KeptOrEmptied n c d
 
 module _ {L G : Type 0} (contents : L → Option Pages) (t : FrameTable L G) where
-  -- What a read answers: the block's frame is pinned, and BM_VALID was seen; or all pins are as before, and this is why, but for the causes for which no frame was freed. Where the lanes' contents at the opening are known, a block that was unsound then is never read, and only such a one is called so
+  -- What a read answers: the block's frame is pinned, and BM_VALID was seen; or all pins are as
+  -- before, and this is why, but for the causes for which no frame was freed. If the lanes'
+  -- contents at the opening are known, a block that was unsound then is never read, and only such a
+  -- one is called so
   abbrev pub ReadAnswer : Tag → Tokens → View → View → Result PinnedBlock BlockError → Type 0
   ReadAnswer tag held v w (Ok block) = (block.pin.frame < frames_of t)
       × Pins (packed_tag tag) block.pin.frame held w

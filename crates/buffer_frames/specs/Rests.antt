@@ -51,7 +51,8 @@ abbrev pub role_of : Option HeldFrame → Role
 role_of None = Absent
 role_of (Some h) = HandedOut
 
--- A frame between two calls: pinned where callers have tokens, its tag known and BM_VALID seen, and its content unlocked where they have none
+-- A frame between two calls: pinned if callers have tokens, its tag known and BM_VALID seen, and
+-- its content unlocked if they have none
 pub record LinkRests (o : Option HeldFrame) (l : Link) : Type 0 where
   pub calm : HasAtMostLock l
   pub role : l.role ≡ role_of o

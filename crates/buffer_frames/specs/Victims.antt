@@ -59,7 +59,8 @@ abbrev pub met_claimed : Result Pin VictimError → FailedCalls → FailedCalls
 met_claimed (Ok pin) m = m
 met_claimed (Err why) m = met_victim why m
 
--- What tries to free a frame leave of the census, which has room for the words of n frames. Where all were pinned it has their words, as the refusal tells; else it is empty, as a victim was chosen
+-- What tries to free a frame leave of the census, which has room for the words of n frames. If all
+-- were pinned it has their words, as the refusal tells; else it is empty, as a victim was chosen
 abbrev pub CensusRefused : ℕ → CensusList → VictimError → Type 0
 CensusRefused n c (NoUnpinned frames) = Unit {0}
 CensusRefused n c (Flush why) = c ≡ new_census n

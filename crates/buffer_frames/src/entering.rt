@@ -38,7 +38,8 @@ use segment_store::BlockLane;
 use state_word::{Flag, has, pins};
 use std::sync::Wait;
 
-/// Stores the tag in the victim, where no other backend has pinned it and it has no tag, and enters the pair. The pin is the caller's then.
+/// Stores the tag in the victim, if no other backend has pinned it and it has no tag, and enters
+/// the pair. The pin is the caller's then.
 fn store_latched<L: BlockLane, G: LogDevice, R: Wait>(
     table: &FrameTable<L, G>,
     rt: &R,
@@ -130,7 +131,8 @@ fn pin_other<L: BlockLane, G: LogDevice, R: Wait>(
     pin_found(table, rt, seat, held, &tag, frame, ring)
 }
 
-/// Searches the map once more, under the latch, and brings the block into the victim where it has no frame still. None where the victim isn't free any more.
+/// Searches the map once more, under the latch, and brings the block into the victim if it has no
+/// frame still. None if the victim isn't free any more.
 fn enter_latched<L: BlockLane, G: LogDevice, R: Wait>(
     table: &FrameTable<L, G>,
     rt: &R,
@@ -176,7 +178,8 @@ fn enter_latched<L: BlockLane, G: LogDevice, R: Wait>(
     None
 }
 
-/// Brings a block into a victim, or pins the frame that another backend has brought it into meanwhile (`BufferAlloc`), and stores its hint. None where the victim isn't free any more.
+/// Brings a block into a victim, or pins the frame that another backend has brought it into
+/// meanwhile (`BufferAlloc`), and stores its hint. None if the victim isn't free any more.
 pub(crate) fn enter_or_pin<L: BlockLane, G: LogDevice, R: Wait>(
     table: &FrameTable<L, G>,
     rt: &R,

@@ -25,7 +25,8 @@ use segment_store::BlockLane;
 use state_word::{Flag, has, pins};
 use std::sync::Wait;
 
-/// Takes the tag from a victim, under the latch of its partition, where no other backend pins the frame and it isn't dirty.
+/// Takes the tag from a victim, under the latch of its partition, if no other backend pins the
+/// frame and it isn't dirty.
 fn erase_latched<L: BlockLane, G: LogDevice, R: Wait>(
     table: &FrameTable<L, G>,
     rt: &R,
@@ -59,7 +60,8 @@ fn erase_latched<L: BlockLane, G: LogDevice, R: Wait>(
     true
 }
 
-/// Takes the tag from a victim, where no other backend pins the frame and it isn't dirty (`InvalidateVictimBuffer`).
+/// Takes the tag from a victim, if no other backend pins the frame and it isn't dirty
+/// (`InvalidateVictimBuffer`).
 pub(crate) fn erase<L: BlockLane, G: LogDevice, R: Wait>(
     table: &FrameTable<L, G>,
     rt: &R,

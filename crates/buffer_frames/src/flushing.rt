@@ -161,7 +161,7 @@ fn write_logged<L: BlockLane, G: LogDevice, R: Wait>(
     }
 }
 
-/// Copies the frame's page, and writes the copy, where the backend has the right to, and ends that.
+/// If the backend has the right to write the frame's page, writes a copy of it, and ends that.
 fn write_out<L: BlockLane, G: LogDevice, R: Wait>(
     table: &FrameTable<L, G>,
     rt: &R,
@@ -204,7 +204,8 @@ fn write_out<L: BlockLane, G: LogDevice, R: Wait>(
     }
 }
 
-/// Writes the page of a frame whose content lock the backend shares, where it is dirty, and gives the lock up.
+/// Writes the page of a frame whose content lock the backend shares, if it is dirty, and gives the
+/// lock up.
 fn flush_shared<L: BlockLane, G: LogDevice, R: Wait>(
     table: &FrameTable<L, G>,
     rt: &R,

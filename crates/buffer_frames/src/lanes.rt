@@ -15,7 +15,8 @@ use pin_core::View;
 use segment_store::BlockLane;
 use std::sync::Wait;
 
-/// Syncs a lane. Where the backend's checkpoint has visited all frames and has none left to write, the lane is swept up to where it began.
+/// Syncs a lane. If the backend's checkpoint has visited all frames and has none left to write, the
+/// lane is swept up to where it began.
 pub fn sync_lane<L: BlockLane, G: LogDevice, R: Wait>(
     table: &FrameTable<L, G>,
     rt: &R,

@@ -104,7 +104,8 @@ fn put_page<L: BlockLane, G: LogDevice>(
     page_back(table, seat, frame, given);
 }
 
-/// Loads the state word of a frame whose BM_VALID the pin has seen. It shows that the block's page was sound as the table was opened, where that is known.
+/// Loads the state word of a frame whose BM_VALID the pin has seen. It shows that the block's page
+/// was sound as the table was opened, if that is known.
 fn see_page<L: BlockLane, G: LogDevice>(
     table: &FrameTable<L, G>,
     seat: &mut Seat<Value<L, G>, View>,
@@ -127,7 +128,7 @@ fn see_page<L: BlockLane, G: LogDevice>(
     table.look(seat, frame);
 }
 
-/// Reads a block into the frame, where the backend has the right to, and ends that.
+/// If the backend has the right to read the block into the frame, does so, and ends that.
 fn read_in<L: BlockLane, G: LogDevice, R: Wait>(
     table: &FrameTable<L, G>,
     rt: &R,

@@ -22,7 +22,8 @@ use segment_store::BlockLane;
 use state_word::{Flag, has};
 use std::sync::Wait;
 
-/// Sets BM_CHECKPOINT_NEEDED in a frame that is dirty, and returns the tag of its block. The backend's checkpoint passes the frame, and has to write it where it was dirty.
+/// Sets BM_CHECKPOINT_NEEDED in a frame that is dirty, and returns the tag of its block. The
+/// backend's checkpoint passes the frame, and has to write it if it was dirty.
 pub fn need_checkpoint<L: BlockLane, G: LogDevice, R: Wait>(
     table: &FrameTable<L, G>,
     rt: &R,

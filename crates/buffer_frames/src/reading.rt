@@ -122,9 +122,10 @@ pub fn read_block<L: BlockLane, G: LogDevice, R: Wait>(
         backend.new.lookups.hint (choice_of backend.old ring.old)
         (choice_of backend.new ring.new) (lane_number tag.now (lanes_in table.now))
         seat.old.me.0 seat.new.me.0 result }
-    // Only where the block's hint gave its frame no latch of a partition was taken.
+    // It took no latch of a partition only if the block's hint gave its frame.
     ensures turns { TakesTurns backend.new.lookups.hint seat.old.me.0.turns seat.new.me.0.turns }
-    // Where the hint gave it, no hint was stored. Else the hint names the frame that the block was pinned in.
+    // If the hint gave it, no hint was stored. Else the hint names the frame that the block was
+    // pinned in.
     ensures hints { ReadNotes (frames_of table.now) tag.now backend.new.lookups.hint
         seat.old.me.0.hints seat.new.me.0.hints result }
 {

@@ -56,7 +56,8 @@ fn is_passed_over(word: u64, only: SyncOnly) -> bool
     }
 }
 
-/// What comes of a frame at once, by its state word: it is passed over, or isn't dirty. None where it is to be written.
+/// What comes of a frame at once, by its state word: it is passed over, or isn't dirty. None if it
+/// is to be written.
 fn at_once(word: u64, only: SyncOnly) -> Option<Synced>
     ensures { ComesAtOnce only (fields word) result }
 {

@@ -76,7 +76,8 @@ fn tag_of_victim<L: BlockLane, G: LogDevice>(
     table.load_tag(seat, frame)
 }
 
-/// One try to free a frame: chooses a victim and pins it, writes it where it is dirty, and takes its tag (`GetVictimBuffer`).
+/// One try to free a frame: chooses a victim and pins it, writes it if it is dirty, and takes its
+/// tag (`GetVictimBuffer`).
 fn make_victim<L: BlockLane, G: LogDevice, R: Wait>(
     table: &FrameTable<L, G>,
     rt: &R,

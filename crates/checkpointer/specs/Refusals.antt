@@ -112,7 +112,7 @@ module _ {L G : Type 0} (contents : L → Option Pages) (m : Manager L G) where
     at_log : (cause : FlushLog) → why ≡ refusal_of_log cause → StopsAtLog upto v w cause → Stops upto v w why
     at_lane : (lane : ℕ) → why ≡ SyncFault lane → lane < lanes_in m.table → StopsAtLane upto v w lane → Stops upto v w why
 
-  -- the pass, where the page of the frame f was not written once this was done
+  -- The checkpoint stopped at the frame f, whose page was not written, after this work
   pub record StopsWriting (Work : View → Type 0) (f : ℕ) (p q : PassState) (why : FlushError) : Type 0 where
     pub keeps : KeepsBackend contents m p q
     pub before : View
@@ -125,7 +125,7 @@ module _ {L G : Type 0} (contents : L → Option Pages) (m : Manager L G) where
     pub mark : KeepsMark p q
     pub met : q.view.met ≡ met_refused (frame_refusal why) p.view.met
 
-  -- and where the sync of a lane failed
+  -- The checkpoint stopped at this lane, whose sync failed
   pub record StopsSyncing (p q : PassState) (lane : ℕ) : Type 0 where
     pub keeps : KeepsBackend contents m p q
     pub inside : lane < lanes_in m.table

@@ -31,17 +31,19 @@ pub fn checkpoint<L: BlockLane, G: LogDevice, R: Wait>(
     ensures belongs { Belongs L.contents manager.now pass.new }
     ensures callers { KeepsCallers pass.old pass.new }
 
-    // Where it completes, it wrote the frames that it noted as dirty and no other, in the order of their tags, and what was logged up to its beginning is stored.
+    // If it completes, it wrote the frames that it noted as dirty and no other, in the order of
+    // their tags, and what was logged up to its beginning is stored.
     ensures completes { IfOk result (λ done. Completes L.contents manager.now.table done pass.old.view pass.new.view) }
 
-    // Where it stops, this is why, how far it came in that order, and which devices were called.
+    // If it stops, this is why, how far it came in that order, and which devices were called.
     ensures stops { IfErr result (λ why. (upto : ℕ) × Begins upto pass.old.view pass.new.view × Stops L.contents manager.now upto pass.old.view pass.new.view why) }
     ensures met { pass.new.view.met ≡ met_checkpointing result pass.old.view.met }
 
-    // It completes where no device fails and the log isn't down, unless a page is past the log's end.
+    // It completes if no device fails and the log isn't down, unless a page is past the log's end.
     ensures short { NoDeviceFails pass.old pass.new → IsCompleteOrShort result }
 
-    // So, where no device fails and the log isn't down, it completes if no page has a position past the end that was seen.
+    // So it completes if no device fails, the log isn't down, and no page has a position past the
+    // end that was seen.
     ensures complete { NothingFails L.contents manager.now.table pass.old pass.new → IsOk result }
 {
     pass.forget_marked();

@@ -27,7 +27,7 @@ pub enum CheckpointError {
     /// The log failed, which is down from now on.
     #[error("the log failed")]
     LogFault,
-    /// A call of the log failed before, where the log ended here.
+    /// A call of the log failed before; the log ended here.
     #[error("the log is down at {at}")]
     LogDown { at: Lsn },
     /// A page has a position past the log's end.

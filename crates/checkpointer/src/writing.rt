@@ -26,7 +26,9 @@ fn pages(synced: Synced) -> u32
     }
 }
 
-/// Writes a frame until it is seen without BM_CHECKPOINT_NEEDED, and returns how many times that was. Where another backend dirties the frame while it is written the flag stays, and it is written once more.
+/// Writes a frame until it is seen without BM_CHECKPOINT_NEEDED, and returns how many times that
+/// was. If another backend dirties the frame while it is written the flag stays, and it is written
+/// once more.
 fn write_frame<L: BlockLane, G: LogDevice, R: Wait>(
     manager: &Manager<L, G>,
     rt: &R,

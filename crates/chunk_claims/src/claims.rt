@@ -86,7 +86,8 @@ impl Claims {
         self.table.shared.fetch_add::<Draw>(seat, 0, 1)
     }
 
-    /// The next chunk, which is the worker's from now on; none where all chunks are claimed, after which the worker claims no more.
+    /// The next chunk, which is the worker's from now on; none if all chunks are claimed, after
+    /// which the worker claims no more.
     pub fn claim(&self, seat: &mut Seat<(), Claimant>) -> Option<u32>
         requires seat { SitsAt self.now.table.shared.table_id seat.old }
         requires part { seat.old.me.0.past < seat.old.me.0.parts }

@@ -34,7 +34,7 @@ abbrev pub IsEnteredBlock : List Entry → Tag → Type 0
 IsEnteredBlock es tag = (names_block tag ≡ true) × IsEntered es (packed_tag tag)
 
 module _ (es : List Entry) (old new : List (Option Pages)) (marks marks_now : List Marks) where
-  -- Redo of the entries at a tag, where its lane's contents are known
+  -- Redo of the entries at a tag, if its lane's contents are known
   pub record IsRedone (tag : Tag) : Type 0 where
     pub known : is_some (lane_at new tag) ≡ is_some (lane_at old tag)
     -- a block has its page after the entries, and what is no block is as it was
@@ -84,7 +84,7 @@ pub record NoneFell (old new : List ℕ) : Type 0 where
   pub each : (q : ℕ) → get_or old q 0 ≤ get_or new q 0
 
 -- these are the first entries of the log that the bytes are, for a catalogue of relations; none
--- where the head is bad
+-- if the head is bad
 abbrev pub AreFirstOf : List RelEntry → List ℕ → List Entry → Type 0
 AreFirstOf relations bytes es = (HasBadHead bytes → es ≡ []) × (IsCatalogue relations
     → (log : Log) → IsLogOf relations bytes log → (rest : List Entry) × (log.entries ≡ es ++ rest))
@@ -110,7 +110,7 @@ module _ {L : Type 0} (contents : L → Option Pages) (failed : L → Marks) whe
   Redoes es old new =
       AreRedone es (map contents old) (map contents new) (map failed old) (map failed new)
 
-  -- What a recovery that ended well has done; the log is what the source's bytes are, where they
+  -- What a recovery that ended well has done; the log is what the source's bytes are, if they
   -- are known
   pub record IsRecovered (relations : List RelEntry) (source : Option (List ℕ)) (old new : List L)
       (r : Redone) : Type 0 where

@@ -74,7 +74,7 @@ abbrev pub AreFirstBehind : List RelEntry → ℕ → List ℕ → List Entry �
 AreFirstBehind relations base bytes es = IsCatalogue relations
     → (ds : List Entry) → Reads relations base [] bytes ds → (rest : List Entry) × (ds ≡ es ++ rest)
 
--- the same, where the bytes are known
+-- these are the first entries of those that are read behind a head, if the bytes are known
 abbrev pub LeadIn : List RelEntry → ℕ → Option (List ℕ) → List Entry → Type 0
 LeadIn relations base source es = IfSome source (λ bytes. AreFirstBehind relations base bytes es)
 
@@ -102,7 +102,7 @@ module _ {L : Type 0} (contents : L → Option Pages) (failed : L → Marks) whe
     pub lanes : Redoes contents failed done old new
     pub all : IfSome left (λ bytes. Reads relations base [] bytes done)
 
-  -- A log was redone, that which the source's bytes are, where they are known
+  -- A log was redone, that of the source's bytes, if they are known
   pub record HasRedone (relations : List RelEntry) (source : Option (List ℕ)) (old new : List L)
       (p : Progress) : Type 0 where
     pub log : Log

@@ -31,7 +31,7 @@ pub(crate) fn base_in(head: &[u8]) -> Option<Lsn>
     Some(base)
 }
 
-/// Takes the head: none where fewer than 16 bytes are there.
+/// Takes the head: none if fewer than 16 bytes are there.
 /// A crash may come before the head is durable, so a short file is a log without entries. 16 bytes
 /// that are no head are no log.
 pub(crate) fn read_head<S: Source>(source: &mut S) -> Result<Option<Lsn>, RecoverError>

@@ -36,7 +36,7 @@ module _ {L G : Type 0} (contents : L → Option Pages) (m : Manager L G) where
     pub why : FlushError
     pub fault : fault_of_flush why ≡ e
     pub refuses : RefusesFrame contents m.table p q why
-    -- where the error says that the log is down, the pass has seen that
+    -- if the error says that the log is down, the pass has seen that
     pub down : (at : ℕ) → e ≡ LogDown at → q.view.saw_down ≡ true
 
   -- Its work ended so: it met no fault, or this is why the work was refused

@@ -48,5 +48,5 @@ pub record ClosesText {N A : Type 0} (base front : ℕ) (k l : Lister N A) (end 
   pub none : OnOk end (l.printed.text.items ≡ [])
   pub parts : KeepsParts k.shares l.shares
   pub delivered : HasDelivered k.shares.delivered.amount l.shares.delivered.amount end
-  -- a text is counted as past the base only where the pass had seen more of the log than that
+  -- a text is counted as past the base only if the pass had seen more of the log than that
   pub above : front ≤ base → l.shares.above.amount ≡ k.shares.above.amount

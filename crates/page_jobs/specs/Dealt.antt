@@ -96,7 +96,7 @@ abbrev pub EndsFirst : {K : Type 0} → JobError → List (Worker K) → Type 0
 EndsFirst e [] = ⊥
 EndsFirst e (w ∷ ws) = (w.end ≡ Err e) ⊎ ((w.end ≡ Ok tt) × EndsFirst e ws)
 
--- where the worker that stopped the job failed, this is how it ended
+-- if the worker that stopped the job failed, this is how it ended
 abbrev pub EndsAsStopper : {K : Type 0} → Option ℕ → List (Worker K) → Result Unit JobError → Type 0
 EndsAsStopper {K = K} stopped_by ws end = (n : ℕ) (w : Worker K) (e : JobError) → stopped_by ≡ Some n → get_elem? ws n ≡ some w → w.end ≡ Err e → end ≡ Err e
 
@@ -135,7 +135,8 @@ PutsNoEnd output worked beside outs outs_now e =
     ((e ≡ OutFault) × MatchBool output (outs_now ≡ outs) (Rose outs outs_now))
     ⊎ ((output ≡ false) × (outs_now ≡ outs) × ((e ≡ Memory) ⊎ ((worked ≡ Err e) ⊎ (beside ≡ Err e))))
 
--- What was put in all: a prefix of the texts of some of the first chunks, and after those of all chunks of the line of the totals; where it ended well, all of these
+-- What was put in all: a prefix of the texts of some first chunks, or of those of all chunks and
+-- the line of the totals; all of these, if it ended well
 pub record PutsAll {N A : Type 0} (texts : ℕ → List ℕ → Type 0) (ws : List (Worker (Lister N A))) (chunks : ℕ) (old new : Option (List ℕ)) (end : Result Unit JobError) : Type 0 where
   pub many : ℕ
   pub within : many ≤ chunks
@@ -154,7 +155,9 @@ module _ {L G : Type 0} (contents : L → Option Pages) (m : Manager L G) where
     pub task : CanBegin fits w.task
     pub opened : opens w.task
 
-  -- The passes but the last one worked, on chunks of the fork's blocks, and the last one worked beside them: where its work ended well, it did this. There is room for all of them in the list that they were in, and their seats can be given back
+  -- All passes but the last worked on chunks of the fork's blocks, and the last one worked beside
+  -- them: if its work ended well, it did this. There is room for all of them in the list that they
+  -- were in, and their seats can be given back
   pub record HasRun {K : Type 0} (rel : ℕ) (fork : Fork) (does : ℕ → PassState → PassState → K → K → Result Unit JobError → Type 0) (closes : ℕ → PassState → K → K → Result Unit JobError → Type 0) (begins : K → Type 0) (did : PassState → PassState → Type 0) (ps : List PassState) (ran : Ran K) : Type 0 where
     pub before : List PassState
     pub last : PassState

@@ -92,7 +92,8 @@ module _ {L G : Type 0} (contents : L → Option Pages) (m : Manager L G) (rel :
   -- What was put, with any end: a prefix of the texts of the first chunks, in order, and after those of all chunks, if the passes met no fault, of the line of the totals of what they read; if the job ended well, all of that
   pub record PutsTexts (lines : Lines) (ps qs : List PassState) (old new : Option (List ℕ)) (end : Result Totals JobError) : Type 0 where
     pub parts : ReadParts ps qs
-    -- nothing in the texts was read past this place, which is the log's base where no pass has seen more of the log
+    -- nothing in the texts was read past this place, which is the log's base if no pass has seen
+    -- more of the log
     pub place : ℕ
     pub at_base : AllAtBase (base_of m.table) qs → place ≡ base_of m.table
     pub many : ℕ

@@ -42,7 +42,7 @@ module _ {L G : Type 0} (contents : L → Option Pages) (m : Manager L G) (rel :
     pub before : PassState
     pub since : OnlyRises p.view before.view
     pub refused : ReadingRefused contents m.table (tag_of_parts rel fork block) before q why
-    -- where a lane failed to read the block, no device was called after that
+    -- if a lane failed to read the block, no device was called after that
     pub last : EndsAtRead contents m (tag_of_parts rel fork block) q why
     pub met : q.view.met ≡ met_read_refused why p.view.met
 
@@ -62,6 +62,6 @@ module _ {L G : Type 0} (contents : L → Option Pages) (m : Manager L G) (rel :
     pub text_is : text' ≡ text ++ reads_lines lines blocks printed
     pub totals_is : u ≡ sum_of_totals t (reads_totals printed)
     pub counts : IsWithin u u.blocks
-    -- where it ended well, all of them were read, and no fault was met
+    -- if it ended well, all of them were read, and no fault was met
     pub done : OnOk end ((unprinted ≡ []) × (length printed ≡ length blocks) × (q.view.met ≡ p.view.met))
     pub cause : IfErr end (EndsFor p q)

@@ -18,7 +18,7 @@ abbrev pub page_lines : Lines → ℕ → Page → List ℕ
 page_lines Scan block page = scan_line_of block page
 page_lines Dump block page = dump_lines_of block page
 
--- where this was found of it
+-- the lines of a block, of whose page this was found: `page`, if it is sound
 abbrev pub found_lines : Lines → ℕ → PageRead → Page → List ℕ
 found_lines lines block Sound page = page_lines lines block page
 found_lines lines block Unsound page = line_of block Invalid

@@ -85,7 +85,7 @@ module _ {L G : Type 0} (contents : L → Option Pages) (m : Manager L G) where
     pub last : tokens_less pinned.frame q.tokens ≡ no_tokens
     pub unlocked : HasLock Unlocked pinned.frame q
 
-  -- where a lane failed to read the block, no device was called after that
+  -- if a lane failed to read the block, no device was called after that
   abbrev pub EndsAtRead : Tag → PassState → ReadError → Type 0
   EndsAtRead tag q (read.ReadFault failed) = (calls : List DeviceCall) × (q.view.device_calls ≡ calls ++ LaneRead (lane_number tag (lanes_in m.table)) (packed_tag tag) false ∷ [])
   EndsAtRead tag q why = Unit {0}
@@ -110,7 +110,7 @@ module _ {L G : Type 0} (contents : L → Option Pages) (m : Manager L G) where
     pub met : q.view.met ≡ p.view.met
     pub reads : ReadsPage contents m.table tag page q.view.front p.view q.view
 
-  -- The page that the lane gave isn't sound, and wasn't as the table was opened, where that is known
+  -- The page that the lane gave isn't sound, and wasn't as the table was opened, if that is known
   pub record FindsUnsound (tag : Tag) (p q : PassState) : Type 0 where
     pub stays : Stays p q
     pub spent : q.tokens ≡ no_tokens
@@ -129,7 +129,9 @@ module _ {L G : Type 0} (contents : L → Option Pages) (m : Manager L G) where
     pub fault : fault_of_refusal why ≡ Some e
     pub refuses : RefusesBlock tag p q why
 
-  -- What is known of what was read of a block: a copy is sound, its place isn't before the log's base, and at the base it is the page that the lane held as the table was opened, where that is known; a page that isn't sound wasn't then
+  -- What is known of what was read of a block: a copy is sound, its place isn't before the log's
+  -- base, and at the base it is the page that the lane held as the table was opened, if that is
+  -- known; a page that isn't sound wasn't then
   abbrev pub IsKnown : Tag → BlockRead → Type 0
   IsKnown tag (copied page place) = (is_sound_page page ≡ true) × (base_of m.table ≤ place) × (place ≡ base_of m.table → WasAtOpening contents m.table tag page)
   IsKnown tag unsound = WasUnsoundAtOpening contents m.table tag

@@ -119,7 +119,9 @@ module _ {L G : Type 0} (d : Devices L G) (m : Manager L G) where
       × ((pages : List Page) → IsOrigin d.contents m rel fork pages → totals ≡ totals_of_rewrite (rewrite_totals_of pages))
       × HoldRewritten d m.table.table.shared.key lanes (rule_of rel fork) (blocks_in m rel fork) c.state.log
 
-  -- After one that ended as the log was full there was no room for a record at this end, and some block has none: one record more would end where one for each block does, or before that
+  -- After a rewrite that ended because the log was full, a record had no room at this end, and some
+  -- block has no record: one more would end where the last of a record for each block does, or
+  -- before
   abbrev pub ClosesFull : Type 0
   ClosesFull = (rel : ℕ) (fork : Fork) (ps qs zs : List PassState) (end : ℕ) (lanes : List L) (log : G) → RewritesAndEnds d.contents m rel fork ps qs zs (LogFull end)
       → ClosesAll d m.table.table.shared.key zs lanes log

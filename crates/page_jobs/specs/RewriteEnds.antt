@@ -17,7 +17,8 @@ use Rattle.page_jobs.specs.Rewrites.{Outcome, unsound, kept, refused, changed, R
 abbrev pub page_at_start : (ℕ → Option Page) → ℕ → Page
 page_at_start origin tag = unwrap_or (origin tag) []
 
--- the rule was followed; where a block isn't sound it has no page that the rule changes
+-- the rule was followed; a block that isn't sound has no page that the rule changes, if its page is
+-- known
 abbrev pub IsFair : Rule → (ℕ → Bool) → (ℕ → Option Page) → Outcome → Type 0
 IsFair r known origin (unsound b) = known (r.tag b) ≡ true → r.changes (page_at_start origin (r.tag b)) ≡ false
 IsFair r known origin (kept b i p n) = r.changes p ≡ false
@@ -70,7 +71,7 @@ pub record RewritesAll (r : Rule) (n : ℕ) (known : ℕ → Bool) (origin : ℕ
 abbrev pub IsPageEntry : Entry → ℕ → Page → Type 0
 IsPageEntry e tag page = e.change ≡ image tag page
 
--- An entry is the page that the rule makes of a block's page at the start, where that is known
+-- An entry is the page that the rule makes of a block's page at the start, if that is known
 pub record IsRewrite (r : Rule) (n : ℕ) (known : ℕ → Bool) (origin : ℕ → Option Page) (e : Entry) : Type 0 where
   pub block : ℕ
   pub below : block < n
@@ -105,7 +106,7 @@ pub record BeginsRewrite (r : Rule) (n : ℕ) (s : State) (rest : List ℕ) : Ty
 abbrev pub change_weight : Rule → (ℕ → Option Page) → ℕ → ℕ
 change_weight r origin b = if r.changes (page_at_start origin (r.tag b)) then 1 else 0
 
--- What it is after one that did all blocks, where the contents of the lanes are known
+-- The log after a rewrite that did all blocks, if the lanes' contents are known
 pub record IsRewritten (r : Rule) (n : ℕ) (known : ℕ → Bool) (origin : ℕ → Option Page) (log : Log) : Type 0 where
   pub rewrites : HasRewrites r n known origin log
   pub all : (b : ℕ) → b < n → r.changes (page_at_start origin (r.tag b)) ≡ true → HasEntry log (r.tag b)
@@ -120,7 +121,8 @@ IsAfter s tag = ((k : ℕ) × (e : Entry) × (page : Page) × (get_elem? s.log.e
 abbrev pub LanesHoldEither : State → Type 0
 LanesHoldEither s = (tag : ℕ) → is_block s.pool.core tag ≡ true → s.known tag ≡ true → failed s tag ≡ false → IsAfter s tag
 
--- each whose last write didn't fail has the page of its entry, and where it has none its page as before
+-- each block whose last write didn't fail has the page of its entry, or, if it has no entry, its
+-- page as before
 pub record LanesHoldAll (s : State) : Type 0 where
   pub written : (k tag : ℕ) (e : Entry) (page : Page) → get_elem? s.log.entries k ≡ some e → IsPageEntry e tag page → s.known tag ≡ true → failed s tag ≡ false → stored s tag ≡ Some page
   pub other : (tag : ℕ) → is_block s.pool.core tag ≡ true → s.known tag ≡ true → failed s tag ≡ false → (HasEntry s.log tag → ⊥) → stored s tag ≡ s.origin tag

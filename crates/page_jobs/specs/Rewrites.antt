@@ -95,7 +95,7 @@ abbrev pub StopsAtFailure : List Outcome → Type 0
 StopsAtFailure [] = Unit {0}
 StopsAtFailure (o ∷ os) = (IsEnded o ⊎ (os ≡ [])) × StopsAtFailure os
 
--- where a block's page was read
+-- this holds if the block's page was read
 abbrev pub IfRead : Outcome → Type 0 → Type 0
 IfRead (unsound b) P = Unit {0}
 IfRead (kept b i p n) P = P

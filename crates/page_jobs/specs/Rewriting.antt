@@ -112,7 +112,9 @@ module _ {L G : Type 0} (contents : L → Option Pages) (m : Manager L G) where
     pub changes : (rule_of tag.rel.0 tag.fork).changes was ≡ true
     pub reads : LastReads p.view.number tag was p.view.calls q.view.calls
 
-  -- The rule was followed, by the backend of this number: a page that isn't sound wasn't as the table was opened, where that is known; a sound page was changed where the rule changes it, and its write is past its read
+  -- The backend of this number followed the rule: a page that isn't sound wasn't as the table was
+  -- opened, if that is known; a sound page was put, or its put refused, exactly if the rule changes
+  -- it, and the write is past the read
   abbrev pub FollowsRule : ℕ → Fork → ℕ → Outcome → Type 0
   FollowsRule rel fork number (unsound b) = WasUnsoundAtOpening contents m.table (tag_of_parts rel fork b)
   FollowsRule rel fork number (kept b i p n) = (i ≡ number) × (is_sound_page p ≡ true) × ((rule_of rel fork).changes p ≡ false)
@@ -159,7 +161,11 @@ module _ {L G : Type 0} (contents : L → Option Pages) (m : Manager L G) (rel :
   abbrev pub EndsRewriteFor : PassState → PassState → JobError → Type 0
   EndsRewriteFor p q e = ((e ≡ Memory) × (q.view.met ≡ p.view.met)) ⊎ (MeetsFault contents m rel fork p q e ⊎ PutIsRefused p q e)
 
-  -- These blocks were dealt with one after the other, or the first of them, with these outcomes, and none after one whose put was refused: the calls are those of the outcomes and no others, the records that it failed to append are of refused puts, and each page was read, and put, under its cleanup lock. The pass is the same one, without tokens, with its content locks as they were, and with its mark as it was where nothing was put
+  -- These blocks were dealt with one after the other, or the first of them, with these outcomes,
+  -- and none after one whose put was refused: the calls are those of the outcomes and no others,
+  -- the records that it failed to append are of refused puts, and each page was read, and put,
+  -- under its cleanup lock. The pass is the same one, without tokens, with its content locks as
+  -- they were, and with its mark as it was if nothing was put
   pub record RewritesBlocks (blocks : List ℕ) (os : List Outcome) (p q : PassState) : Type 0 where
     pub goes : GoesOn contents m p q
     pub spent : q.tokens ≡ no_tokens

@@ -22,7 +22,7 @@ IsListed catalog tag = has_block catalog tag ≡ true
 abbrev pub IsListedByName : List RelEntry → Tag → Type 0
 IsListedByName catalog tag = (names_block tag ≡ true) × IsListed catalog tag
 
--- where the contents of a block's lane are known, the block is there; so it is for each of these
+-- each of these blocks is in its lane, if the lane's contents are known
 abbrev pub HaveTheirs : (Tag → Type 0) → List (Option Pages) → Type 0
 HaveTheirs blocks lanes = (tag : Tag) → blocks tag → ForSome (lane_at lanes tag) (λ pages. IsSome (pages tag))
 
@@ -31,7 +31,7 @@ pub record IsSoundAt (lsn : ℕ) (page : List ℕ) : Type 0 where
   pub sound : is_sound_page page ≡ true
   pub position : lsn_of page ≡ lsn
 
--- The log position of the page of one of these blocks, which is sound where it is known
+-- The log position of the page of one of these blocks, which is sound if it is known
 pub record IsLsnOf (blocks : Tag → Type 0) (lanes : List (Option Pages)) (tag : Tag) (lsn : ℕ) : Type 0 where
   pub listed : blocks tag
   pub page : ForSome (lane_at lanes tag) (λ pages. IsSomeAnd (pages tag) (IsSoundAt lsn))

@@ -38,7 +38,8 @@ pub trait Beside<L: BlockLane, G: LogDevice> {
         ensures met { OnOk result (pass.new.view.met ≡ pass.old.view.met) }
         ensures cause { IfErr result (RefusesFrame L.contents manager.now.table pass.old pass.new) }
 
-        // It ends where the log isn't down, no call fails, and no page has a position past the log's end.
+        // It ends if the log isn't down, no call fails, and no page has a position past the log's
+        // end.
         ensures complete { NothingFails L.contents manager.now.table pass.old pass.new → IsOk result };
 }
 

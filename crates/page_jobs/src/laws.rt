@@ -30,7 +30,8 @@ pub fn rewrite_ends()
         → Finishes r n s calls ps upto → IsResult r n s }
 {}
 
-/// What the devices hold that `Manager::close` gives back after `rewrite`, where no other page was put.
+/// What the devices hold that `Manager::close` gives back after `rewrite`, if no other page was
+/// put.
 pub fn rewrite_closes<L: BlockLane, G: LogDevice>(_manager: &Manager<L, G>)
     // With any end a block has at most one entry, and its lane holds its page from before or the rewritten one, or its last write failed.
     ensures any { ClosesEither (devices L.BlockLane G.LogDevice) _manager.now }

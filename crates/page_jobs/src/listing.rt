@@ -35,7 +35,7 @@ pub(crate) struct Lister<N: Naming, A: Ledger> {
     pub(crate) shares: Shares<N, A>,
 }
 
-/// A ring where there are more blocks than a quarter of the frames (`initscan`).
+/// A ring if there are more blocks than a quarter of the frames (`initscan`).
 fn ring_for(alloc: Global, blocks: u32, frames: u32) -> Result<Option<Ring>, AllocError>
     requires { (16 ≤ frames) × (frames ≤ 4096) }
     ensures { IfOk result (λ ring. is_some ring ≡ nat_lt (frames / 4) blocks) }

@@ -65,7 +65,7 @@ impl Printed {
         }
     }
 
-    /// Adds a block, of whose page this was found: where it is sound, it is this one.
+    /// Adds a block, of whose page this was found: `page`, if it is sound.
     pub(crate) fn add(
         &mut self,
         alloc: Global,

@@ -25,7 +25,7 @@ fn is_crowding(why: &ReadError) -> bool
     }
 }
 
-/// Pins a block. Where each frame is pinned it tries again.
+/// Pins a block. If each frame is pinned, it tries again.
 /// (`Pass::read_buffer` leaves that to its caller.)
 pub(crate) fn pin_block<L: BlockLane, G: LogDevice, R: Wait>(
     manager: &Manager<L, G>,
@@ -76,7 +76,7 @@ fn copy_block<L: BlockLane, G: LogDevice, R: Wait, T: Gate>(
     Ok(())
 }
 
-/// What ends the job where a read was refused for this reason; nothing where the page isn't sound.
+/// What ends the job if a read was refused for this reason; nothing if the page isn't sound.
 pub(crate) fn fault_of(why: ReadError) -> Option<JobError>
     requires { is_tried_once why ≡ true }
     ensures { result ≡ fault_of_refusal why }

@@ -41,7 +41,8 @@ fn sum_rewritten(workers: &[Worker<Rewriter>]) -> RewriteTotals
     totals
 }
 
-/// How a rewrite ends: with the totals of all workers; or as the first of the workers that failed; or, where none did, as the work beside them.
+/// How a rewrite ends: with the totals of all workers; or as the first of the workers that failed;
+/// or, if none did, as the work beside them.
 fn end_rewrite(
     workers: &[Worker<Rewriter>],
     beside_end: Result<(), JobError>,
@@ -92,7 +93,8 @@ pub fn rewrite<
         (workers_in result.passes.items)) }
     ensures cause { IfErr result.end
         (EndsRewrite L.contents manager.now rel.0 fork passes.items result.passes.items) }
-    // Where no device fails for any of the passes, it ends well, out of memory, at a page past the log's end, or as the log is full.
+    // If no device fails for any of the passes, it ends well, out of memory, at a page past the
+    // log's end, or as the log is full.
     ensures short { NoDeviceFailsIn passes.items result.passes.items
         → IsDoneFullShortOrMemory result.end }
     ensures complete { NothingFailsIn L.contents manager.now passes.items result.passes.items

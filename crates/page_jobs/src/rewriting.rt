@@ -32,7 +32,8 @@ use std::alloc::{AllocError, Global};
 use std::sync::Wait;
 use std::thread;
 
-/// Takes the cleanup lock of a block, which it pins. Where another backend waits for that lock it gives up its pin, which the other one waits for, and tries again.
+/// Pins a block, and takes its cleanup lock. If another backend waits for that lock, it gives up
+/// its pin, which the other one waits for, and tries again.
 fn lock_block<L: BlockLane, G: LogDevice, R: Wait>(
     manager: &Manager<L, G>,
     rt: &R,
@@ -56,7 +57,8 @@ fn lock_block<L: BlockLane, G: LogDevice, R: Wait>(
     unreachable!()
 }
 
-/// Reads the page of a block under its cleanup lock, tells the gate of the pin, and puts what becomes of the page where that is another one.
+/// Reads the page of a block under its cleanup lock, tells the gate of the pin, and puts the
+/// rewritten page if that is another one.
 fn rewrite_locked<L: BlockLane, G: LogDevice, R: Wait, T: Gate>(
     manager: &Manager<L, G>,
     rt: &R,
@@ -109,7 +111,7 @@ fn rewrite_held<L: BlockLane, G: LogDevice, R: Wait, T: Gate>(
     answer
 }
 
-/// What ends the job where a put was refused for this reason.
+/// What ends the job if a put was refused for this reason.
 fn fault_of_put(why: PutError) -> JobError
     ensures { result ≡ fault_of_put why }
 {

@@ -37,7 +37,7 @@ pub(crate) struct Ran<K> {
     seat: Seat<(), Claimant>,
 }
 
-/// All workers at once, each in a thread of its own where one can be made.
+/// All workers at once, each in a thread of its own if one can be made.
 /// If no thread can be started, the caller works.
 fn work_all<
     L: BlockLane + Send,

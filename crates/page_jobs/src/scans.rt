@@ -280,7 +280,8 @@ pub fn scan<
         (λ e. (e ≡ OutFault) ⊎ (O.faults out.new ≡ O.faults out.old)) }
     ensures cause { IfErr result.end (EndsJob L.contents manager.now rel.0 fork
         passes.items result.passes.items (O.faults out.old) (O.faults out.new)) }
-    // Where no device fails for any of the passes, it ends well, out of memory, or at a page past the log's end.
+    // If no device fails for any of the passes, it ends well, out of memory, or at a page past the
+    // log's end.
     ensures short { NoDeviceFailsIn passes.items result.passes.items
         → OutIsQuiet (O.faults out.old) (O.faults out.new) → IsDoneShortOrMemory result.end }
     ensures complete { NothingFailsIn L.contents manager.now passes.items result.passes.items
@@ -348,7 +349,8 @@ pub fn dump<
         (λ e. (e ≡ OutFault) ⊎ (O.faults out.new ≡ O.faults out.old)) }
     ensures cause { IfErr result.end (EndsJob L.contents manager.now rel.0 fork
         passes.items result.passes.items (O.faults out.old) (O.faults out.new)) }
-    // Where no device fails for any of the passes, it ends well, out of memory, or at a page past the log's end.
+    // If no device fails for any of the passes, it ends well, out of memory, or at a page past the
+    // log's end.
     ensures short { NoDeviceFailsIn passes.items result.passes.items
         → OutIsQuiet (O.faults out.old) (O.faults out.new) → IsDoneShortOrMemory result.end }
     ensures complete { NothingFailsIn L.contents manager.now passes.items result.passes.items

@@ -41,7 +41,7 @@ pub(crate) struct Buffers {
 
 /// What the workers of a job begin with, and give back when they have ended.
 pub(crate) trait JobTask {
-    // The second one is the task of a worker that begins, where the first one is the job's.
+    // The first one is the job's task, and the second one that of a worker that begins.
     ghost begins: { Self → Self → Type 0 };
 
     // So many workers can still begin.

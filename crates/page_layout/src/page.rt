@@ -21,7 +21,7 @@ const HEADER_SIZE: u16 = 24;
 /// A position in the write-ahead log.
 pub type Lsn = u64;
 
-/// Out of memory, where that is the only error.
+/// Out of memory, for calls with no other error.
 pub type Memory = AllocError;
 
 /// The first 24 bytes of a page.
@@ -68,7 +68,7 @@ impl Header {
 /// A line pointer (`itemid.h`).
 #[derive(Clone, Copy, PartialEq, Eq, Debug)]
 pub struct Item {
-    /// Where the item's bytes stand, or, of a redirect, the number of another pointer.
+    /// Where the item's bytes are, or, of a redirect, the number of another pointer.
     pub offset: u16,
     /// 0: unused, 1: normal, 2: redirect, 3: dead.
     pub state: u8,

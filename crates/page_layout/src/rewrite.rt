@@ -20,7 +20,7 @@ pub enum Rewrite {
 
 /// Rewrites a page that is sound and not new into another, and says what became of it. A page that
 /// is skipped leaves all bytes of the other as they are. Else the other has the rewritten page's
-/// bytes, which are the page's own where it is the same. The log position is the page's.
+/// bytes, which are the page's own if it is the same. The log position is the page's.
 /// A second rewrite can differ: an item without bytes can have another one's offset, and then the
 /// one with the smaller number goes first.
 pub fn rewritten(page: &Page, out: &mut Page) -> Rewrite

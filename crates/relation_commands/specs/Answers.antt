@@ -27,12 +27,12 @@ use Rattle.relation_commands.specs.Samples.{sample_text}
 use Rattle.sample_relation.specs.Relations.{sample_relation}
 use Rattle.relation_commands.specs.Status.{bad_log_text, crowded_text, error_line, limit_text, missing_text, status_of_error, tool_line, usage_text}
 
--- where the paths are known, nothing is there at the one that is asked for; a sample asks for none
+-- if the paths are known, nothing is there at the one that is asked for; a sample asks for none
 abbrev pub IsMissing : Option Paths → Option (List ℕ) → Type 0
 IsMissing known None = ⊥
 IsMissing known (Some path) = IfSome known (λ paths. paths path ≡ [])
 
--- where the paths are known, something is there at it
+-- if the paths are known, something is there at it
 abbrev pub IsThere : Option Paths → Option (List ℕ) → Type 0
 IsThere known None = Unit {0}
 IsThere known (Some path) = IfSome known (λ paths. paths path ≢ [])
@@ -42,14 +42,14 @@ abbrev pub IsKnownThere : Option Paths → Option (List ℕ) → Type 0
 IsKnownThere known None = Unit {0}
 IsKnownThere known (Some path) = IsSomeAnd known (λ paths. paths path ≢ [])
 
--- of a recovery: where the logs are known, none is at the path of its log
+-- a recovery has no file at the path of its log, if the logs are known
 abbrev pub LacksLog : Asked → Option Logs → Type 0
 LacksLog (listing l) logs = ⊥
 LacksLog (rewriting r) logs = ⊥
 LacksLog (recovering r) logs = IfSome logs (λ logs. logs r.log ≡ None)
 LacksLog (sampling s) logs = ⊥
 
--- one is there
+-- a recovery has a file at the path of its log, if the logs are known
 abbrev pub HasLog : Asked → Option Logs → Type 0
 HasLog (listing l) logs = Unit {0}
 HasLog (rewriting r) logs = Unit {0}
@@ -89,7 +89,8 @@ pages_asked (rewriting r) paths = pages_at r paths
 pages_asked (recovering r) paths = pages_at r paths
 pages_asked (sampling s) paths = sample_relation s.seed s.blocks
 
--- the text that is asked for, where it is known: that of a sample is, and that of a listing and of a rewrite where the paths are; that of a recovery is the log's
+-- the text that is asked for, if it is known: that of a sample is; those of a listing and a rewrite
+-- are if the paths are; that of a recovery depends on its log
 abbrev pub text_asked : Asked → Option Paths → Option (List ℕ)
 text_asked (listing l) known = option_map (λ paths. text_of l.listing (pages_asked (listing l) paths)) known
 text_asked (rewriting r) known = option_map (λ paths. rewrite_text (pages_at r paths)) known
@@ -106,7 +107,7 @@ pub record FaultCounts : Type 0 where
 abbrev pub counts : ℕ → ℕ → ℕ → ℕ → FaultCounts
 counts reads writes logs outs = record { reads = reads; writes = writes; logs = logs; outs = outs }
 
--- those of a host and of an output, each of which tells its own
+-- the counts of faults of a host and an output
 abbrev pub counts_of : {H O : Type 0} → (H → ℕ) → (H → ℕ) → (H → ℕ) → (O → ℕ) → H → O → FaultCounts
 counts_of reads writes logs outs host out = counts (reads host) (writes host) (logs host) (outs out)
 
@@ -135,7 +136,7 @@ PrintsAtEnd request = IfSome request (λ a. is_listing a ≡ false)
 abbrev pub WritesNoPath : Option Asked → Type 0
 WritesNoPath request = IfSome request (λ a. is_writing a ≡ false)
 
--- no block's last write failed; where the words are no command, or ask for a sample, all is as it was
+-- no block's last write failed; if the words are no command, or ask for a sample, all is as it was
 abbrev pub FailsNone : Option Asked → Paths → PathMarks → PathMarks → Type 0
 FailsNone None paths old new = new ≡ old
 FailsNone (Some (listing l)) paths old new = NoneFails l.options.seg_blocks paths l.path old new
@@ -157,7 +158,8 @@ RefusesWords Usage = Unit {0}
 RefusesWords Memory = Unit {0}
 RefusesWords _ = ⊥
 
--- A rewrite could pass the last log position: of pages of these positions, or of a page past the log's end, or of a log that is full; the last two don't come where the relation is known
+-- A rewrite could pass the last log position: with this many pages of this largest position; or a
+-- page is past the log's end; or the log is full. The last two don't happen if the relation is known
 abbrev pub IsOverLimit : Option (List Page) → PositionLimit → Type 0
 IsOverLimit known (OfPages largest blocks) = PassesLimit largest blocks × IfSome known (λ pages. (largest ≡ largest_lsn pages) × (blocks ≡ length pages))
 IsOverLimit known (OfPage lsn end) = (end < lsn) × IfSome known (λ pages. ⊥)
@@ -174,7 +176,8 @@ HasPositions (rewriting r) pages = ¬ ArePastLimit pages
 HasPositions (recovering r) pages = Unit {0}
 HasPositions (sampling s) pages = Unit {0}
 
--- the same of the relation that is asked for, where it is known
+-- the positions of the relation that is asked for, if it is known, stay below the last one in a
+-- rewrite
 abbrev pub HasPositionsAt : Asked → Option Paths → Type 0
 HasPositionsAt a known = IfSome known (λ paths. HasPositions a (pages_asked a paths))
 
@@ -224,17 +227,19 @@ Ends None known logs old new (Ok done) = ⊥
 Ends None known logs old new (Err error) = RefusesWords error
 Ends (Some a) known logs old new result = EndsCommand a known logs old new result
 
--- status 1 comes only where the words are no command, and always then unless memory was short
+-- status 1 comes only if the words are no command, and always then unless memory was short
 pub record UsageIf (request : Option Asked) (status : ℕ) : Type 0 where
   pub only : status ≡ 1 → request ≡ None
   pub always : request ≡ None → (status ≡ 1) ⊎ (status ≡ 8)
 
--- status 2 comes only where it is crowded, and always then unless memory was short
+-- status 2 comes only if the command is crowded, and always then unless memory was short
 pub record CrowdedIf (options : Options) (status : ℕ) : Type 0 where
   pub only : status ≡ 2 → IsCrowded options
   pub always : IsCrowded options → (status ≡ 2) ⊎ (status ≡ 8)
 
--- Status 3 comes only where it isn't crowded, the relation isn't there, or it is and the log of its recovery isn't, and no opening failed; and always then unless an opening failed or memory was short
+-- Status 3 comes only if the command isn't crowded, no opening failed, and the relation isn't
+-- there, or it is and the log of its recovery isn't; and always then unless an opening failed or
+-- memory was short
 pub record MissingIf (a : Asked) (known : Option Paths) (logs : Option Logs) (reads reads_now status : ℕ) : Type 0 where
   pub only : status ≡ 3 → (IsMissing known (path_of a) ⊎ (IsThere known (path_of a) × LacksLog a logs))
       × ¬ IsCrowded (options_of a) × (reads_now ≡ reads)
@@ -243,7 +248,9 @@ pub record MissingIf (a : Asked) (known : Option Paths) (logs : Option Logs) (re
       IsThere (Some paths) (path_of a) → LacksLog a (Some logs)
       → (status ≡ 3) ⊎ ((status ≡ 8) ⊎ ((status ≡ 4) × Rose reads reads_now))))
 
--- Status 10 comes only for a recovery that isn't crowded, of a relation that is there, by a log whose head is bad, where these are known, and no read failed; and always then unless a read failed or memory was short
+-- Status 10 comes only for a recovery that isn't crowded, of a relation that is there, by a log
+-- whose head is bad, if these are known, and only if no read failed; and always then unless a read
+-- failed or memory was short
 pub record BadLogIf (a : Asked) (known : Option Paths) (logs : Option Logs) (reads reads_now status : ℕ) : Type 0 where
   pub only : status ≡ 10 → IsThere known (path_of a) × HasBadLog a logs
       × ¬ IsCrowded (options_of a) × (reads_now ≡ reads)
@@ -251,7 +258,9 @@ pub record BadLogIf (a : Asked) (known : Option Paths) (logs : Option Logs) (rea
       → IfSome known (λ paths. IfSome logs (λ logs. IsThere (Some paths) (path_of a)
       → HasBadLog a (Some logs) → (status ≡ 10) ⊎ (status ≡ 8)))
 
--- status 9 comes only for a rewrite of a relation that is there and isn't crowded, whose pages, where they are known, could pass the last position; and always then unless a read failed or memory was short
+-- status 9 comes only for a rewrite that isn't crowded, of a relation that is there, whose pages,
+-- if they are known, could pass the last position; and always then unless a read failed or memory
+-- was short
 pub record LimitIf (a : Asked) (known : Option Paths) (reads reads_now status : ℕ) : Type 0 where
   pub only : status ≡ 9 → (is_rewriting a ≡ true) × ¬ IsCrowded (options_of a) × IfSome known (λ paths. IsThere (Some paths) (path_of a) × ArePastLimit (pages_asked a paths))
   pub always : is_rewriting a ≡ true → ¬ IsCrowded (options_of a)
@@ -269,7 +278,7 @@ pub record Wrote (text : List ℕ) (old new : Option (List ℕ)) (status : ℕ) 
   pub all : status ≡ 0 → new ≡ option_map (λ bytes. bytes ++ text) old
   pub prefix : IfSome old (λ bytes. IsSomeAnd new (GainsPrefix text bytes))
 
--- Of a recovery, the text of the log that its file is, where that is known, was put, or a prefix of it
+-- the text of a recovery's log, if the logs are known, was put, or a prefix of it
 abbrev pub PutsLogOf : {E : Type 0} → Asked → Option Logs → Option (List ℕ) → Option (List ℕ) → Result Unit E → Type 0
 PutsLogOf (listing l) logs old new result = Unit {0}
 PutsLogOf (rewriting r) logs old new result = Unit {0}
@@ -277,7 +286,7 @@ PutsLogOf (recovering r) logs old new result =
     IfSome logs (λ logs. ForLogOf r logs (λ log. Puts (recover_text log) old new result))
 PutsLogOf (sampling s) logs old new result = Unit {0}
 
--- the same at the end of a run
+-- the text of a recovery's log, if the logs are known, is out: whole at status 0, a prefix at any
 abbrev pub WroteLogOf : Asked → Option Logs → Option (List ℕ) → Option (List ℕ) → ℕ → Type 0
 WroteLogOf (listing l) logs old new status = Unit {0}
 WroteLogOf (rewriting r) logs old new status = Unit {0}
@@ -292,7 +301,9 @@ pub record CountsBelowLast (old : FaultCounts) : Type 0 where
   pub logs : old.logs < 2 ^ 64 - 1
   pub outs : old.outs < 2 ^ 64 - 1
 
--- what is owed where no count rose: a relation that is known to be there is listed, or rewritten where its positions stay below the last one, or recovered where a log with a good head is known to be there, and a sample is done, unless it is crowded or memory was short
+-- what is owed if no count rose: a relation that is known to be there is listed, or rewritten if
+-- its positions stay below the last one, or recovered if a log with a good head is known to be
+-- there, and a sample is done, unless the command is crowded or memory was short
 abbrev pub IsComplete : Asked → Option Paths → Option Logs → FaultCounts → FaultCounts → ℕ → Type 0
 IsComplete a known logs old new status = ¬ IsCrowded (options_of a)
     → IsKnownThere known (path_of a) → IsKnownLog a logs → HasPositionsAt a known

@@ -99,7 +99,8 @@ module _ {L G : Type 0} (contents : L → Option Pages) (m : Manager L G) (fork 
       pub stores : StoresAll (lanes_in m.table) qs zs
       pub met : MeetNothing ps zs
 
-    -- The passes `ps` made a rewrite, and where that was whole the last of them a checkpoint. No other page was put, and all passes can be given back
+    -- The passes `ps` made a rewrite, and, if it was whole, the last of them a checkpoint. No other
+    -- page was put, and all passes can be given back
     pub record StoresRewrite (ps zs : List PassState) (end : Result RewriteTotals RewriteError) : Type 0 where
       -- after the job they were these
       pub qs : List PassState

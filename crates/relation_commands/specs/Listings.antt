@@ -17,7 +17,8 @@ abbrev pub text_of : Listing → List Page → List ℕ
 text_of Scan pages = scan_text pages
 text_of Dump pages = dump_text pages
 
--- Lanes after a listing of the blocks of a fork: where its pages are known they stand in the lanes still, and none of its blocks is one whose last write failed; no write failed
+-- Lanes after a listing of the blocks of a fork: if its pages are known, they are still in the
+-- lanes, and none of its blocks is one whose last write failed; no write failed
 pub record LeavesLanes {L : Type 0} (contents : L → Option Pages) (failed : L → Marks) (write_faults : L → ℕ) (fork : Fork) (blocks : ℕ) (lanes lanes' : List L) : Type 0 where
   pub stay : (pages : List Page) → HoldPages fork pages (map contents lanes) → blocks ≡ length pages → HoldPages fork pages (map contents lanes')
   pub unfailed : (pages : List Page) → HoldPages fork pages (map contents lanes) → blocks ≡ length pages

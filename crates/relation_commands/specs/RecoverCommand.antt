@@ -38,6 +38,6 @@ module _ {L S : Type 0} (contents : L → Option Pages) (failed room : L → Mar
         × NoneFell (map reads lanes) (map reads lanes_now)
         × NoneFell (map writes lanes) (map writes lanes_now)
 
--- where the logs are known, what was redone is told of the log that the file is
+-- what was redone is that of the file's log, if the logs are known
 abbrev pub TellsLogOf : LoggedAsked → Option Logs → Redone → Type 0
 TellsLogOf r logs redone = IfSome logs (λ logs. ForLogOf r logs (λ log. Tells log redone))

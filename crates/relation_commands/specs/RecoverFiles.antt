@@ -35,12 +35,12 @@ catalog_of path = relation_entry (record {
 abbrev pub word_at : ℕ → ℕ
 word_at block = packed_tag (tag_at Main block)
 
--- it holds of the log that the file at a recovery's log path is, where one is there
+-- this holds of the log of a recovery, if a file is at its path
 abbrev pub ForLogOf : LoggedAsked → Logs → (Log → Type 0) → Type 0
 ForLogOf r logs P =
     IfSome (logs r.log) (λ file. (log : Log) → IsLogOf (catalog_of r.path) file.bytes log → P log)
 
--- a file is there, and these are the first entries of its log; none where its head is bad
+-- a file is there, and these are the first entries of its log; none if its head is bad
 abbrev pub AreFirstIn : LoggedAsked → Logs → List Entry → Type 0
 AreFirstIn r logs es = IsSomeAnd (logs r.log) (λ file. (HasBadHead file.bytes → es ≡ [])
     × ((log : Log) → IsLogOf (catalog_of r.path) file.bytes log
@@ -88,8 +88,8 @@ IsEnteredIn r logs block = IsSomeAnd (logs r.log) (λ file. (log : Log)
     × (IsLogOf (catalog_of r.path) file.bytes log × IsEntered log.entries (word_at block)))
 
 -- What a recovery leaves with any end: all as it was, or the relation after some first entries of
--- the log; a block whose last write failed has an entry in the log, too, and that comes to be so
--- only where the count of such faults rose
+-- the log; a block whose last write failed has an entry in the log, and its write comes to have
+-- failed only if the count of such faults rose
 pub data RecoverLeaves (r : LoggedAsked) (old new : HostFiles) : Type 0 where
   left_alone : KeepsFiles r old new → RecoverLeaves r old new
   redone_upto : (es : List Entry) → AreFirstIn r old.logs es → AreValid es × AreImages es

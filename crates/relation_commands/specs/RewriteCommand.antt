@@ -29,7 +29,9 @@ module _ {L : Type 0} (contents : L → Option Pages) where
   IsSurveyRefusal relation lanes faults _ = ⊥
 
 module _ {L : Type 0} (contents : L → Option Pages) (failed : L → Marks) (read_faults write_faults : L → ℕ) where
-  -- The lanes of the relation that is open, and the position where its log is to begin, once they were surveyed: no call failed, and no block was written. Where the paths are known the relation is there, its pages stand in the lanes, and no record of theirs passes the last position
+  -- The lanes of the relation that is open, and the position where its log is to begin, once they
+  -- were surveyed: no call failed, and no block was written. If the paths are known the relation is
+  -- there, its pages stand in the lanes, and no record of theirs passes the last position
   pub record AreSurveyed (known : Option Paths) (r : LoggedAsked) (relation : RelationFork) (base : ℕ) (lanes : List L) : Type 0 where
     pub count : length lanes ≡ r.options.lanes
     pub reads : sum_by read_faults lanes ≡ 0
@@ -42,7 +44,7 @@ module _ {L : Type 0} (contents : L → Option Pages) (failed : L → Marks) (re
     pub base_is : IfSome known (λ paths. base ≡ log_base (pages_at r paths))
     pub pages : IfSome known (λ paths. ArePages contents relation base lanes (pages_at r paths))
 
--- A log was opened at a path, where it is empty yet; or none was, and all logs are as they were
+-- A log was opened at a path, and is still empty; or none was, and all logs are as they were
 abbrev pub OpensLog : {G : Type 0} → Option G → List ℕ → Option Logs → Option Logs → List ℕ → Type 0
 OpensLog None path old new at = new ≡ old
 OpensLog (Some log) path old new at = (new ≡ option_map (with_log path empty_log) old) × IfSome old (λ _. at ≡ path)
@@ -62,7 +64,7 @@ IsFaultOf old new OutFault = Rose old.outs new.outs
 IsFaultOf old new Memory = Unit {0}
 IsFaultOf old new (OverLimit limit) = Unit {0}
 
--- No count fell, and all stay where all went well
+-- No count fell, and all stay if all went well
 pub record HasFaultOf {T : Type 0} (old new : FaultCounts) (result : Result T RewriteError) : Type 0 where
   pub later : CountsLater old new
   pub cause : MatchResult result (λ _. new ≡ old) (IsFaultOf old new)
@@ -72,7 +74,8 @@ abbrev pub MeetsLimit : Option (List Page) → RewriteError → Type 0
 MeetsLimit known (OverLimit limit) = IsOverLimit known limit
 MeetsLimit known _ = Unit {0}
 
--- where the pages are known their positions stay below the last one, unless the survey failed, memory was short or the refusal says otherwise
+-- if the pages are known, their positions stay below the last one, unless the survey failed, memory
+-- was short or the refusal says otherwise
 abbrev pub StaysBelowLimit : {T : Type 0} → Option (List Page) → Result T RewriteError → Type 0
 StaysBelowLimit known (Ok done) = IfSome known (λ pages. ¬ ArePastLimit pages)
 StaysBelowLimit known (Err ReadFault) = Unit {0}

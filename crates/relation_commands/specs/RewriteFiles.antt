@@ -29,7 +29,7 @@ pub record HostFiles : Type 0 where
   pub write_faults : ℕ
   pub log_faults : ℕ
 
--- where its paths and its logs are known
+-- the files of a host, if its paths and logs are known
 abbrev pub files_of : Option Paths → PathMarks → Option Logs → ℕ → ℕ → Option HostFiles
 files_of (Some paths) failed (Some logs) writes faults = Some (record {
   paths = paths;
@@ -41,13 +41,13 @@ files_of (Some paths) failed (Some logs) writes faults = Some (record {
 files_of (Some paths) failed None writes faults = None
 files_of None failed logs writes faults = None
 
--- the same of a host that tells them
+-- the files of this host, if its paths and logs are known
 abbrev pub files_in : {H : Type 0} → (H → Option Paths) → (H → PathMarks) → (H → Option Logs)
     → (H → ℕ) → (H → ℕ) → H → Option HostFiles
 files_in contents failed logs writes faults host =
     files_of (contents host) (failed host) (logs host) (writes host) (faults host)
 
--- where the files are known, this became of them
+-- the files became this, if they are known
 abbrev pub BecomesOf : Option HostFiles → Option HostFiles → (HostFiles → HostFiles → Type 0) → Type 0
 BecomesOf old new Leaves = IfSome old (λ files. IsSomeAnd new (Leaves files))
 
@@ -106,10 +106,10 @@ pub record BeginsLog (r : LoggedAsked) (old new : HostFiles) : Type 0 where
   pub changes : Changes r old new after file
   pub leaves : LeavesEither main_rule (names_of (fork_at r old.paths))
       (log_base (pages_at r old.paths)) (pages_at r old.paths) after (new.failed r.path) file
-  -- a block's last write comes to have failed only where the count of such faults rose
+  -- a block's last write comes to have failed only if the count of such faults rose
   pub failed : (block : ℕ) → block < length (pages_at r old.paths)
       → new.failed r.path block ≡ true → Rose old.write_faults new.write_faults
-  -- and something follows the log's bytes only where that of the log's faults did
+  -- something follows the log's bytes only if the count of the log's faults rose
   pub rest : leaves.begins.rest ≢ [] → Rose old.log_faults new.log_faults
 
 -- What a rewrite leaves with any end

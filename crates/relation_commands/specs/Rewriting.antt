@@ -56,7 +56,7 @@ IsRewriteCause reads writes logs logs_now (OverLimit (OfPages largest blocks)) =
 IsRewriteCause reads writes logs logs_now (OverLimit (OfPage lsn end)) = end < lsn
 IsRewriteCause reads writes logs logs_now (OverLimit (OfLog end)) = last_position < end + record_size
 
--- No fault was counted where all went well; the log's count never falls
+-- No fault was counted if all went well; the log's count never falls
 pub record HasRewriteCause (reads writes logs logs_now : ℕ) (end : Result RewriteTotals RewriteError) : Type 0 where
   pub logs_later : logs ≤ logs_now
   pub cause : MatchResult end (λ _. (reads ≡ 0) × (writes ≡ 0) × (logs_now ≡ logs)) (IsRewriteCause reads writes logs logs_now)
@@ -94,11 +94,11 @@ module _ {L G : Type 0} (contents : L → Option Pages) (failed : L → Marks) (
     (write_faults : L → ℕ) (log_faults : G → ℕ) where
   -- What a rewrite leaves of the lanes and of the log
   pub record LeavesRewritten (r : RelationFork) (base : ℕ) (lanes lanes' : List L) (log' : G) (end : Result RewriteTotals RewriteError) : Type 0 where
-    -- only where a call of the log failed something follows the log's bytes
+    -- something follows the log's bytes only if a call of the log failed
     pub either : (pages : List Page) (known : List ℕ) → ArePages contents r base lanes pages → bytes log' ≡ Some known
         → (x : LeavesEither (rule_of 0 r.fork) (names_of r) base pages (pages_after contents r lanes' pages) (failed_after failed r lanes') (record { bytes = known; synced = synced log' }))
         × (x.begins.rest ≢ [] → 0 < log_faults log')
-    -- where a block's last write failed a lane counts it
+    -- if a block's last write failed, a lane counts it
     pub marked : (pages : List Page) → ArePages contents r base lanes pages → (block : ℕ) → block < r.blocks
         → failed_after failed r lanes' block ≡ true → 0 < sum_by write_faults lanes'
     pub whole : IfOk end (λ totals. (pages : List Page) (known : List ℕ) → ArePages contents r base lanes pages → bytes log' ≡ Some known

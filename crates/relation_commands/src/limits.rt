@@ -44,7 +44,9 @@ impl fmt::Display for PositionLimit {
     }
 }
 
-/// Where the log of a rewrite begins, by the largest position of the pages and the number of blocks: at that position, rounded up to a multiple of 8. It is refused where a record of each block could pass the last position.
+/// Where the log of a rewrite begins, by the largest position of the pages and the number of
+/// blocks: at that position, rounded up to a multiple of 8. It is refused if a record of each block
+/// could pass the last position.
 pub(crate) fn log_base(largest: Lsn, blocks: u32) -> Result<Lsn, PositionLimit>
     ensures base { IfOk result (λ base. (base ≡ rounded_up largest) × (base + 8224 * blocks ≤ last_position)) }
     ensures over { IfErr result (λ limit. (limit ≡ PositionLimit.OfPages largest blocks) × PassesLimit largest blocks) }

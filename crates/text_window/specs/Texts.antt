@@ -81,7 +81,8 @@ module _ (texts : ℕ → ℕ → List ℕ → Type 0) (job : Job) where
     pub text : IsTextBy texts largest n piece
     pub part : IfSome job.before (λ b. IsSomeAnd bytes (GainsPrefix piece (b ++ front)))
 
-  -- the sink has the texts of some first chunks, and where a put failed maybe a prefix of the next one
+  -- the sink has the texts of some first chunks, and, if a put failed, maybe a prefix of the next
+  -- one
   abbrev pub HasPutSome : ℕ → Bool → Option (List ℕ) → Type 0
   HasPutSome largest true bytes = (n : ℕ) × HasPutPart largest n bytes
   HasPutSome largest false bytes = (n : ℕ) × (n ≤ job.chunks) × HasPut largest n bytes
@@ -94,7 +95,7 @@ module _ (texts : ℕ → ℕ → List ℕ → Type 0) (job : Job) where
     pub each : AreWaiting largest next waiting
     pub put : HasPut largest next bytes
 
-  -- One that goes on no more, since a put failed
+  -- A stream of texts that goes on no more, since a put failed
   pub record IsBroken (largest next : ℕ) (waiting : List (Option (List ℕ))) (bytes : Option (List ℕ)) : Type 0 where
     pub wide : length waiting ≡ job.width
     pub each : AreWaiting largest next waiting
@@ -111,7 +112,10 @@ module _ (texts : ℕ → ℕ → List ℕ → Type 0) (job : Job) where
         (IsBroken largest next waiting bytes × Rose job.faults faults)
         (IsStream largest next waiting bytes × (faults ≡ job.faults) × (delivered ≡ next + waiting_count waiting))
 
-  -- What the sink has after a job in which so many texts were delivered, of which so many were read past the base: the texts of some first chunks, and where a put failed maybe a prefix of the next one; those of all chunks, if no put failed and as many texts were delivered. Nothing of them was read past this place, which is the base if no text was
+  -- What the sink has after a job in which `delivered` texts were delivered, `above` of them read
+  -- past the base: the texts of some first chunks, and, if a put failed, maybe a prefix of the next
+  -- one; those of all chunks, if no put failed and as many texts were delivered. Nothing of them
+  -- was read past this place, which is the base if no text was
   pub record IsFinished (delivered above : ℕ) (output : Bool) (bytes : Option (List ℕ)) : Type 0 where
     pub place : ℕ
     pub at_base : above ≡ 0 → place ≡ job.base
