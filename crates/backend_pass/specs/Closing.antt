@@ -136,7 +136,8 @@ module _ {L G : Type 0} where
     -- if the log is down, what follows its bytes begins a record that one of the passes failed to
     -- append
     pub torn : (some : laws.rest.behind.rest ≢ []) → mark ≢ None → PassTore ps (laws.rest.behind.begins some).entry.change
-    pub history : IsHistory state.known state.origin state.opened_sizes state.log (calls_in_order ps)
+    pub history : IsHistory state.known state.origin state.opened_sizes state.log
+        (calls_in_order ps)
     pub each : EachPass (ClosesPass state) ps
     -- faults were met exactly when a device's count of them rose
     pub reads_rose : 0 < (met_by_passes ps).reads → (q : ℕ) × (q < state.lanes) × HasRisen (state.lane q).read_faults_at_start (state.lane q).read_faults

@@ -56,7 +56,7 @@ pub record IsFreshView (number id base : ℕ) (v : View) : Type 0 where
   pub met : v.met ≡ record { reads = 0; writes = 0; logs = 0 }
   pub turns : v.turns ≡ 0
 
--- What a pass has of its own and keeps: for how many frames its census has room, and its part of
+-- What a pass has of its own and keeps: for how many frames its census has room, and its pass of
 -- the free list, but for what it pushed there and took
 pub record PassOwn : Type 0 where
   pub frames : ℕ

@@ -29,7 +29,8 @@ pub record HasSeat {S : Type 0} (b : Badge View) (s : Seat S View) : Type 0 wher
   pub view : view_in b.views ≡ s.me.0
   pub hand : s.me.1 ≡ []
 
--- What a call keeps that works with the seat of a badge: all of the view but what `but` leaves out of it, the content locks, and what only rises. No latch is held then
+-- What a call keeps that works with the seat of a badge: all of the view but what `but` leaves out
+-- of it, the content locks, and what only rises. No latch is held then
 pub record KeepsBadge (but : View → View) (b d : Badge View) : Type 0 where
   pub badge : SameBadge b d
   pub quiet : HasNoDevice (view_in d.views)

@@ -16,7 +16,9 @@ use segment_store::BlockLane;
 use std::marker::Model;
 use std::sync::Wait;
 
-/// A backend of a manager: the seat that it works with, the pins that it has handed out, what else it has of its own, and room for the frames that a checkpoint marks. `Manager::close` takes it back.
+/// A backend of a manager: the seat that it works with, the pins that it has handed out, what else
+/// it has of its own, and room for the frames that a checkpoint marks. `Manager::close` takes it
+/// back.
 pub struct Pass {
     pub(crate) number: u32,
     pub(crate) seat: Badge<View>,

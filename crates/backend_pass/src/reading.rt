@@ -110,12 +110,14 @@ fn read_seated<L: BlockLane, G: LogDevice, R: Wait>(
     ring: &mut Option<Ring>,
 ) -> Result<PinnedBlock, BlockError>
     requires seated { IsSeated manager.now.table.table.shared.table_id held.now badge.old }
-    requires own { IsFurnished manager.now.table manager.now.sweep backend.old (view_in badge.old.views) }
+    requires own { IsFurnished manager.now.table manager.now.sweep backend.old
+        (view_in badge.old.views) }
     requires tag { names_block tag.now ≡ true }
     requires block { has_block (relations_of manager.now.table) tag.now ≡ true }
     requires new { IsNew tag.now held.now }
     ensures keeps { KeepsBadge kept_by_block_reads badge.old badge.new }
-    ensures own { KeepsOwn manager.now.table manager.now.sweep backend.old backend.new (view_in badge.new.views) }
+    ensures own { KeepsOwn manager.now.table manager.now.sweep backend.old backend.new
+        (view_in badge.new.views) }
     ensures ring { ring_shape ring.new ≡ ring_shape ring.old }
     ensures turns { TakesTurns backend.new.lookups.hint
         (view_in badge.old.views).turns (view_in badge.new.views).turns }
@@ -123,7 +125,8 @@ fn read_seated<L: BlockLane, G: LogDevice, R: Wait>(
         (view_in badge.old.views).hints (view_in badge.new.views).hints result }
     ensures answer { ReadAnswer L.contents manager.now.table tag.now held.now
         (view_in badge.old.views) (view_in badge.new.views) result }
-    ensures census { CensusRead (frames_of manager.now.table) backend.old.census backend.new.census result }
+    ensures census { CensusRead (frames_of manager.now.table) backend.old.census
+        backend.new.census result }
     ensures met { (view_in badge.new.views).met ≡ met_read_block result (view_in badge.old.views).met }
     ensures calls { ReadCalls L.contents manager.now.table tag.now held.now (is_some ring.old)
         backend.new.lookups.hint (choice_of backend.old ring.old)
@@ -154,7 +157,8 @@ impl Pass {
     ghost use Rattle.table_rule.specs.Blocks.{has_block};
     ghost use Rattle.frame_table.specs.Opened.{WasSoundAtOpening};
     ghost use Rattle.frame_table.specs.Seats.{frames_of, relations_of};
-    ghost use Rattle.buffer_frames.specs.Tokens.{IsNew, IsPinnedFor, count_of, held_at, tokens_less, tokens_more, tokens_of};
+    ghost use Rattle.buffer_frames.specs.Tokens.{IsNew, IsPinnedFor, count_of, held_at};
+    ghost use Rattle.buffer_frames.specs.Tokens.{tokens_less, tokens_more, tokens_of};
     ghost use Rattle.buffer_frames.specs.Hinting.{TakesTurns};
     ghost use Rattle.buffer_frames.specs.Outside.{ring_shape, shown_count};
     ghost use Rattle.buffer_frames.specs.declared.hinting.HintSeen.TheVariants.{Unused};

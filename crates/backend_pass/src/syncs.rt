@@ -83,7 +83,8 @@ impl Pass {
     ghost use Rattle.buffer_frames.specs.Working.{KeepsNotes, Within};
     ghost use Rattle.buffer_frames.specs.declared.syncing.SyncOnly.TheVariants.{Needed};
     ghost use Rattle.buffer_frames.specs.declared.syncing.Synced.TheVariants.{Skipped};
-    ghost use Rattle.buffer_frames.specs.Syncs.{EndsSync, LeavesLane, NotesBlock, SeesNotDirty, SyncsFrame, synced_work};
+    ghost use Rattle.buffer_frames.specs.Syncs.{EndsSync, LeavesLane, NotesBlock, SeesNotDirty};
+    ghost use Rattle.buffer_frames.specs.Syncs.{SyncsFrame, synced_work};
     ghost use Rattle.backend_pass.specs.FrameFlushes.{IsOkOrShort, frame_answer};
     ghost use Rattle.backend_pass.specs.Locks.{HasLock};
     ghost use Rattle.backend_pass.specs.Managers.{Belongs};

@@ -17,13 +17,15 @@ abbrev pub choice_of : Backend → Option RingState → ChoiceState
 choice_of b r = choice_state b.queue r b.census
 
 module _ {L G : Type 0} where
-  -- It has a pass of the clock's free list, room for a census of its frames, and counts the latches of partitions that its view took
+  -- A backend has a pass of the clock's free list, room for a census of its frames, and counts the
+  -- latches of partitions that its view took
   pub record IsFurnished (t : FrameTable L G) (w : Sweep) (b : Backend) (v : View) : Type 0 where
     pub queue : IsFreeList t w b.queue
     pub census : b.census.frames ≡ frames_of t
     pub counted : b.lookups.turns ≡ shown_count v.turns
 
-  -- That stays so
+  -- A backend keeps its pass of the free list, but for what it pushed there and took, its census's
+  -- room, and its count of latches of partitions
   pub record KeepsOwn (t : FrameTable L G) (w : Sweep) (b c : Backend) (v : View) : Type 0 where
     pub queue : IsFreeList t w c.queue
     pub lasts : SameQueue b.queue c.queue

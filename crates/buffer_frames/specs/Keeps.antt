@@ -20,15 +20,18 @@ module _ {L G : Type 0} where
     pub rests : LinksRest held s.me.0
     pub latches : HasNoLatch s.me.0
 
-  -- The seat, and its view but for what `but` leaves out, its content locks, and what only rises are as they were
+  -- The seat is the same one, and its view but for what `but` leaves out of it; its content locks are
+  -- as they were, and what only rises hasn't fallen
   pub record SameBut (but : View → View) (s s' : Seat (Value L G) View) : Type 0 where
     pub seat : SameSeat s s'
     pub same : but s'.me.0 ≡ but s.me.0
     pub rises : OnlyRises s.me.0 s'.me.0
     pub locks : SameLocks s.me.0 s'.me.0
 
-  -- What a call keeps of a seat and its view: all of the view but what `but` leaves out of it, the content locks, and what only rises. This latch is held then, or none
-  pub record Keeps (but : View → View) (latch : Option ℕ) (t : FrameTable L G) (s s' : Seat (Value L G) View) : Type 0 where
+  -- What a call keeps of a seat and its view: all of the view but what `but` leaves out of it, the
+  -- content locks, and what only rises. This latch is held then, or none
+  pub record Keeps (but : View → View) (latch : Option ℕ) (t : FrameTable L G)
+      (s s' : Seat (Value L G) View) : Type 0 where
     pub seat : SameSeat s s'
     pub stands : Stands t s'
     pub same : but s'.me.0 ≡ but s.me.0

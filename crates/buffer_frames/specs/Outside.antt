@@ -18,7 +18,8 @@ chosen_of v = record (outside_of v) { ticks = 0 }
 abbrev pub searched_of : View → View
 searched_of v = record (outside_of v) { turns = 0; hints = [] }
 
--- What a call leaves that may take a frame's tag away, and one that may take latches and store hints besides: what they leave without that, but for the count of tags taken
+-- What a call leaves that may take a frame's tag away, and one that may take latches and store hints
+-- besides: what they leave without that, but for the count of tags taken
 abbrev pub emptying_of : View → View
 emptying_of v = record (outside_of v) { cleared = 0 }
 

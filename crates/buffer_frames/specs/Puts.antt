@@ -55,7 +55,8 @@ pub record PutsPage (relations : List RelEntry) (f : ℕ) (tag : Tag) (page : Pa
 -- The page was put, with its position, which is the view's front from then on: one write more is among its calls
 pub record DidPut (relations : List RelEntry) (f : ℕ) (tag : Tag) (page : Page) (lsn : ℕ) (v w : View) : Type 0 where
   pub work : PutsPage relations f tag (with_lsn lsn page) lsn v w
-  pub calls : w.calls ≡ v.calls ++ Write v.number (packed_tag tag) (with_lsn lsn page) lsn image_record ∷ []
+  pub calls : w.calls
+      ≡ v.calls ++ Write v.number (packed_tag tag) (with_lsn lsn page) lsn image_record ∷ []
   pub front : w.front ≡ lsn
   pub later : v.front < lsn
 

@@ -1,5 +1,6 @@
 -- How a frame is got for a block: the victims that are chosen, one after another.
-use Rattle.std.specs.Prelude.{◌≡◌, ◌≢◌, ◌⊎◌, ℕ, ◌+◌, ◌<◌, Bool, true, [], length, Option, Some, None, Result, Ok, Err}
+use Rattle.std.specs.Prelude.{◌≡◌, ◌≢◌, ◌⊎◌, ℕ, ◌+◌, ◌<◌, Bool, true, [], length}
+use Rattle.std.specs.Prelude.{Option, Some, None, Result, Ok, Err}
 use Rattle.std.specs.List.{All}
 use Rattle.access_rings.specs.RingState.{RingState}
 use Rattle.block_tag.specs.declared.tag.Tag.{Tag}
@@ -98,7 +99,8 @@ module _ {L G : Type 0} (contents : L → Option Pages) (t : FrameTable L G) whe
     untagged : {u : View} (from_ring : Bool) → ChoosesVictim (frames_of t) f from_ring v c u d
         → Did (pins kinds.load_tag) f u w (tag_word None) → InvalidatesVictim f v c w d
     emptied : {u : View} → ChoosesAndFlushes f v c u d (Ok Clean) → Within (ClearsTag f) u w
-        → searched_of w ≡ record (searched_of u) { cleared = u.cleared + 1 } → InvalidatesVictim f v c w d
+        → searched_of w ≡ record (searched_of u) { cleared = u.cleared + 1 }
+        → InvalidatesVictim f v c w d
 
   -- A victim was chosen, the frame f, and was given up: its page was spared; or it was in use as it was to lose its tag, or to get the block's
   pub data GivesVictimUp (f : ℕ) (v : View) (c : ChoiceState) (w : View) (d : ChoiceState) : Type 0 where

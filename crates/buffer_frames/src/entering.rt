@@ -1,5 +1,6 @@
 //! A block comes into a victim.
-ghost use Rattle.std.specs.Prelude.{[], ◌≡◌, ◌+◌, ◌<◌, ℕ, None, Some, true, IfNone, IfSome, MatchOption};
+ghost use Rattle.std.specs.Prelude.{[], ◌≡◌, ◌+◌, ◌<◌, ℕ, None, Some, true};
+ghost use Rattle.std.specs.Prelude.{IfNone, IfSome, MatchOption};
 ghost use Rattle.std.specs.Bool.{OnFalse, OnTrue};
 ghost use Rattle.block_tag.specs.Names.{names_block, packed_tag, partition_number};
 ghost use Rattle.pin_core.specs.declared.view.MapChange.TheVariants.{Stable};

@@ -42,7 +42,8 @@ fn erase_latched<L: BlockLane, G: LogDevice, R: Wait>(
     requires inside { frame < frames_of table.now }
     requires tag { names_block tag.now ≡ true }
     requires remembered { (link seat.old.me.0 frame).tag ≡ Some (packed_tag tag.now) }
-    ensures keeps { Keeps emptying_of (Some (partition_number tag.now)) table.now seat.old seat.new }
+    ensures keeps { Keeps emptying_of (Some (partition_number tag.now)) table.now
+        seat.old seat.new }
     ensures taken { OnTrue result (seat.new.me.0.cleared ≡ seat.old.me.0.cleared + 1) }
     ensures untaken { OnFalse result (seat.new.me.0.cleared ≡ seat.old.me.0.cleared) }
     ensures victim { HasVictim frame _held.now seat.new.me.0 }

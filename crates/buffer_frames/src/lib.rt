@@ -1,17 +1,19 @@
-//! What a backend does with one buffer (`bufmgr.c`), below its pass: it works on the shared table and the backend's
-//! seat there. Engines call `backend_pass` instead, and `bg_writer` and `checkpointer`.
+//! What a backend does with one buffer (`bufmgr.c`), below its pass: it works on the shared table
+//! and the backend's seat there. Engines call `backend_pass` instead, and `bg_writer` and
+//! `checkpointer`.
 //!
-//! [`read_block`] looks a block up and, if it isn't in the pool, evicts a victim and reads it in. [`read_copy`] and
-//! [`share_to_read`] copy the page out, [`put_locked`] changes it through the log, and [`flush_frame`] and
-//! [`flush_pinned`] write it to its lane.
+//! [`read_block`] looks a block up and, if it isn't in the pool, evicts a victim and reads it in.
+//! [`read_copy`] and [`share_to_read`] copy the page out, [`put_locked`] changes it through the log,
+//! and [`flush_frame`] and [`flush_pinned`] write it to its lane.
 //!
-//! [`HeldPins`] are the pins that a backend has handed out (`PrivateRefCount`): one pin of the frame table for each
-//! frame, and the number of tokens that its callers have, with room for [`MOST_TOKENS`]. Only the first token of a
-//! block pins its frame, and only the last one to go gives the pin up.
+//! [`HeldPins`] are the pins that a backend has handed out (`PrivateRefCount`): one pin of the frame
+//! table for each frame, and the number of tokens that its callers have, with room for
+//! [`MOST_TOKENS`]. Only the first token of a block pins its frame, and only the last one to go
+//! gives the pin up.
 //!
-//! For the background writer and checkpoints (`SyncOneBuffer`) [`sync_one`] writes a buffer unless its state word says
-//! that it needn't be written, [`need_checkpoint`] marks one for a checkpoint, and [`sync_lane`] makes the writes to a
-//! lane durable.
+//! For the background writer and checkpoints (`SyncOneBuffer`) [`sync_one`] writes a buffer unless
+//! its state word says that it needn't be written, [`need_checkpoint`] marks one for a checkpoint,
+//! and [`sync_lane`] makes the writes to a lane durable.
 #![tactic(auto)]
 
 mod backend;

@@ -26,7 +26,8 @@ pub struct HeldPins {
 
 impl Model for HeldPins {
     ghost use Rattle.std.specs.Prelude.{◌≡◌, ◌≤◌, List, vec_capacity, vec_len};
-    ghost use Rattle.buffer_frames.specs.Tokens.{AreOfBlocks, HeldFrame, TokensAreCounted, count_of, held_in};
+    ghost use Rattle.buffer_frames.specs.Tokens.{AreOfBlocks, HeldFrame, TokensAreCounted};
+    ghost use Rattle.buffer_frames.specs.Tokens.{count_of, held_in};
 
     ghost Value = { List HeldFrame };
 
@@ -67,7 +68,8 @@ fn place_of(pins: &[HeldPin], tag: &Tag) -> Option<usize>
 impl HeldPins {
     ghost use Rattle.std.specs.Prelude.{◌≡◌, ◌≢◌, ◌<◌, Bool, true, false, None, Some, IfOk, IfSome, IfNone};
     ghost use Rattle.block_tag.specs.Names.{names_block, packed_tag};
-    ghost use Rattle.buffer_frames.specs.Tokens.{IsNew, IsPinnedFor, count_of, held_at, no_tokens, tokens_less, tokens_more, tokens_of, tokens_with};
+    ghost use Rattle.buffer_frames.specs.Tokens.{IsNew, IsPinnedFor, count_of, held_at, no_tokens};
+    ghost use Rattle.buffer_frames.specs.Tokens.{tokens_less, tokens_more, tokens_of, tokens_with};
 
     /// No pins, with room for as many as there may be tokens. Nothing is allocated later on.
     pub fn build(alloc: Global) -> Result<HeldPins, AllocError>

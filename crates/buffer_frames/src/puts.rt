@@ -26,7 +26,8 @@ use std::mem::replace;
 use std::sync::Wait;
 use wal_flush::{InsertError, insert};
 
-/// The image of the backend's entry becomes the frame's page, and the backend has the one that was there.
+/// The image of the backend's entry becomes the frame's page, and the backend has the one that was
+/// there.
 fn apply<L: BlockLane, G: LogDevice>(
     table: &FrameTable<L, G>,
     seat: &mut Seat<Value<L, G>, View>,
@@ -42,7 +43,8 @@ fn apply<L: BlockLane, G: LogDevice>(
     ensures seat { SameSeat seat.old seat.new }
     ensures touches { Touches frame seat.old.me.0 seat.new.me.0 }
     ensures marks { SameMarks seat.old.me.0 seat.new.me.0 }
-    ensures applied { link seat.new.me.0 frame ≡ applied_link page.old (record (link seat.old.me.0 frame) { out = None }) }
+    ensures applied { link seat.new.me.0 frame
+        ≡ applied_link page.old (record (link seat.old.me.0 frame) { out = None }) }
     ensures did { AppliesImage frame page.old seat.old.me.0 seat.new.me.0 }
 {
     let out = page_out(table, seat, frame);

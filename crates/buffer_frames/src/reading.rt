@@ -68,7 +68,8 @@ fn pin_block<L: BlockLane, G: LogDevice, R: Wait>(
     ensures own { KeepsOwn table.now sweep.now backend.old backend.new seat.new.me.0 }
     ensures ring { ring_shape ring.new ≡ ring_shape ring.old }
     ensures pinned { PinsOrRests (frames_of table.now) (packed_tag tag.now) held.now seat.new.me.0 result }
-    ensures census { CensusPinned (frames_of table.now) backend.old.census backend.new.census result }
+    ensures census { CensusPinned (frames_of table.now) backend.old.census
+        backend.new.census result }
     ensures met { seat.new.me.0.met ≡ met_claimed result seat.old.me.0.met }
     ensures calls { PinAnswer L.contents table.now tag.now held.now (is_some ring.old)
         backend.new.lookups.hint (choice_of backend.old ring.old)
@@ -96,7 +97,9 @@ fn pin_block<L: BlockLane, G: LogDevice, R: Wait>(
     claimed
 }
 
-/// Reads a block that callers have no pin of (`ReadBuffer_common`): its frame is pinned, or it comes into one, and its page is there. A refusal leaves all pins as they were. The backend counts the latches of partitions that it takes, and says what it saw of the block's hint.
+/// Reads a block that callers have no pin of (`ReadBuffer_common`): its frame is pinned, or it comes
+/// into one, and its page is there. A refusal leaves all pins as they were. The backend counts the
+/// latches of partitions that it takes, and says what it saw of the block's hint.
 pub fn read_block<L: BlockLane, G: LogDevice, R: Wait>(
     table: &FrameTable<L, G>,
     rt: &R,

@@ -6,10 +6,13 @@ ghost use Rattle.pin_core.specs.declared.view.Content.TheVariants.{Unlocked};
 ghost use Rattle.pin_core.specs.declared.view.Role.TheVariants.{Absent};
 ghost use Rattle.pin_core.specs.State.{link};
 ghost use Rattle.frame_table.specs.Seats.{HoldsNumber, IsWordOf, Looked, SameMarks, SameSeat, Touches, frames_of, locked_link, unlocked_link};
-ghost use Rattle.buffer_frames.specs.Rests.{HasAtMostLock, LinkRests, LinksRest, LinksRestBeside, Stands};
+ghost use Rattle.buffer_frames.specs.Rests.{HasAtMostLock, LinkRests, LinksRest};
+ghost use Rattle.buffer_frames.specs.Rests.{LinksRestBeside, Stands};
 ghost use Rattle.buffer_frames.specs.Tokens.{IsPinnedFor, held_at};
 ghost use Rattle.buffer_frames.specs.declared.syncing.SyncOnly.TheVariants.{Needed};
-ghost use Rattle.buffer_frames.specs.Syncs.{AreAlone, ComesAtOnce, FlushesPinned, IsDirty, LeavesPinned, LooksUnderHeader, PinsUnder, SyncsOne, passes_over, synced_of};
+ghost use Rattle.buffer_frames.specs.Syncs.{AreAlone, ComesAtOnce, FlushesPinned, IsDirty};
+ghost use Rattle.buffer_frames.specs.Syncs.{LeavesPinned, LooksUnderHeader, PinsUnder, SyncsOne};
+ghost use Rattle.buffer_frames.specs.Syncs.{passes_over, synced_of};
 
 use crate::flushing::{FlushedPage, FrameFlushError, flush_pinned};
 use crate::pins::HeldPins;

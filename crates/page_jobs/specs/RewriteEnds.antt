@@ -119,13 +119,16 @@ IsAfter s tag = ((k : ℕ) × (e : Entry) × (page : Page) × (get_elem? s.log.e
 -- each lane's blocks that are there are the pages
 -- before or after the rewrite, or their last write failed
 abbrev pub LanesHoldEither : State → Type 0
-LanesHoldEither s = (tag : ℕ) → is_block s.pool.core tag ≡ true → s.known tag ≡ true → failed s tag ≡ false → IsAfter s tag
+LanesHoldEither s = (tag : ℕ)
+    → is_block s.pool.core tag ≡ true → s.known tag ≡ true → failed s tag ≡ false → IsAfter s tag
 
 -- each block whose last write didn't fail has the page of its entry, or, if it has no entry, its
 -- page as before
 pub record LanesHoldAll (s : State) : Type 0 where
   pub written : (k tag : ℕ) (e : Entry) (page : Page) → get_elem? s.log.entries k ≡ some e → IsPageEntry e tag page → s.known tag ≡ true → failed s tag ≡ false → stored s tag ≡ Some page
-  pub other : (tag : ℕ) → is_block s.pool.core tag ≡ true → s.known tag ≡ true → failed s tag ≡ false → (HasEntry s.log tag → ⊥) → stored s tag ≡ s.origin tag
+  pub other : (tag : ℕ)
+      → is_block s.pool.core tag ≡ true → s.known tag ≡ true → failed s tag ≡ false
+      → (HasEntry s.log tag → ⊥) → stored s tag ≡ s.origin tag
 
 -- What the log and the lanes are after a rewrite that did all blocks, and a checkpoint
 pub record IsResult (r : Rule) (n : ℕ) (s : State) : Type 0 where

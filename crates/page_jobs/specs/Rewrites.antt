@@ -59,7 +59,8 @@ abbrev pub outcome_calls : Rule → Outcome → List Call
 outcome_calls r (unsound b) = []
 outcome_calls r (kept b i p n) = Read i (r.tag b) p n ∷ []
 outcome_calls r (refused b i p n) = Read i (r.tag b) p n ∷ []
-outcome_calls r (changed b i p n m) = Read i (r.tag b) p n ∷ Write i (r.tag b) (r.rewritten p m) m image_record ∷ []
+outcome_calls r (changed b i p n m) =
+    Read i (r.tag b) p n ∷ Write i (r.tag b) (r.rewritten p m) m image_record ∷ []
 
 -- and for blocks one after the other
 abbrev pub calls_for : Rule → List Outcome → List Call

@@ -22,7 +22,8 @@ use segment_store::BlockLane;
 pub fn rewrite_ends()
     // With any end a block has at most one entry, the image of its page at the start, and its lane holds one of the two pages, or its last write failed.
     ensures any { (r : Rule) (n : ℕ) (s : State) (calls : List Call) (ps : List BackendCalls)
-        → Laws s → IsHistory s.known s.origin s.opened_sizes s.log calls → Rewrites r n s.known s.origin calls ps
+        → Laws s → IsHistory s.known s.origin s.opened_sizes s.log calls
+        → Rewrites r n s.known s.origin calls ps
         → HasRewrites r n s.known s.origin s.log × LanesHoldEither s }
 
     // After one of all blocks, and a checkpoint after it, the log has exactly the entries of the changed blocks, and the lanes hold the rewritten relation.

@@ -1,8 +1,10 @@
 //! What a dump prints of a page.
-ghost use Rattle.std.specs.Prelude.{◌≡◌, ◌≤◌, ◌<◌, ◌+◌, ◌-◌, ◌*◌, ◌^◌, ◌++◌, [], ◌∷◌, ℕ, Some, OnOk, OnErr, IfOk, length, true, take, drop, codes};
+ghost use Rattle.std.specs.Prelude.{◌≡◌, ◌≤◌, ◌<◌, ◌+◌, ◌-◌, ◌*◌, ◌^◌, ◌++◌, [], ◌∷◌, ℕ, Some};
+ghost use Rattle.std.specs.Prelude.{OnOk, OnErr, IfOk, length, true, take, drop, codes};
 ghost use Rattle.std.specs.Fmt.{decimal};
 ghost use Rattle.page_layout.specs.Text.{joined};
-ghost use Rattle.page_layout.specs.Dump.{dump_lines_of, item_text, pointer_head, pointer_line, pointer_lines, pointer_tail, used_lines};
+ghost use Rattle.page_layout.specs.Dump.{dump_lines_of, item_text, pointer_head, pointer_line};
+ghost use Rattle.page_layout.specs.Dump.{pointer_lines, pointer_tail, used_lines};
 ghost use Rattle.page_layout.specs.Fields.{item_count};
 ghost use Rattle.page_layout.specs.Soundness.{is_sound_page};
 
@@ -26,7 +28,8 @@ fn write_unused(line: &mut Line, number: u16)
 
 /// The line of a redirect.
 fn write_redirect(line: &mut Line, number: u16, offset: u16)
-    ensures { line.new ≡ joined (codes "  " ∷ decimal number ∷ codes " redirect " ∷ decimal offset ∷ codes "\n" ∷ []) }
+    ensures { line.new ≡ joined (codes "  "
+        ∷ decimal number ∷ codes " redirect " ∷ decimal offset ∷ codes "\n" ∷ []) }
 {
     line.begin(b"\n");
     line.put_number(u64::from(offset));
@@ -37,7 +40,9 @@ fn write_redirect(line: &mut Line, number: u16, offset: u16)
 
 /// The line of a dead line pointer.
 fn write_dead(line: &mut Line, number: u16, offset: u16, length: u16)
-    ensures { line.new ≡ joined (codes "  " ∷ decimal number ∷ codes " dead " ∷ decimal offset ∷ codes " " ∷ decimal length ∷ codes "\n" ∷ []) }
+    ensures { line.new ≡ joined (codes "  "
+        ∷ decimal number ∷ codes " dead " ∷ decimal offset ∷ codes " " ∷ decimal length
+        ∷ codes "\n" ∷ []) }
 {
     line.begin(b"\n");
     line.put_number(u64::from(length));
@@ -50,7 +55,9 @@ fn write_dead(line: &mut Line, number: u16, offset: u16, length: u16)
 
 /// The line of a normal line pointer, before the item's bytes.
 fn write_normal(line: &mut Line, number: u16, offset: u16, length: u16)
-    ensures { line.new ≡ joined (codes "  " ∷ decimal number ∷ codes " normal " ∷ decimal offset ∷ codes " " ∷ decimal length ∷ codes " " ∷ []) }
+    ensures { line.new ≡ joined (codes "  "
+        ∷ decimal number ∷ codes " normal " ∷ decimal offset ∷ codes " " ∷ decimal length
+        ∷ codes " " ∷ []) }
 {
     line.begin(b" ");
     line.put_number(u64::from(length));
