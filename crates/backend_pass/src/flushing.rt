@@ -33,7 +33,7 @@ use std::sync::Wait;
 use wal_flush::FlushLog;
 
 /// The refusal of a pass whose frames refuse a flush.
-pub(crate) fn refused(why: buffer_frames::FrameFlushError) -> FlushError
+pub(crate) fn flush_error(why: buffer_frames::FrameFlushError) -> FlushError
     ensures { frame_refusal result ≡ why }
 {
     match why {
@@ -187,7 +187,7 @@ impl Pass {
             Ok(FlushedPage::Written) => Ok(true),
             Ok(FlushedPage::Clean) => Ok(false),
             Err(cause) => {
-                let why = refused(cause);
+                let why = flush_error(cause);
                 let shown = self.shown.after_flush(&why);
                 self.shown = CachePadded::new(shown);
                 Err(why)

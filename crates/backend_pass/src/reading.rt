@@ -36,7 +36,7 @@ use std::sync::Wait;
 use wal_flush::FlushLog;
 
 /// The refusal of a pass whose frames refuse a block.
-fn refused(why: BlockError) -> ReadError
+fn read_error(why: BlockError) -> ReadError
     ensures { result ≡ read_refusal why }
 {
     match why {
@@ -214,7 +214,7 @@ impl Pass {
                 Ok(Pinned { frame, tag, hit })
             }
             Err(cause) => {
-                let why = refused(cause);
+                let why = read_error(cause);
                 let shown = self.shown.after(&why);
                 self.shown = CachePadded::new(shown);
                 Err(why)

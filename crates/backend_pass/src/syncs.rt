@@ -4,7 +4,7 @@ ghost use Rattle.backend_pass.specs.FrameFlushes.{frame_answer};
 ghost use Rattle.backend_pass.specs.PassSyncs.{shown_lane_synced, shown_log_flushed, shown_synced};
 
 use crate::errors::FlushError;
-use crate::flushing::refused;
+use crate::flushing::flush_error;
 use crate::manager::Manager;
 use crate::met::Shown;
 use crate::pass::Pass;
@@ -20,13 +20,13 @@ use segment_store::BlockLane;
 use std::sync::Wait;
 use wal_flush::{FlushLog, flush_to};
 
-/// The refusal of a pass, by that of its frames.
-fn told(answer: Result<Synced, buffer_frames::FrameFlushError>) -> Result<Synced, FlushError>
+/// The answer of a pass, by that of its frames.
+fn sync_answer(answer: Result<Synced, buffer_frames::FrameFlushError>) -> Result<Synced, FlushError>
     ensures { frame_answer result ≡ answer }
 {
     match answer {
         Ok(synced) => Ok(synced),
-        Err(why) => Err(refused(why)),
+        Err(why) => Err(flush_error(why)),
     }
 }
 
@@ -138,7 +138,7 @@ impl Pass {
             &mut self.backend.page,
         );
         return_seat(&mut self.seat, seat);
-        let answer = told(frames_answer);
+        let answer = sync_answer(frames_answer);
         let shown = self.shown.after_sync(&answer);
         self.shown = CachePadded::new(shown);
         answer

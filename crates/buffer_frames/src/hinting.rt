@@ -77,7 +77,7 @@ pub(crate) fn give_back<L: BlockLane, G: LogDevice, R: Wait>(
 }
 
 /// What a look-up saw of a hint whose frame was not pinned.
-fn refused(why: TryPin) -> HintSeen
+fn refused_hint(why: TryPin) -> HintSeen
     ensures { result ≡ refused_hint why }
 {
     match why {
@@ -110,7 +110,7 @@ fn try_hinted<L: BlockLane, G: LogDevice, R: Wait>(
 {
     let pin = match table.try_pin(seat, frame, ring) {
         Ok(pin) => pin,
-        Err(why) => return Err(refused(why)),
+        Err(why) => return Err(refused_hint(why)),
     };
     let Some(other) = table.load_tag(seat, frame) else {
         unreachable!()

@@ -79,7 +79,7 @@ fn read_lane<L: BlockLane, G: LogDevice, R: Wait>(
 
 /// The page that the lane gave becomes the frame's, whose old page comes out in its place.
 /// So no page is copied on a miss.
-fn put_page<L: BlockLane, G: LogDevice>(
+fn install_page<L: BlockLane, G: LogDevice>(
     table: &FrameTable<L, G>,
     seat: &mut Seat<Value<L, G>, View>,
     frame: u32,
@@ -165,7 +165,7 @@ fn read_in<L: BlockLane, G: LogDevice, R: Wait>(
         end_io(table, rt, seat, right, IoEnd::Bad);
         return Err(LoadError::Unsound);
     }
-    put_page(table, seat, frame, tag, page);
+    install_page(table, seat, frame, tag, page);
     end_io(table, rt, seat, right, IoEnd::ReadOk);
     see_page(table, seat, frame, tag);
     Ok(())

@@ -16,7 +16,7 @@ use crate::hinting::give_back;
 use crate::loading::{LoadError, Loaded, load};
 use crate::lookup::look_up;
 use crate::pins::HeldPins;
-use crate::victims::{VictimError, claim};
+use crate::victims::{VictimError, bring_in};
 use access_rings::Ring;
 use atomic_table::Seat;
 use block_tag::Tag;
@@ -92,9 +92,9 @@ fn pin_block<L: BlockLane, G: LogDevice, R: Wait>(
         backend.lookups.hint = hint;
         return Ok(pin);
     }
-    let claimed = claim(table, rt, seat, held, sweep, backend, *tag, ring);
+    let pinned = bring_in(table, rt, seat, held, sweep, backend, *tag, ring);
     backend.lookups.hint = hint;
-    claimed
+    pinned
 }
 
 /// Reads a block that callers have no pin of (`ReadBuffer_common`): its frame is pinned, or it comes

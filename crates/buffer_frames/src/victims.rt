@@ -159,7 +159,7 @@ fn make_victim<L: BlockLane, G: LogDevice, R: Wait>(
 }
 
 /// Frees a frame for a block and brings the block there, or pins the frame that another backend has brought it into meanwhile.
-pub(crate) fn claim<L: BlockLane, G: LogDevice, R: Wait>(
+pub(crate) fn bring_in<L: BlockLane, G: LogDevice, R: Wait>(
     table: &FrameTable<L, G>,
     rt: &R,
     seat: &mut Seat<Value<L, G>, View>,

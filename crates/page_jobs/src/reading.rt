@@ -27,7 +27,7 @@ fn is_crowding(why: &ReadError) -> bool
 
 /// Pins a block. If each frame is pinned, it tries again.
 /// (`Pass::read_buffer` leaves that to its caller.)
-pub(crate) fn pin_block<L: BlockLane, G: LogDevice, R: Wait>(
+pub(crate) fn pin_with_retries<L: BlockLane, G: LogDevice, R: Wait>(
     manager: &Manager<L, G>,
     rt: &R,
     pass: &mut Pass,
@@ -69,7 +69,7 @@ fn copy_block<L: BlockLane, G: LogDevice, R: Wait, T: Gate>(
     ensures copied { OnOk result (CopiesBlock L.contents manager.now tag page.new pass.old pass.new) }
     ensures refused { IfErr result (RefusesBlock L.contents manager.now tag pass.old pass.new) }
 {
-    let pinned = pin_block(manager, rt, pass, tag, ring)?;
+    let pinned = pin_with_retries(manager, rt, pass, tag, ring)?;
     let _place = pass.read_page(manager, rt, &pinned, page);
     gate.seen(worker, &pinned);
     pass.release(manager, rt, pinned);

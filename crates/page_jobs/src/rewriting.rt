@@ -20,7 +20,7 @@ ghost use Rattle.page_jobs.specs.Rewriting.{CountsRewrites, LocksOne, RewritesBl
 
 use crate::ending::JobError;
 use crate::gate::Gate;
-use crate::reading::{fault_of, pin_block};
+use crate::reading::{fault_of, pin_with_retries};
 use crate::working::{BlockTask, Buffers, ForkBlocks, JobTask};
 use access_rings::{Ring, RingKind};
 use backend_pass::{Exclusive, Manager, Pass, PutError, ReadError, Refused};
@@ -47,7 +47,7 @@ fn lock_block<L: BlockLane, G: LogDevice, R: Wait>(
     ensures refused { IfErr result (RefusesBlock L.contents manager.now tag pass.old pass.new) }
 {
     for _ in rt.forever() {
-        let pinned = pin_block(manager, rt, pass, tag, ring)?;
+        let pinned = pin_with_retries(manager, rt, pass, tag, ring)?;
         match pass.lock_cleanup(manager, rt, pinned) {
             Ok(exclusive) => return Ok(exclusive),
             Err(Refused { pinned, why: _ }) => pass.release(manager, rt, pinned),

@@ -34,14 +34,14 @@ returns-then-not-is_sound-clause-shows g c = let unsound = sym c.is_sound.ensure
     record { page = c.read_lane.new.page; unsound = unsound; was = c.look.ensures.opening.unsound c.args.tag c.read_lane.new.page c.read_lane.ensures.reads.remembered c.if-not-read_lane.ensures.given unsound }
 
 pub see_page-requires-clause-stands : goal.see_page-requires-clause-stands
-see_page-requires-clause-stands g c = let e = c.end_io-2.ensures in stands_self _ c.put_page.new.seat c.end_io-2.new.seat e.seat e.touches.self c.put_page.ensures.stands
+see_page-requires-clause-stands g c = let e = c.end_io-2.ensures in stands_self _ c.install_page.new.seat c.end_io-2.new.seat e.seat e.touches.self c.install_page.ensures.stands
 
 pub returns-clause-works : goal.returns-clause-works
 returns-clause-works g c = let e = c.end_io-2.ensures in let f = c.frame-frame.result in
     works_on c.args.right.frame c.args.seat.now.me.0 c.end_io-2.new.seat.me.0 c.see_page.new.seat.me.0
-    (works_on c.args.right.frame c.args.seat.now.me.0 c.put_page.new.seat.me.0 c.end_io-2.new.seat.me.0
-    (subst (λ (x : ℕ). WorksAt x c.args.seat.now.me.0 c.put_page.new.seat.me.0) c.frame-frame.ensures (works_on f c.args.seat.now.me.0 c.read_lane.new.seat.me.0 c.put_page.new.seat.me.0 c.read_lane.ensures.works c.put_page.ensures.works))
-    (works_ended _ c.args.right.frame c.put_page.new.seat.me.0 c.end_io-2.new.seat.me.0 e.touches e.marks.1))
+    (works_on c.args.right.frame c.args.seat.now.me.0 c.install_page.new.seat.me.0 c.end_io-2.new.seat.me.0
+    (subst (λ (x : ℕ). WorksAt x c.args.seat.now.me.0 c.install_page.new.seat.me.0) c.frame-frame.ensures (works_on f c.args.seat.now.me.0 c.read_lane.new.seat.me.0 c.install_page.new.seat.me.0 c.read_lane.ensures.works c.install_page.ensures.works))
+    (works_ended _ c.args.right.frame c.install_page.new.seat.me.0 c.end_io-2.new.seat.me.0 e.touches e.marks.1))
     (subst (λ (x : ℕ). WorksAt x c.end_io-2.new.seat.me.0 c.see_page.new.seat.me.0) c.frame-frame.ensures c.see_page.ensures.works)
 
 pub returns-then-not-read_lane-clause-unread : goal.returns-then-not-read_lane-clause-unread

@@ -45,25 +45,25 @@ module _ (g : Over) (c : goal.After-hint-2-1 g) where
   since = c.look_up-found.ensures.keeps.rises
 
 pub returns-clause-met : goal.returns-clause-met
-returns-clause-met g c = c.claim-claimed.ensures.met ∙ ap (λ (m : FailedCalls). met_claimed c.claim-claimed.result m) (met_searched c.args.seat.now.me.0 c.look_up-found.new.seat.me.0 c.look_up-found.ensures.keeps.same)
+returns-clause-met g c = c.bring_in-pinned.ensures.met ∙ ap (λ (m : FailedCalls). met_claimed c.bring_in-pinned.result m) (met_searched c.args.seat.now.me.0 c.look_up-found.new.seat.me.0 c.look_up-found.ensures.keeps.same)
 
 pub returns-clause-calls : goal.returns-clause-calls
-returns-clause-calls g c = let u = c.look_up-found in let before = choice_state c.args.backend.now.queue c.args.ring.now c.args.backend.now.census in let after = choice_state c.claim-claimed.new.backend.queue c.claim-claimed.new.ring c.claim-claimed.new.backend.census in
-    let claimed = subst (λ (b : Bool). ClaimAnswer {L = g.row.L.Denot} {G = g.row.G.Denot} g.L.BlockLane.contents c.args.table.now c.args.tag.now c.args.held.now b u.new.seat.me.0 before c.claim-claimed.new.seat.me.0 after c.claim-claimed.result) (sym c.is_some-ringed.ensures) c.claim-claimed.ensures.answer in
-    subst (λ (b : Bool). PinAnswer {L = g.row.L.Denot} {G = g.row.G.Denot} g.L.BlockLane.contents c.args.table.now c.args.tag.now c.args.held.now b u.result.1 before after c.args.seat.now.me.0 c.claim-claimed.new.seat.me.0 c.claim-claimed.result) c.is_some-ringed.ensures
-    (answers_missed {L = g.row.L.Denot} {G = g.row.G.Denot} g.L.BlockLane.contents c.args.table.now c.args.tag.now c.args.held.now c.is_some-ringed.result before after u.result.1 c.args.seat.now.me.0 u.new.seat.me.0 c.claim-claimed.new.seat.me.0 c.claim-claimed.result c.requires.ready.rests (still g c) (looks g c) u.ensures.keeps.same (since g c) c.claim-claimed.ensures.keeps.rises c.claim-claimed.ensures.calls claimed c.claim-claimed.ensures.unpushed)
+returns-clause-calls g c = let u = c.look_up-found in let before = choice_state c.args.backend.now.queue c.args.ring.now c.args.backend.now.census in let after = choice_state c.bring_in-pinned.new.backend.queue c.bring_in-pinned.new.ring c.bring_in-pinned.new.backend.census in
+    let claimed = subst (λ (b : Bool). ClaimAnswer {L = g.row.L.Denot} {G = g.row.G.Denot} g.L.BlockLane.contents c.args.table.now c.args.tag.now c.args.held.now b u.new.seat.me.0 before c.bring_in-pinned.new.seat.me.0 after c.bring_in-pinned.result) (sym c.is_some-ringed.ensures) c.bring_in-pinned.ensures.answer in
+    subst (λ (b : Bool). PinAnswer {L = g.row.L.Denot} {G = g.row.G.Denot} g.L.BlockLane.contents c.args.table.now c.args.tag.now c.args.held.now b u.result.1 before after c.args.seat.now.me.0 c.bring_in-pinned.new.seat.me.0 c.bring_in-pinned.result) c.is_some-ringed.ensures
+    (answers_missed {L = g.row.L.Denot} {G = g.row.G.Denot} g.L.BlockLane.contents c.args.table.now c.args.tag.now c.args.held.now c.is_some-ringed.result before after u.result.1 c.args.seat.now.me.0 u.new.seat.me.0 c.bring_in-pinned.new.seat.me.0 c.bring_in-pinned.result c.requires.ready.rests (still g c) (looks g c) u.ensures.keeps.same (since g c) c.bring_in-pinned.ensures.keeps.rises c.bring_in-pinned.ensures.calls claimed c.bring_in-pinned.ensures.unpushed)
 
 pub returns-clause-turns : goal.returns-clause-turns
-returns-clause-turns g c = turns_then _ _ _ _ c.args.seat.now.me.0 c.look_up-found.new.seat.me.0 c.claim-claimed.new.seat.me.0 _ (looks g c) c.look_up-found.ensures.turns c.claim-claimed.ensures.turns
+returns-clause-turns g c = turns_then _ _ _ _ c.args.seat.now.me.0 c.look_up-found.new.seat.me.0 c.bring_in-pinned.new.seat.me.0 _ (looks g c) c.look_up-found.ensures.turns c.bring_in-pinned.ensures.turns
 
 pub returns-clause-hints : goal.returns-clause-hints
-returns-clause-hints g c = notes_then _ _ _ _ c.args.seat.now.me.0 c.look_up-found.new.seat.me.0 c.claim-claimed.new.seat.me.0 _ c.claim-claimed.result (looks g c) (same_hints g c) c.claim-claimed.ensures.hints
+returns-clause-hints g c = notes_then _ _ _ _ c.args.seat.now.me.0 c.look_up-found.new.seat.me.0 c.bring_in-pinned.new.seat.me.0 _ c.bring_in-pinned.result (looks g c) (same_hints g c) c.bring_in-pinned.ensures.hints
 
 pub returns-clause-census : goal.returns-clause-census
-returns-clause-census g c = census_claimed (frames_of c.args.table.now) c.args.backend.now.census c.claim-claimed.new.backend.census c.claim-claimed.result c.claim-claimed.ensures.census
+returns-clause-census g c = census_claimed (frames_of c.args.table.now) c.args.backend.now.census c.bring_in-pinned.new.backend.census c.bring_in-pinned.result c.bring_in-pinned.ensures.census
 
 pub returns-in-Some-clause-keeps : goal.returns-in-Some-clause-keeps
 returns-in-Some-clause-keeps g c = searched_keeps c.look_up-found.ensures.keeps
 
 pub returns-clause-keeps : goal.returns-clause-keeps
-returns-clause-keeps g c = keeps_on (searched_keeps c.look_up-found.ensures.keeps) c.claim-claimed.ensures.keeps
+returns-clause-keeps g c = keeps_on (searched_keeps c.look_up-found.ensures.keeps) c.bring_in-pinned.ensures.keeps

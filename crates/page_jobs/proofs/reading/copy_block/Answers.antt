@@ -5,5 +5,5 @@ pub returns-clause-copied : goal.returns-clause-copied
 returns-clause-copied g c =
     let r = c.read_page-place.ensures in
     let x = c.release.ensures in
-    copied_block {L = g.row.L.Denot} {G = g.row.G.Denot} g.L.BlockLane.contents c.args.manager.now c.args.tag c.read_page-place.new.page c.read_page-place.result c.in_ok-pinned.pinned c.args.pass.now c.pin_block.new.pass c.read_page-place.new.self c.release.new.self
+    copied_block {L = g.row.L.Denot} {G = g.row.G.Denot} g.L.BlockLane.contents c.args.manager.now c.args.tag c.read_page-place.new.page c.read_page-place.result c.in_ok-pinned.pinned c.args.pass.now c.pin_with_retries.new.pass c.read_page-place.new.self c.release.new.self
     c.in_ok-pinned.ensures.pinned x.belongs r.same x.same r.mark x.mark r.locks x.locks r.tokens x.tokens r.devices x.devices r.reads x.calls

@@ -67,21 +67,21 @@ returns-in-Ok-Clean-clause-answer g c =
 pub returns-in-Err-clause-answer : goal.returns-in-Err-clause-answer
 returns-in-Err-clause-answer g c =
     let e = c.in-Err.ensures in
-    subst (λ (y : frames.FrameFlushError). FlushAnswer {L = g.row.L.Denot} {G = g.row.G.Denot} g.L.BlockLane.contents c.args.manager.now.table (lane_number c.args.pinned.now.tag (lanes_in c.args.manager.now.table)) c.args.pinned.now.tag c.args.pinned.now.frame c.args.self.now.view (view_in c.flush_seated.new.badge.views) (Err y)) (sym c.refused-why.ensures) (subst (λ (p : PassState). FlushAnswer {L = g.row.L.Denot} {G = g.row.G.Denot} g.L.BlockLane.contents c.args.manager.now.table (lane_number c.args.pinned.now.tag (lanes_in c.args.manager.now.table)) c.args.pinned.now.tag c.args.pinned.now.frame p.view (view_in c.flush_seated.new.badge.views) (Err c.in-Err.cause)) c.self.view_is e.answer)
+    subst (λ (y : frames.FrameFlushError). FlushAnswer {L = g.row.L.Denot} {G = g.row.G.Denot} g.L.BlockLane.contents c.args.manager.now.table (lane_number c.args.pinned.now.tag (lanes_in c.args.manager.now.table)) c.args.pinned.now.tag c.args.pinned.now.frame c.args.self.now.view (view_in c.flush_seated.new.badge.views) (Err y)) (sym c.flush_error-why.ensures) (subst (λ (p : PassState). FlushAnswer {L = g.row.L.Denot} {G = g.row.G.Denot} g.L.BlockLane.contents c.args.manager.now.table (lane_number c.args.pinned.now.tag (lanes_in c.args.manager.now.table)) c.args.pinned.now.tag c.args.pinned.now.frame p.view (view_in c.flush_seated.new.badge.views) (Err c.in-Err.cause)) c.self.view_is e.answer)
 
 pub returns-in-Err-clause-met : goal.returns-in-Err-clause-met
 returns-in-Err-clause-met g c =
     let e = c.in-Err.ensures in
-    e.met ∙ ap (λ (y : frames.FrameFlushError). met_flushing {A = Bool} (Err y) (view_in c.self.inside.seat.views).met) (sym c.refused-why.ensures) ∙ ap (λ (p : PassState). met_flushing {A = Bool} (Err (frame_refusal c.refused-why.result)) p.view.met) c.self.view_is
+    e.met ∙ ap (λ (y : frames.FrameFlushError). met_flushing {A = Bool} (Err y) (view_in c.self.inside.seat.views).met) (sym c.flush_error-why.ensures) ∙ ap (λ (p : PassState). met_flushing {A = Bool} (Err (frame_refusal c.flush_error-why.result)) p.view.met) c.self.view_is
 
 pub returns-in-Err-clause-short : goal.returns-in-Err-clause-short
 returns-in-Err-clause-short g c n =
-    flush_short {L = g.row.L.Denot} {G = g.row.G.Denot} g.L.BlockLane.contents c.args.manager.now.table (lane_number c.args.pinned.now.tag (lanes_in c.args.manager.now.table)) c.args.pinned.now.tag c.args.pinned.now.frame _ _ (Err c.refused-why.result) (returns-in-Err-clause-answer g c) (returns-in-Err-clause-met g c) n.up n.met
+    flush_short {L = g.row.L.Denot} {G = g.row.G.Denot} g.L.BlockLane.contents c.args.manager.now.table (lane_number c.args.pinned.now.tag (lanes_in c.args.manager.now.table)) c.args.pinned.now.tag c.args.pinned.now.frame _ _ (Err c.flush_error-why.result) (returns-in-Err-clause-answer g c) (returns-in-Err-clause-met g c) n.up n.met
 
 pub returns-in-Err-clause-complete : goal.returns-in-Err-clause-complete
 returns-in-Err-clause-complete g c =
     let e = c.in-Err.ensures in
-    flush_complete {L = g.row.L.Denot} {G = g.row.G.Denot} g.L.BlockLane.contents c.args.manager.now.table (lane_number c.args.pinned.now.tag (lanes_in c.args.manager.now.table)) c.args.pinned.now.tag c.args.pinned.now.frame _ _ (Err c.refused-why.result) (returns-in-Err-clause-answer g c) (returns-in-Err-clause-met g c)
+    flush_complete {L = g.row.L.Denot} {G = g.row.G.Denot} g.L.BlockLane.contents c.args.manager.now.table (lane_number c.args.pinned.now.tag (lanes_in c.args.manager.now.table)) c.args.pinned.now.tag c.args.pinned.now.frame _ _ (Err c.flush_error-why.result) (returns-in-Err-clause-answer g c) (returns-in-Err-clause-met g c)
 
 pub invariant_of-self-in-Err : goal.invariant_of-self-in-Err
 invariant_of-self-in-Err g c =
@@ -89,12 +89,12 @@ invariant_of-self-in-Err g c =
     let e = c.in-Err.ensures in
     let v = view_in c.self.inside.seat.views in
     let w = view_in c.flush_seated.new.badge.views in
-    let met : w.met ≡ met_flushing {A = Bool} (Err (frame_refusal c.refused-why.result)) v.met = e.met ∙ ap (λ (y : frames.FrameFlushError). met_flushing {A = Bool} (Err y) v.met) (sym c.refused-why.ensures) in
-    let shown : padded_value c.new-self-inside.result ≡ shown_unflushed c.refused-why.result (padded_value c.self.inside.shown) = c.new-self-inside.ensures ∙ c.after_flush-shown.ensures ∙ ap (shown_unflushed c.refused-why.result) c.deref.ensures in (
+    let met : w.met ≡ met_flushing {A = Bool} (Err (frame_refusal c.flush_error-why.result)) v.met = e.met ∙ ap (λ (y : frames.FrameFlushError). met_flushing {A = Bool} (Err y) v.met) (sym c.flush_error-why.ensures) in
+    let shown : padded_value c.new-self-inside.result ≡ shown_unflushed c.flush_error-why.result (padded_value c.self.inside.shown) = c.new-self-inside.ensures ∙ c.after_flush-shown.ensures ∙ ap (shown_unflushed c.flush_error-why.result) c.deref.ensures in (
       e.badge.one,
       e.rests,
       subst (λ (id : ℕ). IsNumbered c.self.inside.number id w) (sym e.badge.id) (numbered_kept c.self.inside.number c.self.inside.seat.id v w (ap (λ (x : View). x.number) e.works.kept) i.2),
-      subst (IsShown w) (sym shown) (shown_not_flushed v w (padded_value c.self.inside.shown) c.refused-why.result (ap (λ (x : View). x.front) e.works.kept) met i.3),
+      subst (IsShown w) (sym shown) (shown_not_flushed v w (padded_value c.self.inside.shown) c.flush_error-why.result (ap (λ (x : View). x.front) e.works.kept) met i.3),
       i.4,
       i.5 ∙ ap (λ (x : View). shown_count x.turns) (sym e.works.kept),
     )

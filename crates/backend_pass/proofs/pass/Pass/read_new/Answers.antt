@@ -38,12 +38,12 @@ invariant_of-self-in-Err g c =
     let e = c.in-Err.ensures in
     let v = view_in c.self.inside.seat.views in
     let w = view_in c.read_seated.new.badge.views in
-    let met : w.met ≡ met_read_refused c.refused-why.result v.met = e.met ∙ met_of_refusal c.in-Err.cause v.met ∙ ap (λ (y : ReadError). met_read_refused y v.met) (sym c.refused-why.ensures) in
-    let shown : padded_value c.new-self-inside.result ≡ shown_after c.refused-why.result (padded_value c.self.inside.shown) = c.new-self-inside.ensures ∙ c.after-shown.ensures ∙ ap (shown_after c.refused-why.result) c.deref.ensures in (
+    let met : w.met ≡ met_read_refused c.read_error-why.result v.met = e.met ∙ met_of_refusal c.in-Err.cause v.met ∙ ap (λ (y : ReadError). met_read_refused y v.met) (sym c.read_error-why.ensures) in
+    let shown : padded_value c.new-self-inside.result ≡ shown_after c.read_error-why.result (padded_value c.self.inside.shown) = c.new-self-inside.ensures ∙ c.after-shown.ensures ∙ ap (shown_after c.read_error-why.result) c.deref.ensures in (
       e.keeps.badge.one,
       record { quiet = e.keeps.quiet; links = links_refused {L = g.row.L.Denot} {G = g.row.G.Denot} g.L.BlockLane.contents c.args.manager.now.table c.args.tag.now c.self.inside.held v w c.in-Err.cause e.answer; latches = e.keeps.latches },
       subst (λ (id : ℕ). IsNumbered c.self.inside.number id w) (sym e.keeps.badge.id) (numbered_kept c.self.inside.number c.self.inside.seat.id v w (ap (λ (x : View). x.number) e.keeps.same) i.2),
-      subst (IsShown w) (sym shown) (shown_refused v w (padded_value c.self.inside.shown) c.refused-why.result (ap (λ (x : View). x.front) e.keeps.same) met i.3),
+      subst (IsShown w) (sym shown) (shown_refused v w (padded_value c.self.inside.shown) c.read_error-why.result (ap (λ (x : View). x.front) e.keeps.same) met i.3),
       subst (λ (frames : ℕ). frames ≤ vec_capacity c.self.inside.marked) (sym e.own.room) i.4,
       e.own.counted,
     )
@@ -69,12 +69,12 @@ returns-in-Ok-clause-answer g c =
 pub returns-in-Err-clause-answer : goal.returns-in-Err-clause-answer
 returns-in-Err-clause-answer g c =
     let e = c.in-Err.ensures in
-    refused_reads {L = g.row.L.Denot} {G = g.row.G.Denot} g.L.BlockLane.contents c.args.manager.now.table c.args.tag.now c.args.ring.now c.read_seated.new.ring _ _ _ c.in-Err.cause c.refused-why.result c.self.view_is c.refused-why.ensures refl e.answer e.calls
+    refused_reads {L = g.row.L.Denot} {G = g.row.G.Denot} g.L.BlockLane.contents c.args.manager.now.table c.args.tag.now c.args.ring.now c.read_seated.new.ring _ _ _ c.in-Err.cause c.read_error-why.result c.self.view_is c.read_error-why.ensures refl e.answer e.calls
 
 pub returns-in-Err-clause-met : goal.returns-in-Err-clause-met
 returns-in-Err-clause-met g c =
     let v = view_in c.self.inside.seat.views in
-    c.in-Err.ensures.met ∙ met_of_refusal c.in-Err.cause v.met ∙ ap (λ (y : ReadError). met_read_refused y v.met) (sym c.refused-why.ensures) ∙ ap (λ (p : PassState). met_read_refused c.refused-why.result p.view.met) c.self.view_is
+    c.in-Err.ensures.met ∙ met_of_refusal c.in-Err.cause v.met ∙ ap (λ (y : ReadError). met_read_refused y v.met) (sym c.read_error-why.ensures) ∙ ap (λ (p : PassState). met_read_refused c.read_error-why.result p.view.met) c.self.view_is
 
 pub returns-in-Ok-clause-locks : goal.returns-in-Ok-clause-locks
 returns-in-Ok-clause-locks g c = subst (λ (p : PassState). SameLocks p.view (view_in c.read_seated.new.badge.views)) c.self.view_is c.in-Ok.ensures.keeps.locks
@@ -91,8 +91,8 @@ returns-in-Ok-clause-census g c = subst (λ (p : PassState). KeptOrEmptied (fram
 pub returns-in-Err-clause-census : goal.returns-in-Err-clause-census
 returns-in-Err-clause-census g c =
     let n = frames_of c.args.manager.now.table in
-    subst (λ (p : PassState). ReadingCensus n p.census c.read_seated.new.backend.census (Err c.refused-why.result)) c.self.view_is
-    (subst (λ (y : ReadError). ReadingCensus n c.self.inside.backend.census c.read_seated.new.backend.census (Err y)) (sym c.refused-why.ensures) (census_of_refusal n c.self.inside.backend.census c.read_seated.new.backend.census c.in-Err.cause c.in-Err.ensures.census))
+    subst (λ (p : PassState). ReadingCensus n p.census c.read_seated.new.backend.census (Err c.read_error-why.result)) c.self.view_is
+    (subst (λ (y : ReadError). ReadingCensus n c.self.inside.backend.census c.read_seated.new.backend.census (Err y)) (sym c.read_error-why.ensures) (census_of_refusal n c.self.inside.backend.census c.read_seated.new.backend.census c.in-Err.cause c.in-Err.ensures.census))
 
 pub returns-in-Ok-clause-turns : goal.returns-in-Ok-clause-turns
 returns-in-Ok-clause-turns g c = subst (λ (p : PassState). TakesTurns c.read_seated.new.backend.lookups.hint p.view.turns (view_in c.read_seated.new.badge.views).turns) c.self.view_is c.in-Ok.ensures.turns
@@ -113,6 +113,6 @@ returns-in-Err-clause-hints g c =
     let n = frames_of c.args.manager.now.table in
     let old = (view_in c.self.inside.seat.views) in
     let new = (view_in c.read_seated.new.badge.views) in
-    subst (λ (p : PassState). StoresHints n c.args.tag.now c.read_seated.new.backend.lookups.hint p.view.hints new.hints (Err c.refused-why.result)) c.self.view_is
-    (subst (λ (y : ReadError). StoresHints n c.args.tag.now c.read_seated.new.backend.lookups.hint old.hints new.hints (Err y)) (sym c.refused-why.ensures)
+    subst (λ (p : PassState). StoresHints n c.args.tag.now c.read_seated.new.backend.lookups.hint p.view.hints new.hints (Err c.read_error-why.result)) c.self.view_is
+    (subst (λ (y : ReadError). StoresHints n c.args.tag.now c.read_seated.new.backend.lookups.hint old.hints new.hints (Err y)) (sym c.read_error-why.ensures)
     (stores_refused n c.args.tag.now c.read_seated.new.backend.lookups.hint old.hints new.hints c.in-Err.cause c.in-Err.ensures.hints))

@@ -54,7 +54,7 @@ invariant_of-self g c =
       e.badge.one,
       e.rests,
       subst (λ (id : ℕ). IsNumbered c.self.inside.number id w) (sym e.badge.id) (numbered_kept c.self.inside.number c.self.inside.seat.id v w (ap (λ (x : View). x.number) e.did.works.kept) i.2),
-      subst (IsShown w) (sym (c.new-self-inside.ensures ∙ c.after_sync-shown.ensures ∙ ap (shown_synced c.told-answer.result) c.deref.ensures)) (shown_sync v w (padded_value c.self.inside.shown) c.told-answer.result (ap (λ (x : View). x.front) e.did.works.kept) (subst (λ (r : Result Synced frames.FrameFlushError). w.met ≡ met_flushing r v.met) (sym c.told-answer.ensures) (e.did.met)) i.3),
+      subst (IsShown w) (sym (c.new-self-inside.ensures ∙ c.after_sync-shown.ensures ∙ ap (shown_synced c.sync_answer-answer.result) c.deref.ensures)) (shown_sync v w (padded_value c.self.inside.shown) c.sync_answer-answer.result (ap (λ (x : View). x.front) e.did.works.kept) (subst (λ (r : Result Synced frames.FrameFlushError). w.met ≡ met_flushing r v.met) (sym c.sync_answer-answer.ensures) (e.did.met)) i.3),
       i.4,
       i.5 ∙ ap (λ (x : View). shown_count x.turns) (sym e.did.works.kept),
     )
@@ -91,27 +91,27 @@ returns-clause-notes g c =
 pub returns-clause-syncs : goal.returns-clause-syncs
 returns-clause-syncs g c =
     let e = frame_worked {L = g.row.L.Denot} {G = g.row.G.Denot} c.self.inside.held _ _ _ _ c.take_seat-seat.ensures c.sync_one-frames_answer.ensures.seat c.return_seat.ensures c.self.invariant.1 (λ v w. SyncsOne {L = g.row.L.Denot} {G = g.row.G.Denot} g.L.BlockLane.contents c.args.manager.now.table c.args.only c.args.frame v w c.sync_one-frames_answer.result) c.sync_one-frames_answer.ensures.stands.quiet c.sync_one-frames_answer.ensures.rests c.sync_one-frames_answer.ensures.one.works.partitions c.sync_one-frames_answer.ensures.one in
-    subst (λ (r : Result Synced frames.FrameFlushError). SyncsFrame {L = g.row.L.Denot} {G = g.row.G.Denot} g.L.BlockLane.contents c.args.manager.now.table c.args.only c.args.frame c.args.self.now.view (view_in c.return_seat.new.badge.views) r) (sym c.told-answer.ensures) (subst (λ (p : PassState). SyncsFrame {L = g.row.L.Denot} {G = g.row.G.Denot} g.L.BlockLane.contents c.args.manager.now.table c.args.only c.args.frame p.view (view_in c.return_seat.new.badge.views) c.sync_one-frames_answer.result) c.self.view_is (e.did.syncs))
+    subst (λ (r : Result Synced frames.FrameFlushError). SyncsFrame {L = g.row.L.Denot} {G = g.row.G.Denot} g.L.BlockLane.contents c.args.manager.now.table c.args.only c.args.frame c.args.self.now.view (view_in c.return_seat.new.badge.views) r) (sym c.sync_answer-answer.ensures) (subst (λ (p : PassState). SyncsFrame {L = g.row.L.Denot} {G = g.row.G.Denot} g.L.BlockLane.contents c.args.manager.now.table c.args.only c.args.frame p.view (view_in c.return_seat.new.badge.views) c.sync_one-frames_answer.result) c.self.view_is (e.did.syncs))
 
 pub returns-clause-met : goal.returns-clause-met
 returns-clause-met g c =
     let e = frame_worked {L = g.row.L.Denot} {G = g.row.G.Denot} c.self.inside.held _ _ _ _ c.take_seat-seat.ensures c.sync_one-frames_answer.ensures.seat c.return_seat.ensures c.self.invariant.1 (λ v w. SyncsOne {L = g.row.L.Denot} {G = g.row.G.Denot} g.L.BlockLane.contents c.args.manager.now.table c.args.only c.args.frame v w c.sync_one-frames_answer.result) c.sync_one-frames_answer.ensures.stands.quiet c.sync_one-frames_answer.ensures.rests c.sync_one-frames_answer.ensures.one.works.partitions c.sync_one-frames_answer.ensures.one in
-    subst (λ (r : Result Synced frames.FrameFlushError). (view_in c.return_seat.new.badge.views).met ≡ met_flushing r c.args.self.now.view.met) (sym c.told-answer.ensures) (subst (λ (p : PassState). (view_in c.return_seat.new.badge.views).met ≡ met_flushing c.sync_one-frames_answer.result p.view.met) c.self.view_is (e.did.met))
+    subst (λ (r : Result Synced frames.FrameFlushError). (view_in c.return_seat.new.badge.views).met ≡ met_flushing r c.args.self.now.view.met) (sym c.sync_answer-answer.ensures) (subst (λ (p : PassState). (view_in c.return_seat.new.badge.views).met ≡ met_flushing c.sync_one-frames_answer.result p.view.met) c.self.view_is (e.did.met))
 
 pub returns-clause-ended : goal.returns-clause-ended
 returns-clause-ended g c =
     let e = frame_worked {L = g.row.L.Denot} {G = g.row.G.Denot} c.self.inside.held _ _ _ _ c.take_seat-seat.ensures c.sync_one-frames_answer.ensures.seat c.return_seat.ensures c.self.invariant.1 (λ v w. SyncsOne {L = g.row.L.Denot} {G = g.row.G.Denot} g.L.BlockLane.contents c.args.manager.now.table c.args.only c.args.frame v w c.sync_one-frames_answer.result) c.sync_one-frames_answer.ensures.stands.quiet c.sync_one-frames_answer.ensures.rests c.sync_one-frames_answer.ensures.one.works.partitions c.sync_one-frames_answer.ensures.one in
-    subst (λ (r : Result Synced frames.FrameFlushError). EndsSync c.args.frame c.args.self.now.view (view_in c.return_seat.new.badge.views) r) (sym c.told-answer.ensures) (subst (λ (p : PassState). EndsSync c.args.frame p.view (view_in c.return_seat.new.badge.views) c.sync_one-frames_answer.result) c.self.view_is (e.did.ended))
+    subst (λ (r : Result Synced frames.FrameFlushError). EndsSync c.args.frame c.args.self.now.view (view_in c.return_seat.new.badge.views) r) (sym c.sync_answer-answer.ensures) (subst (λ (p : PassState). EndsSync c.args.frame p.view (view_in c.return_seat.new.badge.views) c.sync_one-frames_answer.result) c.self.view_is (e.did.ended))
 
 pub returns-clause-not_left_to_write : goal.returns-clause-not_left_to_write
 returns-clause-not_left_to_write g c =
     let e = frame_worked {L = g.row.L.Denot} {G = g.row.G.Denot} c.self.inside.held _ _ _ _ c.take_seat-seat.ensures c.sync_one-frames_answer.ensures.seat c.return_seat.ensures c.self.invariant.1 (λ v w. SyncsOne {L = g.row.L.Denot} {G = g.row.G.Denot} g.L.BlockLane.contents c.args.manager.now.table c.args.only c.args.frame v w c.sync_one-frames_answer.result) c.sync_one-frames_answer.ensures.stands.quiet c.sync_one-frames_answer.ensures.rests c.sync_one-frames_answer.ensures.one.works.partitions c.sync_one-frames_answer.ensures.one in
-    λ skipped needed. e.did.not_left_to_write (sym c.told-answer.ensures ∙ ap frame_answer skipped) needed
+    λ skipped needed. e.did.not_left_to_write (sym c.sync_answer-answer.ensures ∙ ap frame_answer skipped) needed
 
 pub returns-clause-short : goal.returns-clause-short
 returns-clause-short g c =
-    sync_short {L = g.row.L.Denot} {G = g.row.G.Denot} g.L.BlockLane.contents c.args.manager.now.table c.args.only c.args.frame _ _ c.told-answer.result (returns-clause-syncs g c) (returns-clause-met g c)
+    sync_short {L = g.row.L.Denot} {G = g.row.G.Denot} g.L.BlockLane.contents c.args.manager.now.table c.args.only c.args.frame _ _ c.sync_answer-answer.result (returns-clause-syncs g c) (returns-clause-met g c)
 
 pub returns-clause-complete : goal.returns-clause-complete
 returns-clause-complete g c =
-    sync_complete {L = g.row.L.Denot} {G = g.row.G.Denot} g.L.BlockLane.contents c.args.manager.now.table c.args.only c.args.frame _ _ c.told-answer.result (returns-clause-syncs g c) (returns-clause-met g c)
+    sync_complete {L = g.row.L.Denot} {G = g.row.G.Denot} g.L.BlockLane.contents c.args.manager.now.table c.args.only c.args.frame _ _ c.sync_answer-answer.result (returns-clause-syncs g c) (returns-clause-met g c)

@@ -2,7 +2,7 @@ use Rattle.std.proofs.Common.{◌≡◌}
 use Rattle.buffer_frames.specs.Tokens.{no_tokens}
 use Rattle.backend_pass.specs.Passes.{KeepsCalls}
 use Rattle.page_jobs.specs.Reads.{Stays}
-use Rattle.page_jobs.proofs.reading.pin_block.Given as goal
+use Rattle.page_jobs.proofs.reading.pin_with_retries.Given as goal
 
 abbrev pub invariant-loop : goal.invariant-loop
 invariant-loop g l = record {

@@ -3,7 +3,7 @@ use Rattle.atomic_table.specs.Table.{rest}
 use Rattle.pin_core.specs.declared.view.View.{View}
 use Rattle.buffer_frames.proofs.Keeping.{devices_self}
 use Rattle.buffer_frames.proofs.WorkSteps.{made_none, works_marked, works_on}
-use Rattle.buffer_frames.proofs.loading.put_page.Goals as goal
+use Rattle.buffer_frames.proofs.loading.install_page.Goals as goal
 
 pub returns-clause-stands : goal.returns-clause-stands
 returns-clause-stands g c = let o = c.page_out-out.ensures in let b = c.page_back.ensures in record {

@@ -9,7 +9,7 @@ use Rattle.buffer_frames.proofs.Noting.{calls_by, calls_none, calls_on}
 use Rattle.buffer_frames.proofs.Trying.{refused_after, taken_then}
 use Rattle.buffer_frames.proofs.Outside.{met_searched}
 use Rattle.buffer_frames.proofs.Keeps.{keeps_on, ready_keeps, searched_keeps}
-use Rattle.buffer_frames.proofs.victims.claim.Goals as goal
+use Rattle.buffer_frames.proofs.victims.bring_in.Goals as goal
 
 pub loop-init : goal.loop-init
 loop-init g c = record {

@@ -6,7 +6,7 @@ use Rattle.buffer_frames.specs.Backends.{KeepsOwn}
 use Rattle.buffer_frames.specs.Bringing.{PushesNone}
 use Rattle.buffer_frames.specs.VictimChoices.{GivesVictimsUp, choice_state}
 use Rattle.buffer_frames.specs.Working.{Calls, IsFlushCall}
-use Rattle.buffer_frames.proofs.victims.claim.Given as goal
+use Rattle.buffer_frames.proofs.victims.bring_in.Given as goal
 
 abbrev pub invariant-loop : goal.invariant-loop
 invariant-loop g l = record {

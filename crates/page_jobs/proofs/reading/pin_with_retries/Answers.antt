@@ -5,7 +5,7 @@ use Rattle.backend_pass.specs.Reading.{met_read_refused}
 use Rattle.backend_pass.proofs.Keeping.{calls_on}
 use Rattle.page_jobs.proofs.Blocks.{ends_at_read, met_crowded, new_none, not_at_once, once}
 use Rattle.page_jobs.proofs.Staying.{stays_read}
-use Rattle.page_jobs.proofs.reading.pin_block.Goals as goal
+use Rattle.page_jobs.proofs.reading.pin_with_retries.Goals as goal
 
 pub returns-in-Ok-clause-pinned : goal.returns-in-Ok-clause-pinned
 returns-in-Ok-clause-pinned g c =
