@@ -75,10 +75,11 @@ HasSwept n upto v = (q : ℕ) → q < n → upto ≤ (lane_hold v q).swept
 
 -- What holds of the devices for a pass, in the state s that they were given back in
 pub record ClosesPass (s : State) (p : PassState) : Type 0 where
-  -- its front is the largest place of its reads and writes, or where the log begins, and they are in the log
+  -- its front is the largest place of its reads and writes, or where the log begins, and isn't past
+  -- the log's end
   pub front : IsFront s.log.base p.view.calls p.view.front
   pub within : p.view.front ≤ s.end
-  -- and no log end that it saw is beyond the log's end
+  -- no log end that it saw is past the log's end
   pub seen : p.view.end_seen ≤ s.end
   -- what it saw flushed is flushed, and is durable in the log
   pub flushed : p.view.flushed ≤ s.flushed
@@ -92,11 +93,11 @@ pub record ClosesPass (s : State) (p : PassState) : Type 0 where
 abbrev pub EachPass : (PassState → Type 0) → List PassState → Type 0
 EachPass P ps = (i : ℕ) (p : PassState) → get_elem? ps i ≡ some p → P p
 
--- it never marked a frame dirty or synced a lane
+-- the pass never marked a frame dirty or synced a lane
 abbrev pub HasNoMark : PassState → Type 0
 HasNoMark p = p.view.dirtied_or_synced ≡ false
 
--- it put no page and changed no fork's size
+-- the pass put no page and changed no fork's size
 abbrev pub PutNothing : PassState → Type 0
 PutNothing p = writes_in p.view.calls ≡ 0
 

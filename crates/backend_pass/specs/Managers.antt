@@ -39,7 +39,7 @@ module _ {L G : Type 0} where
   pub record Belongs (contents : L → Option Pages) (m : Manager L G) (p : PassState) : Type 0 where
     pub table : p.table ≡ m.table.table.shared.table_id
     pub frames : p.census.frames ≡ frames_of m.table
-    -- and it has a pass of the manager's free list
+    -- it has a pass of the manager's free list
     pub queue : IsFreeList m.table m.sweep p.queue
     -- its tokens are of frames of the pool, which have blocks of the relations
     pub inside : (f : ℕ) (h : HeldFrame) → held_at p.tokens f ≡ Some h → f < frames_of m.table
@@ -99,7 +99,7 @@ pub record IsFirstAt (place : ℕ) (ps : List PassState) : Type 0 where
   pub before : AreOthers (take place ps)
   pub here : (p : PassState) → p ≡ get_or ps place p → is_first p ≡ true
 
--- each is of the table, and has no token
+-- each pass is of the table, and has no token
 abbrev pub AreSpent : TableId → List PassState → Type 0
 AreSpent table [] = Unit {0}
 AreSpent table (p ∷ ps) = (p.table ≡ table) × (p.tokens ≡ no_tokens) × AreSpent table ps

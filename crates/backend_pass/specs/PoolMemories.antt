@@ -5,7 +5,7 @@ use Rattle.clock_sweep.specs.FreeFrames.{all_parts, queue_view}
 use Rattle.clock_sweep.specs.FreeLists.{IsOfSweep}
 use Rattle.backend_pass.specs.PassMemories.{AreForFrames}
 
--- It is for so many frames and so many passes
+-- The memory is for this many frames and passes
 pub record IsMemoryFor (frames passes : ℕ) (m : PoolMemory) : Type 0 where
   pub queue : IsOfSweep m.sweep m.queue
   pub known : m.queue.known ≡ queue_view all_parts frames [] []

@@ -15,7 +15,7 @@ pub record IsSeated (table : TableId) (held : Tokens) (b : Badge View) : Type 0 
   pub one : b.views ≡ view_in b.views ∷ []
   pub rests : OnlyTokens held (view_in b.views)
 
--- It is the badge of the same seat, with one view again
+-- The badge is that of the same seat, with one view again
 pub record SameBadge (b d : Badge View) : Type 0 where
   pub table : d.table_id ≡ b.table_id
   pub id : d.id ≡ b.id

@@ -40,7 +40,7 @@ module _ {L G : Type 0} (contents : L → Option Pages) (t : FrameTable L G) whe
     pub within : (round.looked ≤ frames_of t) × (round.written ≤ 100)
     pub done : (round.looked ≡ frames_of t) ⊎ (round.written ≡ 100)
 
-  -- It was refused, as the page of the next frame was not written
+  -- The round stopped, as the page of the next frame was not written
   pub record StopsRound (hand : ℕ) (start v w : View) (why : FlushError) : Type 0 where
     pub came : List Synced
     pub before : View

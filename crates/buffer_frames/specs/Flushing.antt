@@ -69,8 +69,7 @@ pub record WentToLane (done : Bool) (q tag : ℕ) (page : Page) (v w : View) : T
   pub synced : Bool
   pub log_calls : Made (log_syncs synced) v ready
   pub log_first : lsn_of page ≤ ready.flushed
-  -- and then the one call of the lane, which has this of the block since: the page itself, if the
-  -- write was done
+  -- what the lane has of the block since the one call of it: the page itself, if the write was done
   pub left : Page
   pub whole : done ≡ true → left ≡ page
   pub lane_call : Made (LaneWrite q tag left done ∷ []) ready w
@@ -156,7 +155,8 @@ pub record SeesDirty (f : ℕ) (v w : View) : Type 0 where
   pub looks : Did looking f v w word
   pub dirty : (fields word).dirty ≡ true
 
--- So it was, and then the content lock was shared, without a wait (`LWLockConditionalAcquire`)
+-- The state word of the frame f was loaded, which is dirty, and then its content lock was shared,
+-- without a wait (`LWLockConditionalAcquire`)
 pub record SharesDirty (f : ℕ) (v w : View) : Type 0 where
   pub seen : View
   pub sees : SeesDirty f v seen
@@ -210,7 +210,7 @@ module _ {L G : Type 0} (contents : L → Option Pages) (t : FrameTable L G) whe
     flushed : (page : FlushedPage) → FlushesVictim q tag f from_ring ring v w (Ok page)
         → FreesVictim q tag f from_ring ring v w
 
-  -- It is spared, as it is dirty, and its content lock was refused, or the ring gave it up
+  -- A victim is spared: it is dirty, and its content lock was refused, or the ring gave it up
   pub data SparesVictim (f : ℕ) (from_ring : Bool) (before after : Option RingState)
       (v w : View) : Type 0 where
     locked : {u : View} (why : TryLock) → SeesDirty f v u → RefusesLock ShowsExclusive f u w why

@@ -30,7 +30,7 @@ pub record PinsHinted (tag : Tag) (f : ℕ) (ring : Bool) (v w : View) : Type 0 
   pub pin : Did (pins (kinds.pin ring)) f looked pinned was
   pub read : Did (pins kinds.load_tag) f pinned w (packed_tag tag)
 
--- So it was, and the pin was given up
+-- The frame f was pinned without a look at the map, had this tag, and the pin was given up
 pub record GivesBack (other : Tag) (f : ℕ) (ring : Bool) (v w : View) : Type 0 where
   pub between : View
   pub pins : PinsHinted other f ring v between

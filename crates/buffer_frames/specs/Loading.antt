@@ -69,7 +69,8 @@ pub record EndsUnread (why : LoadError) (tag : Tag) (f : ℕ) (v w : View) : Typ
   pub invalid : stored.valid ≡ false
   pub failed : stored.failed ≡ true
 
--- It ended so, and then the pin was given up, and nothing else was done: the frame keeps the tag
+-- A read of the tag's block into the frame f ended with an error, and then the pin was given up,
+-- and nothing else was done: the frame keeps the tag
 pub record FailsRead (why : LoadError) (tag : Tag) (f : ℕ) (v w : View) : Type 0 where
   pub ended : View
   pub unread : EndsUnread why tag f v ended

@@ -23,7 +23,7 @@ pub record SeesNone (tag : Tag) (v w : View) : Type 0 where
   pub did : WentAndCame entries entries (partition_number tag) v w
   pub none : found entries (packed_tag tag) ≡ None
 
--- It gave the frame f, which was pinned then, for a ring or not
+-- The map was searched for the tag, and gave the frame f, which was pinned then, for a ring or not
 pub record SeesAndPins (tag : Tag) (f : ℕ) (ring : Bool) (v w : View) : Type 0 where
   pub entries : List MapEntry
   pub searched : View

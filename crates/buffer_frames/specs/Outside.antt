@@ -14,7 +14,7 @@ outside_of v = record v { links = []; partitions = []; steps = 0; loads = []; ch
 abbrev pub chosen_of : View → View
 chosen_of v = record (outside_of v) { ticks = 0 }
 
--- and what one leaves that may take partitions' latches and store hints besides
+-- what a look-up leaves, which may take partitions' latches and store hints besides
 abbrev pub searched_of : View → View
 searched_of v = record (outside_of v) { turns = 0; hints = [] }
 

@@ -46,7 +46,7 @@ pub record HasAtMostLock (l : Link) : Type 0 where
   pub page_home : l.out ≡ None
   pub no_wait : l.waits ≡ None
 
--- the pin of a frame of which callers have tokens, or have none
+-- the pin of a frame, by whether callers have tokens of it
 abbrev pub role_of : Option HeldFrame → Role
 role_of None = Absent
 role_of (Some h) = HandedOut
@@ -60,10 +60,11 @@ pub record LinkRests (o : Option HeldFrame) (l : Link) : Type 0 where
   pub seen : o ≢ None → l.seen_valid ≡ true
   pub unlocked : o ≡ None → l.content ≡ Unlocked
 
--- each frame is so, and each but the frame f
+-- each frame is as it has to be between two calls
 abbrev pub LinksRest : Tokens → View → Type 0
 LinksRest t v = (f : ℕ) → LinkRests (held_at t f) (link v f)
 
+-- each frame but f is as it has to be between two calls
 abbrev pub LinksRestBeside : ℕ → Tokens → View → Type 0
 LinksRestBeside f t v = (g : ℕ) → g ≢ f → LinkRests (held_at t g) (link v g)
 

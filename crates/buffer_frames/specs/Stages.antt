@@ -34,7 +34,7 @@ pub record IsPinned (tag : ℕ) (l : Link) : Type 0 where
   pub pinned : l.role ≢ Absent
   pub remembered : l.tag ≡ Some tag
 
--- So it is once a read into a frame has ended
+-- A frame is pinned for the tag, for callers, and nothing is done there
 pub record IsRead (tag : ℕ) (l : Link) : Type 0 where
   pub calm : HasAtMostLock l
   pub unlocked : l.content ≡ Unlocked

@@ -72,7 +72,8 @@ pub record LoadsTag (f : ℕ) (tag : Tag) (v w : View) : Type 0 where
   pub pinned : (link v f).role ≢ Absent
   pub loads : Did (pins load_tag) f v w (packed_tag tag)
 
--- It isn't, by a load, or by the word that was held as a write was to start; no device was called
+-- The frame f isn't dirty, by a load, or by the word that was held as a write was to start; no
+-- device was called
 pub data SeesClean (f : ℕ) (v w : View) : Type 0 where
   by_load : SeesNotDirty f v w → Made [] v w → SeesClean f v w
   by_word : FindsClean f v w → SeesClean f v w
@@ -169,7 +170,7 @@ module _ {L G : Type 0} (contents : L → Option Pages) (t : FrameTable L G) whe
     pub met : w.met ≡ met_flushing r v.met
     pub ended : EndsSync f v w r
 
-  -- And one that was looked at
+  -- What a frame that was looked at, and written or passed over, makes of the view
   pub record SyncsOne (only : SyncOnly) (f : ℕ) (v w : View) (r : Result Synced FrameFlushError) : Type 0 where
     pub works : WorksAt f v w
     pub notes : KeepsNotes (link v f) (link w f)

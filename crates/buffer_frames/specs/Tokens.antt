@@ -14,7 +14,7 @@ pub record HeldFrame : Type 0 where
 abbrev pub Tokens : Type 0
 Tokens = List HeldFrame
 
--- none
+-- no tokens
 abbrev pub no_tokens : Tokens
 no_tokens = []
 
@@ -23,11 +23,12 @@ abbrev pub held_at : Tokens → ℕ → Option HeldFrame
 held_at [] f = None
 held_at (h ∷ hs) f = if nat_eq f h.frame then Some h else held_at hs f
 
--- how many tokens there are of what is held at a frame, and in all
+-- how many tokens there are of what is held at a frame
 abbrev pub tokens_of : Option HeldFrame → ℕ
 tokens_of None = 0
 tokens_of (Some h) = h.tokens
 
+-- how many tokens there are in all
 abbrev pub count_of : Tokens → ℕ
 count_of [] = 0
 count_of (h ∷ hs) = h.tokens + count_of hs
@@ -36,12 +37,12 @@ count_of (h ∷ hs) = h.tokens + count_of hs
 abbrev pub tokens_with : ℕ → ℕ → Tokens → Tokens
 tokens_with f tag t = t ++ record { frame = f; tag = tag; tokens = 1 } ∷ []
 
--- with one more of a frame that is pinned
+-- the tokens with one more of a frame that is pinned
 abbrev pub tokens_more : ℕ → Tokens → Tokens
 tokens_more f [] = []
 tokens_more f (h ∷ hs) = if nat_eq f h.frame then record h { tokens = h.tokens + 1 } ∷ hs else h ∷ tokens_more f hs
 
--- and with one less: with the last token the pin goes
+-- the tokens with one less of a frame: with its last token the pin goes
 abbrev pub tokens_less : ℕ → Tokens → Tokens
 tokens_less f [] = []
 tokens_less f (h ∷ hs) = if nat_eq f h.frame then (if nat_eq h.tokens 1 then hs else record h { tokens = h.tokens - 1 } ∷ hs) else h ∷ tokens_less f hs
@@ -68,7 +69,7 @@ held_of h = record { frame = h.pin.frame; tag = packed_tag h.tag; tokens = h.tok
 abbrev pub held_in : List HeldPin → Tokens
 held_in hs = map held_of hs
 
--- each is of a block
+-- each pin is of a block
 abbrev pub AreOfBlocks : List HeldPin → Type 0
 AreOfBlocks [] = Unit {0}
 AreOfBlocks (h ∷ hs) = (names_block h.tag ≡ true) × AreOfBlocks hs
@@ -79,10 +80,11 @@ pub record StandsAt (f i : ℕ) (hs : List HeldPin) : Type 0 where
   pub before : held_at (held_in (take i hs)) f ≡ None
   pub here : (h : HeldPin) → h ≡ get_or hs i h → h.pin.frame ≡ f
 
--- the pin at this place is of the block, and no pin is
+-- the pin at this place is of the block
 abbrev pub IsOf : Tag → ℕ → List HeldPin → Type 0
 IsOf tag i hs = (h : HeldPin) → h ≡ get_or hs i h → h.tag ≡ tag
 
+-- no pin is of the block
 abbrev pub AreOfOthers : Tag → List HeldPin → Type 0
 AreOfOthers tag [] = Unit {0}
 AreOfOthers tag (h ∷ hs) = (h.tag ≢ tag) × AreOfOthers tag hs

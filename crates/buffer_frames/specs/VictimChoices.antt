@@ -91,7 +91,7 @@ module _ {L G : Type 0} (contents : L → Option Pages) (t : FrameTable L G) whe
     pub loads : Did (pins kinds.load_tag) f chosen loaded (tag_word (Some tag))
     pub answers : VictimAnswer contents t (lane_number tag (lanes_in t)) tag f from_ring kept d.ring
         loaded w answer
-    -- and no work was done at another frame meanwhile
+    -- no work was done at another frame meanwhile
     pub works : WorksAt f loaded w
 
   -- A victim was chosen, the frame f, and is without a tag: it had none; or its page was clean or was written, and then its tag was erased

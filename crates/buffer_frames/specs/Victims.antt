@@ -34,7 +34,7 @@ module _ {L G : Type 0} (contents : L → Option Pages) (t : FrameTable L G) whe
       × ((f : ℕ) × GivesVictimUp contents t f v c w d)
   FreedAnswer held v c w d (Refused why) = LinksRest held w × VictimRefused v v c w d why
 
-  -- and of all tries to bring the tag's block into one
+  -- what came of all tries to free a frame and bring the tag's block there
   abbrev pub ClaimAnswer : Tag → Tokens → Bool → View → ChoiceState → View → ChoiceState
       → Result Pin VictimError → Type 0
   ClaimAnswer tag held ring v c w d (Ok pin) = PinsAndStores contents t tag held ring pin.frame [] v c w d

@@ -39,7 +39,7 @@ impl Model for HeldPins {
 ghost use Rattle.std.specs.Prelude.{◌≡◌, ◌<◌, None, IfSome, IfNone, length};
 ghost use Rattle.buffer_frames.specs.Tokens.{AreOfOthers, IsOf, StandsAt, held_at, held_in};
 
-/// Where the pin of a frame stands.
+/// The index of the pin of a frame.
 fn place_at(pins: &[HeldPin], frame: u32) -> Option<usize>
     ensures found { IfSome result (λ place. StandsAt frame place pins.now) }
     ensures missing { IfNone result (held_at (held_in pins.now) frame ≡ None) }
@@ -52,7 +52,7 @@ fn place_at(pins: &[HeldPin], frame: u32) -> Option<usize>
     None
 }
 
-/// Where the pin of a block stands.
+/// The index of the pin of a block.
 fn place_of(pins: &[HeldPin], tag: &Tag) -> Option<usize>
     ensures found { IfSome result (λ place. (place < length pins.now) × IsOf tag.now place pins.now) }
     ensures missing { IfNone result (AreOfOthers tag.now pins.now) }

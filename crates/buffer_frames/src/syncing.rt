@@ -44,6 +44,7 @@ pub enum Synced {
     Skipped,
     /// It was clean by the time that it was to be written.
     Clean,
+    /// Its page was written.
     Written,
 }
 

@@ -37,7 +37,7 @@ module _ {L G : Type 0} (contents : L → Option Pages) (t : FrameTable L G) whe
     -- the view by when the frames were written
     pub before : View
     pub writes : MarksAndWrites contents t c.upto c.written v before
-    -- and by when the log was flushed
+    -- the view by when the log was flushed
     pub logged : View
     pub log : Flushed c.upto before logged
     pub calls : Made (syncs_below (lanes_in t)) logged w

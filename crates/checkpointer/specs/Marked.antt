@@ -15,11 +15,11 @@ use Rattle.backend_pass.specs.declared.marked.MarkedFrame.{MarkedFrame}
 abbrev pub HasNoneToWrite : View → Type 0
 HasNoneToWrite v = (f : ℕ) → (link v f).left_to_write ≡ false
 
--- it has visited each of so many frames
+-- the view's checkpoint has visited each of this many frames
 abbrev pub HasVisited : ℕ → View → Type 0
 HasVisited frames v = (f : ℕ) → f < frames → (link v f).visited ≡ true
 
--- and has none of them left to write
+-- the view's checkpoint has visited each of this many frames, and has none of them left to write
 abbrev pub HasNoneLeft : ℕ → View → Type 0
 HasNoneLeft frames v = (f : ℕ) → f < frames → ((link v f).visited ≡ true) × ((link v f).left_to_write ≡ false)
 

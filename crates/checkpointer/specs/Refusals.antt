@@ -80,7 +80,7 @@ module _ {L G : Type 0} (contents : L → Option Pages) (m : Manager L G) where
     -- whether it has marked a frame dirty or synced a lane is as it was
     pub mark : w.dirtied_or_synced ≡ v.dirtied_or_synced
 
-  -- It wrote all that it marked, and then the log was not flushed up to `upto`
+  -- The checkpoint wrote all that it marked, and then the log was not flushed up to `upto`
   pub record StopsAtLog (upto : ℕ) (v w : View) (why : FlushLog) : Type 0 where
     pub before : View
     pub since : OnlyRises v before
@@ -94,7 +94,8 @@ module _ {L G : Type 0} (contents : L → Option Pages) (m : Manager L G) where
     pub calls : Made (syncs_refused why) before w
     pub mark : w.dirtied_or_synced ≡ v.dirtied_or_synced
 
-  -- It wrote all that it marked, the log was flushed up to `upto`, the lanes before this one were synced, and its sync failed
+  -- The checkpoint wrote all that it marked, the log was flushed up to `upto`, the lanes before
+  -- this one were synced, and its sync failed
   pub record StopsAtLane (upto : ℕ) (v w : View) (lane : ℕ) : Type 0 where
     pub before : View
     pub written : ℕ

@@ -56,21 +56,22 @@ module _ {L G : Type 0} (contents : L → Option Pages) (m : Manager L G) where
     pub same : SamePass p q
     pub callers : KeepsCallers p q
 
-  -- It marked frames, and called no device
+  -- The pass marked frames, and called no device
   pub record MarksFrames (p q : PassState) : Type 0 where
     pub keeps : KeepsBackend p q
     pub mark : KeepsMark p q
     pub device_calls : q.view.device_calls ≡ p.view.device_calls
     pub met : q.view.met ≡ p.view.met
 
-  -- It flushed, and wrote so many pages; no call failed
+  -- The pass flushed, and wrote n pages; no call failed
   pub record WritesMarked (n : ℕ) (p q : PassState) : Type 0 where
     pub keeps : KeepsBackend p q
     pub mark : KeepsMark p q
     pub flushes : FlushesPages n p.view q.view
     pub met : q.view.met ≡ p.view.met
 
-  -- It synced each lane, and no call failed. It had nothing left to write, so each lane is swept up to where it began
+  -- The pass synced each lane, and no call failed. Its checkpoint had nothing left to write, so
+  -- each lane is swept up to where that began
   pub record SyncsLanes (p q : PassState) : Type 0 where
     pub keeps : KeepsBackend p q
     pub calls : Made (syncs_below (lanes_in m.table)) p.view q.view

@@ -20,7 +20,8 @@ module _ {L G : Type 0} (contents : L → Option Pages) (t : FrameTable L G) whe
     again : {u w : View} (synced : Synced) → SyncsWhileNeeded f v u → synced ≢ Skipped
         → SyncsFrame contents t Needed f u w (Ok synced) → SyncsWhileNeeded f v w
 
-  -- and then it was seen without
+  -- The frame f was written, or found clean, any number of times, and then seen without
+  -- BM_CHECKPOINT_NEEDED
   pub record SyncsUntilPassed (f : ℕ) (v w : View) : Type 0 where
     pub last : View
     pub needed : SyncsWhileNeeded f v last

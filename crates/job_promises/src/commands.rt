@@ -30,7 +30,7 @@ pub fn list_file<'a, H: Host, R: Threads + Wait + Sync, O: Sink + Send, G: Gate 
     list_relation(rt, alloc, request, host, out, gate)
 }
 
-/// So is a rewrite.
+/// A rewrite is refused only for a reason, as a write fault that the host counted.
 pub fn rewrite_file<'a, H: Host, R: Threads + Wait + Sync, O: Sink, G: Gate + Sync>(
     rt: &R,
     alloc: Global,

@@ -41,7 +41,7 @@ pub record IsWritten (relations : List RelEntry) (e : Entry) : Type 0 where
   pub valid : IsChange (end_of e) e.change
   pub room : end_of e ≤ last_position
 
--- each is so
+-- each entry is as a log of whole pages has it
 abbrev pub AreWritten : List RelEntry → List Entry → Type 0
 AreWritten relations es = (k : ℕ) (e : Entry) → get_elem? es k ≡ some e → IsWritten relations e
 
@@ -73,12 +73,12 @@ AreReadOnce = (relations : List RelEntry) → IsCatalogue relations
     → (from : ℕ) (before : List Entry) (bytes : List ℕ) (es ds : List Entry)
     → Reads relations from before bytes es → Reads relations from before bytes ds → es ≡ ds
 
--- and as one log
+-- bytes are read as one log
 abbrev pub IsOneLog : Type 0
 IsOneLog = (relations : List RelEntry) → IsCatalogue relations
     → (bytes : List ℕ) (a b : Log) → IsLogOf relations bytes a → IsLogOf relations bytes b → a ≡ b
 
--- it is a log, of whole pages, and ends at the last position or before it
+-- what bytes are read as is a log, of whole pages, and ends at the last position or before it
 abbrev pub AreLogs : Type 0
 AreLogs = (relations : List RelEntry) (bytes : List ℕ) (log : Log) → IsLogOf relations bytes log
     → LogLaw log × AreImages log.entries × (log_end log ≤ last_position)
@@ -89,7 +89,7 @@ AreReadBack = (relations : List RelEntry) (from : ℕ) (before es : List Entry) 
     → AreChained from es → AreWritten relations es → length rest < record_size
     → Reads relations from before (records (log_name relations) es ++ rest) (without_backends es)
 
--- and so is a log, behind its head
+-- a log is read back from its bytes, whatever shorter than a record follows them
 abbrev pub LogsAreReadBack : Type 0
 LogsAreReadBack = (relations : List RelEntry) (log : Log) (rest : List ℕ)
     → LogLaw log → AreWritten relations log.entries
@@ -97,7 +97,8 @@ LogsAreReadBack = (relations : List RelEntry) (log : Log) (rest : List ℕ)
     → IsLogOf relations (log_bytes (log_name relations) log ++ rest)
     (record log { entries = without_backends log.entries })
 
--- any beginning of a log's bytes and of what follows it, which is a record at most
+-- any beginning of the records of entries, and of a record at most after them, is read as the first
+-- of these entries, or as all and one more
 abbrev pub AreLeftRead : Type 0
 AreLeftRead = (relations : List RelEntry) → IsCatalogue relations
     → (from : ℕ) (before es : List Entry) (rest bytes lost : List ℕ) (ds : List Entry)
@@ -105,7 +106,7 @@ AreLeftRead = (relations : List RelEntry) → IsCatalogue relations
     → bytes ++ lost ≡ records (log_name relations) es ++ rest
     → Reads relations from before bytes ds → LeftRead from es rest (length bytes) ds
 
--- and of a log's file, of which 16 bytes are left: it is read as a log with the same base
+-- any beginning of a log's file of which 16 bytes are left is read as a log with the same base
 abbrev pub LogsAreLeft : Type 0
 LogsAreLeft = (relations : List RelEntry) → IsCatalogue relations
     → (log : Log) (rest bytes lost : List ℕ) → LogLaw log → AreWritten relations log.entries

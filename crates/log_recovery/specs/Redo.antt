@@ -48,11 +48,12 @@ module _ (es : List Entry) (old new : List (Option Pages)) (marks marks_now : Li
     pub kept : is_some (lane_at old tag) ≡ true → (IsEnteredBlock es tag → ⊥)
         → mark_in marks_now tag ≡ mark_in marks tag
 
+  -- The entries are redone at each tag
   pub record AreRedone : Type 0 where
     pub count : (length new ≡ length old) × (length marks_now ≡ length marks)
     pub each : (tag : Tag) → IsRedone tag
 
-  -- so but for one block, whose last write failed
+  -- The entries are redone but for one block, whose last write failed
   pub record AreRedoneBut (torn : Tag) : Type 0 where
     pub count : (length new ≡ length old) × (length marks_now ≡ length marks)
     pub each : (tag : Tag) → tag_eq tag torn ≡ false → IsRedone tag

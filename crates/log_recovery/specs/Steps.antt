@@ -63,7 +63,7 @@ Stand relations from before bytes [] rest = rest ≡ bytes
 Stand relations from before bytes (e ∷ es) rest = IsRecord relations from before bytes e
     × Stand relations (end_of e) (before ++ e ∷ []) (drop (change_size e.change) bytes) es rest
 
--- the same of what is left of a source
+-- these records stand first in a source, and this is left of it
 abbrev pub StandIn : List RelEntry → ℕ → List Entry → Option (List ℕ) → Option (List ℕ) → Type 0
 StandIn relations base es None left = left ≡ None
 StandIn relations base es (Some bytes) left =

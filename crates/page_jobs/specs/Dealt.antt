@@ -86,12 +86,12 @@ abbrev pub AllDone : {K : Type 0} → List (Worker K) → Type 0
 AllDone [] = Unit {0}
 AllDone (w ∷ ws) = (w.end ≡ Ok tt) × AllDone ws
 
--- one of them ended for this
+-- one of the workers ended with this error
 abbrev pub AnyEnds : {K : Type 0} → JobError → List (Worker K) → Type 0
 AnyEnds e [] = ⊥
 AnyEnds e (w ∷ ws) = (w.end ≡ Err e) ⊎ AnyEnds e ws
 
--- the first that didn't end well ended for this
+-- the first of the workers that didn't end well ended with this error
 abbrev pub EndsFirst : {K : Type 0} → JobError → List (Worker K) → Type 0
 EndsFirst e [] = ⊥
 EndsFirst e (w ∷ ws) = (w.end ≡ Err e) ⊎ ((w.end ≡ Ok tt) × EndsFirst e ws)

@@ -4,7 +4,7 @@ use Rattle.page_layout.specs.declared.outcomes.RewriteTotals.{RewriteTotals}
 use Rattle.page_layout.specs.declared.scan.ScanTotals.{ScanTotals}
 use Rattle.page_jobs.specs.declared.ending.Totals.{Totals}
 
--- those of a scan: a scan changes no page
+-- the totals of a scan, which changes no page
 abbrev pub totals_of_scan : ScanTotals → Totals
 totals_of_scan t = record {
   blocks = t.blocks;
@@ -20,7 +20,8 @@ totals_of_scan t = record {
   skipped = 0;
 }
 
--- those of a rewrite, which counts no line pointers but the dead ones of the pages that it changed
+-- the totals of a rewrite, which counts no line pointers but the dead ones of the pages that it
+-- changed
 abbrev pub totals_of_rewrite : RewriteTotals → Totals
 totals_of_rewrite t = record {
   blocks = t.blocks;

@@ -71,7 +71,7 @@ module _ {L G : Type 0} (contents : L → Option Pages) (m : Manager L G) (rel :
     pub claimed : List (Claimed BlockRead)
     pub listed : length claimed ≡ length ps
     pub each : (w : ℕ) (p q : PassState) (c : Claimed BlockRead) → get_elem? ps w ≡ some p → get_elem? qs w ≡ some q → get_elem? claimed w ≡ some c → ReadsChunks c p q
-    -- it met no fault; or it met this one, and read nothing after that
+    -- each pass met no fault; or it met this one, and read nothing after that
     pub ended : (w : ℕ) (p q : PassState) → get_elem? ps w ≡ some p → get_elem? qs w ≡ some q → (q.view.met ≡ p.view.met) ⊎ ((e : JobError) × MeetsFault contents m rel fork p q e)
     pub once : AreFirstClaimed (blocks_in m rel fork) claimed
 

@@ -18,7 +18,7 @@ use Rattle.page_jobs.specs.declared.printing.Lines.{Lines}
 use Rattle.page_jobs.specs.Printed.{BlockRead, reads_lines, reads_totals}
 use Rattle.page_jobs.specs.Reads.{EndsAtRead, IsKnown, IsWithinFront, Stays, calls_of_reads, fault_of_refusal}
 
--- so it is of what was read of these blocks, or of the first of them
+-- this holds of what was read of each of these blocks, or of the first of them
 abbrev pub AllReads : (ℕ → BlockRead → Type 0) → List ℕ → List BlockRead → Type 0
 AllReads P blocks [] = Unit {0}
 AllReads P [] (r ∷ rs) = ⊥

@@ -27,7 +27,7 @@ abbrev pub found_summary : PageRead → Page → PageSummary
 found_summary Sound page = summary_of page
 found_summary Unsound page = Invalid
 
--- and those of a list of pages: all of the text but the last line
+-- the lines of a list of pages: all of the text but the last line
 abbrev pub lines_from : Lines → ℕ → List Page → List ℕ
 lines_from lines block [] = []
 lines_from lines block (page ∷ pages) = page_lines lines block page ++ lines_from lines (block + 1) pages
@@ -55,7 +55,7 @@ abbrev pub read_summary : BlockRead → PageSummary
 read_summary (copied page place) = summary_of page
 read_summary unsound = Invalid
 
--- and of these blocks, one after the other
+-- what is printed of these blocks, one after the other
 abbrev pub reads_lines : Lines → List ℕ → List BlockRead → List ℕ
 reads_lines lines blocks [] = []
 reads_lines lines [] (r ∷ rs) = []

@@ -90,7 +90,7 @@ module _ {L G : Type 0} (contents : L → Option Pages) (m : Manager L G) where
   EndsAtRead tag q (read.ReadFault failed) = (calls : List DeviceCall) × (q.view.device_calls ≡ calls ++ LaneRead (lane_number tag (lanes_in m.table)) (packed_tag tag) false ∷ [])
   EndsAtRead tag q why = Unit {0}
 
-  -- It wasn't read, for this reason, and the pass has no token
+  -- The block wasn't read, for this reason, and the pass has no token
   pub record RefusesBlock (tag : Tag) (p q : PassState) (why : ReadError) : Type 0 where
     pub stays : Stays p q
     pub spent : q.tokens ≡ no_tokens
@@ -103,7 +103,7 @@ module _ {L G : Type 0} (contents : L → Option Pages) (m : Manager L G) where
     pub last : EndsAtRead tag q why
     pub met : q.view.met ≡ met_read_refused why p.view.met
 
-  -- Its page was copied, by one read, and the pass has no token
+  -- The block's page was copied, by one read, and the pass has no token
   pub record CopiesBlock (tag : Tag) (page : Page) (p q : PassState) : Type 0 where
     pub stays : Stays p q
     pub spent : q.tokens ≡ no_tokens

@@ -59,7 +59,8 @@ module _ {L G : Type 0} (contents : L → Option Pages) (m : Manager L G) (rel :
     pub lanes : length (opened_of m.table) ≡ lanes_in m.table
     pub some_lanes : 0 < lanes_in m.table
 
-  -- It rewrote all blocks, whose pages are known, and at the close one of the passes has swept each lane up to a position that is at least the front of each pass
+  -- A rewrite did all blocks, whose pages are known, and at the close one of the passes has swept
+  -- each lane up to a position that is at least the front of each pass
   pub record RewritesAndStores (ps qs zs : List PassState) (totals : Totals) (upto : ℕ) : Type 0 where
     pub alone : RewritesAlone ps qs zs
     pub all : RewritesFork contents m rel fork (workers_in ps) (workers_in qs) totals
@@ -70,7 +71,8 @@ module _ {L G : Type 0} (contents : L → Option Pages) (m : Manager L G) (rel :
     pub swept : HasSwept (lanes_in m.table) upto checkpointer.view
     pub fronts : EachPass (λ z. z.view.front ≤ upto) zs
 
-  -- It ended early, for this reason, and the passes have seen since then what they had seen, and maybe more
+  -- A rewrite ended early, for this reason, and what the passes had seen by then they still have
+  -- seen, and maybe more
   pub record RewritesAndEnds (ps qs zs : List PassState) (e : JobError) : Type 0 where
     pub alone : RewritesAlone ps qs zs
     pub ends : EndsRewrite contents m rel fork ps qs e
@@ -94,12 +96,14 @@ module _ {L G : Type 0} (d : Devices L G) (o : Opening L G) (lanes : List L) whe
 
   -- The lanes have the rewritten relation of n blocks
   pub record HoldRewritten (r : Rule) (n : ℕ) (log : Log) : Type 0 where
-    -- of a page that the rule changes the log has an entry, which is what the rule made of it, and so has the lane, or the block's last write failed
+    -- of a page that the rule changes the log has an entry, which is what the rule made of it; and
+    -- the lane has that page, or the block's last write failed
     pub changed : (block : ℕ) (tag : Tag) (before after : Pages) (closed : L) (page : Page) → block < n → IsInLanes (r.tag block) tag before after closed → before tag ≡ Some page → r.changes page ≡ true
         → (x : HasEntry log (r.tag block)) × IsPageEntry x.entry (r.tag block) (r.rewritten page (end_of x.entry)) × (d.failed_writes closed tag ≡ false → after tag ≡ Some (r.rewritten page (end_of x.entry)))
-    -- of another one it has none
+    -- of a page that the rule leaves the log has no entry
     pub same : (block : ℕ) (tag : Tag) (before after : Pages) (closed : L) (page : Page) → block < n → IsInLanes (r.tag block) tag before after closed → before tag ≡ Some page → r.changes page ≡ false → HasEntry log (r.tag block) → ⊥
-    -- and a block of which it has none, here or elsewhere, has its page as before, or its last write failed
+    -- a block of which the log has no entry, in the fork or elsewhere, has its page as before, or
+    -- its last write failed
     pub others : (packed : ℕ) (tag : Tag) (before after : Pages) (closed : L) (page : Page) → IsInLanes packed tag before after closed → before tag ≡ Some page → (HasEntry log packed → ⊥) → d.failed_writes closed tag ≡ false → after tag ≡ Some page
 
 module _ {L G : Type 0} (d : Devices L G) (m : Manager L G) where

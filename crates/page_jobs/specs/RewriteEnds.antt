@@ -54,14 +54,14 @@ times b os = total (block_weight b) os
 pub record Rewrites (r : Rule) (n : ℕ) (known : ℕ → Bool) (origin : ℕ → Option Page) (calls : List Call) (ps : List BackendCalls) : Type 0 where
   pub calls_are : calls ≡ calls_of_backends r ps
   pub reads : WroteNothing ps
-  -- each is fair, and of a block below n, which is done once at most
+  -- each outcome is fair, and of a block below n, which is done once at most
   pub fair : (k : ℕ) (o : Outcome) → get_elem? (all_done ps) k ≡ some o → IsFair r known origin o
   pub below : (k : ℕ) (o : Outcome) → get_elem? (all_done ps) k ≡ some o → outcome_block o < n
   pub once : (b : ℕ) → times b (all_done ps) ≤ 1
   -- the blocks below n have tags of their own
   pub apart : (a b : ℕ) → a < n → b < n → r.tag a ≡ r.tag b → a ≡ b
 
--- and one that did all of them
+-- A rewrite that did all blocks below n
 pub record RewritesAll (r : Rule) (n : ℕ) (known : ℕ → Bool) (origin : ℕ → Option Page) (calls : List Call) (ps : List BackendCalls) : Type 0 where
   pub rewrites : Rewrites r n known origin calls ps
   pub all : (b : ℕ) → b < n → times b (all_done ps) ≡ 1

@@ -30,7 +30,8 @@ module _ {L G : Type 0} (contents : L → Option Pages) (m : Manager L G) (rel :
     pub claimed : List (Claimed Outcome)
     pub listed : length claimed ≡ length ps
     pub each : (w : ℕ) (p q : PassState) (c : Claimed Outcome) → get_elem? ps w ≡ some p → get_elem? qs w ≡ some q → get_elem? claimed w ≡ some c → RewritesChunks c p q
-    -- it met no fault; or it met this one, or its put was refused, and it did nothing after that
+    -- each pass met no fault; or it met this one, or its put was refused, and it did nothing after
+    -- that
     pub ended : (w : ℕ) (p q : PassState) → get_elem? ps w ≡ some p → get_elem? qs w ≡ some q
         → (q.view.met ≡ p.view.met) ⊎ ((e : JobError) × (MeetsFault contents m rel fork p q e ⊎ PutIsRefused contents m rel fork p q e))
     pub once : AreFirstClaimed (blocks_in m rel fork) claimed

@@ -54,7 +54,7 @@ is_ended (kept b i p n) = true
 is_ended (refused b i p n) = false
 is_ended (changed b i p n m) = true
 
--- the calls that were made for it
+-- the calls that were made for a block
 abbrev pub outcome_calls : Rule → Outcome → List Call
 outcome_calls r (unsound b) = []
 outcome_calls r (kept b i p n) = Read i (r.tag b) p n ∷ []
@@ -62,7 +62,7 @@ outcome_calls r (refused b i p n) = Read i (r.tag b) p n ∷ []
 outcome_calls r (changed b i p n m) =
     Read i (r.tag b) p n ∷ Write i (r.tag b) (r.rewritten p m) m image_record ∷ []
 
--- and for blocks one after the other
+-- the calls that were made for blocks, one after the other
 abbrev pub calls_for : Rule → List Outcome → List Call
 calls_for r [] = []
 calls_for r (o ∷ os) = outcome_calls r o ++ calls_for r os
@@ -77,7 +77,7 @@ result_of (changed b i p n m) = page_rewrite_of p
 abbrev pub outcome_totals : List Outcome → RewriteTotals
 outcome_totals os = totals_of_outcomes (map result_of os)
 
--- so it is of each
+-- this holds of each outcome
 abbrev pub EachOutcome : (Outcome → Type 0) → List Outcome → Type 0
 EachOutcome P [] = Unit {0}
 EachOutcome P (o ∷ os) = P o × EachOutcome P os

@@ -104,7 +104,7 @@ module _ {L G : Type 0} (contents : L → Option Pages) (m : Manager L G) where
     pub after : PassState
     pub since : OnlyRises p.view before.view
     pub refuses : PutRefused (relations_of m.table) frame tag page why before.view after.view
-    -- and no device was called after that
+    -- no device was called after that
     pub until : q.view.device_calls ≡ after.view.device_calls
     pub met : q.view.met ≡ met_put (Err why) p.view.met
     pub shows : RefusalShows why q.view
@@ -132,14 +132,14 @@ module _ {L G : Type 0} (contents : L → Option Pages) (m : Manager L G) where
     pub done : IfOk r (λ what. (what ≡ result_of outcome) × IsEnded outcome × (q.view.met ≡ p.view.met))
     pub cause : IfErr r (PutFails tag p q)
 
-  -- so it was under the cleanup lock
+  -- A sound page was dealt with under its cleanup lock, which is kept
   pub record RewritesLocked (tag : Tag) (p q : PassState) (r : Result PageRewrite InsertError) : Type 0 where
     pub goes : GoesOn p q
     pub tokens : q.tokens ≡ p.tokens
     pub locks : KeepsLocks p q
     pub page : RewritesPage tag p q r
 
-  -- and so it was until the lock of this frame and the pin were given up
+  -- A sound page was dealt with under its cleanup lock; then the lock and the pin were given up
   pub record RewritesHeld (tag : Tag) (frame : ℕ) (p q : PassState) (r : Result PageRewrite InsertError) : Type 0 where
     pub goes : GoesOn p q
     pub tokens : q.tokens ≡ no_tokens
@@ -178,7 +178,7 @@ module _ {L G : Type 0} (contents : L → Option Pages) (m : Manager L G) (rel :
     pub stopped : StopsAtFailure os
     pub locked : AllUnderCleanup (rule_of rel fork) p.view.number p.view q.view p.view.calls os
 
-  -- So it was with all of them: no put was refused, and no fault was met
+  -- All of these blocks were dealt with: no put was refused, and no fault was met
   pub record RewritesWhole (blocks : List ℕ) (os : List Outcome) (p q : PassState) : Type 0 where
     pub course : RewritesBlocks blocks os p q
     pub whole : length os ≡ length blocks

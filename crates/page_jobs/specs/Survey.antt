@@ -18,7 +18,7 @@ use Rattle.table_rule.specs.Blocks.{has_block}
 abbrev pub IsListed : List RelEntry → Tag → Type 0
 IsListed catalog tag = has_block catalog tag ≡ true
 
--- and one that names a block: no other has a number
+-- a tag of one of the catalogue's blocks that names a block: no other has a number
 abbrev pub IsListedByName : List RelEntry → Tag → Type 0
 IsListedByName catalog tag = (names_block tag ≡ true) × IsListed catalog tag
 
@@ -82,7 +82,7 @@ module _ {L : Type 0} (contents : L → Option Pages) (failed_writes unsynced : 
     pub some_read : sum_by calls old < sum_by calls new
     pub within : sum_by calls new ≤ sum_by calls old + count
 
--- one block
+-- the blocks are this one
 abbrev pub AreOfBlock : Tag → Tag → Type 0
 AreOfBlock tag other = other ≡ tag
 

@@ -58,7 +58,7 @@ module _ {K : Type 0} (does : ℕ → PassState → PassState → K → K → Re
       pub blocks : DoesBlocks (blocks_of n chunk) p q k task
       pub ends : closes chunk q task l end
 
-    -- so it was, or the task failed before that
+    -- a chunk was dealt with and closed, or the task failed before that
     abbrev pub WorksChunk : ℕ → PassState → PassState → K → K → Result Unit JobError → Type 0
     WorksChunk chunk p q k l (Ok done) = DoesChunk chunk p q k l (Ok tt)
     WorksChunk chunk p q k l (Err e) = FailsAtBlock n chunk p q k l e ⊎ DoesChunk chunk p q k l (Err e)
@@ -91,6 +91,6 @@ module _ {K : Type 0} (does : ℕ → PassState → PassState → K → K → Re
     abbrev pub HasWorked : Worker K → Worker K → Type 0
     HasWorked w x = WorksChunks x.seat.me.0.drawn w.pass x.pass w.task x.task x.end
 
-    -- so it is of each
+    -- each of the workers has worked
     abbrev pub HaveWorked : List (Worker K) → List (Worker K) → Type 0
     HaveWorked ws xs = (i : ℕ) (d : Worker K) → i < length ws → HasWorked (slice_index_or ws i d) (slice_index_or xs i d)

@@ -37,8 +37,7 @@ pub(crate) struct Ran<K> {
     seat: Seat<(), Claimant>,
 }
 
-/// All workers at once, each in a thread of its own if one can be made.
-/// If no thread can be started, the caller works.
+/// All workers at once, each in a thread of its own. If none can be started, the caller works.
 fn work_all<
     L: BlockLane + Send,
     G: LogDevice + Send,
@@ -75,8 +74,8 @@ fn work_all<
     );
 }
 
-/// All workers at once, and the last pass beside them.
-/// That runs in the caller's thread, so it needn't be `Send`.
+/// All workers at once, and the last pass beside them, in the caller's thread: so `Beside` needn't
+/// be `Send`.
 fn work_beside<
     L: BlockLane + Send,
     G: LogDevice + Send,

@@ -17,7 +17,7 @@ pub record IsCompactable (page : List ℕ) : Type 0 where
 unfoldable pub key_at : List ℕ → ℕ → ℕ
 key_at page place = (32767 - offset_at page place) * 65536 + place
 
--- these numbers, of the items among the first n line pointers
+-- the keys of the items among the first n line pointers
 unfoldable pub keys_of : List ℕ → ℕ → List ℕ
 keys_of page zero = []
 keys_of page (suc n) = if is_normal page n then keys_of page n ++ key_at page n ∷ [] else keys_of page n

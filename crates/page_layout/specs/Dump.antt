@@ -29,7 +29,7 @@ item_line page number i =
     else (if i.state == 3 then joined (codes "  " ∷ decimal number ∷ codes " dead " ∷ decimal i.offset ∷ codes " " ∷ decimal i.length ∷ codes "\n" ∷ [])
     else joined (codes "  " ∷ decimal number ∷ codes " normal " ∷ decimal i.offset ∷ codes " " ∷ decimal i.length ∷ codes " " ∷ item_text page i.offset i.length ∷ codes "\n" ∷ [])))
 
--- The code writes a line in two parts: the pointer's number and fields, without an item's bytes,
+-- the line of a line pointer up to an item's bytes: the pointer's number and fields
 unfoldable pub pointer_head : ℕ → Item → List ℕ
 pointer_head number i =
     if i.state == 0 then joined (codes "  " ∷ decimal number ∷ codes " unused\n" ∷ [])
@@ -37,7 +37,7 @@ pointer_head number i =
     else (if i.state == 3 then joined (codes "  " ∷ decimal number ∷ codes " dead " ∷ decimal i.offset ∷ codes " " ∷ decimal i.length ∷ codes "\n" ∷ [])
     else joined (codes "  " ∷ decimal number ∷ codes " normal " ∷ decimal i.offset ∷ codes " " ∷ decimal i.length ∷ codes " " ∷ [])))
 
--- and what a normal one's line ends in: the item's bytes
+-- the rest of a line pointer's line: of a normal one the item's bytes
 unfoldable pub pointer_tail : List ℕ → Item → List ℕ
 pointer_tail page i = if i.state == 1 then item_text page i.offset i.length ++ codes "\n" else []
 
@@ -45,11 +45,11 @@ pointer_tail page i = if i.state == 1 then item_text page i.offset i.length ++ c
 unfoldable pub pointer_line : List ℕ → ℕ → List ℕ
 pointer_line page place = item_line page (place + 1) (item_of (pointer_at page place))
 
--- the lines of the first n
+-- the lines of the first n line pointers
 unfoldable pub pointer_lines : List ℕ → ℕ → List ℕ
 pointer_lines page n = flat_map (pointer_line page) (range_with_len 0 n)
 
--- of a page that is sound and not new the lines of all
+-- the lines of all line pointers of a page that is sound and not new
 unfoldable pub used_lines : List ℕ → List ℕ
 used_lines page = if is_sound_page page && not (is_new_page page) then pointer_lines page (item_count page) else []
 

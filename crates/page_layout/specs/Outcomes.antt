@@ -9,7 +9,7 @@ use Rattle.page_layout.specs.Rewritten.{rewrite_of}
 use Rattle.page_layout.specs.Soundness.{is_new_page, is_sound_page}
 use Rattle.page_layout.specs.Text.{joined}
 
--- that the page isn't sound, that it is new, or what becomes of it
+-- what a rewrite tells of a page: that it isn't sound, that it is new, or what becomes of it
 unfoldable pub page_rewrite_of : List ℕ → PageRewrite
 page_rewrite_of page = if is_sound_page page then (if is_new_page page then New else Used (rewrite_of page)) else Invalid
 

@@ -29,7 +29,7 @@ counts_of_states items = record {
 abbrev pub total_of : PointerCounts → ℕ
 total_of p = p.normal + p.redirect + p.dead + p.unused
 
--- with one pointer more, of this state
+-- the counts with one line pointer more, of this state
 abbrev pub with_pointer : PointerCounts → ℕ → PointerCounts
 with_pointer p state = record {
   normal = p.normal + (if state == 1 then 1 else 0);

@@ -16,8 +16,8 @@ use page_layout::{Lsn, Page};
 use segment_store::BlockLane;
 use std::sync::Wait;
 
-/// Any other block is pinned, unless a device failed, its page isn't sound, or each frame was seen
-/// pinned in this call (`StrategyGetBuffer`: "no unpinned buffers available").
+/// A block of the fork is pinned, unless a device failed, its page isn't sound, or each frame was
+/// seen pinned in this call (`StrategyGetBuffer`: "no unpinned buffers available").
 pub fn read_new<L: BlockLane, G: LogDevice, R: Wait>(
     manager: &Manager<L, G>,
     rt: &R,

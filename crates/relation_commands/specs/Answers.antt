@@ -63,7 +63,7 @@ HasGoodHead (rewriting r) logs = Unit {0}
 HasGoodHead (recovering r) logs = IfSome logs (λ logs. IfSome (logs r.log) (λ file. ¬ HasBadHead file.bytes))
 HasGoodHead (sampling s) logs = Unit {0}
 
--- one is there, whose head is bad
+-- a recovery has a file at the path of its log whose head is bad, if the logs are known
 abbrev pub HasBadLog : Asked → Option Logs → Type 0
 HasBadLog (listing l) logs = ⊥
 HasBadLog (rewriting r) logs = ⊥

@@ -62,7 +62,7 @@ pub record Recovers (path : List ℕ) (log : Log) (rest : List ℕ) (file : Stor
   pub whole : (read : Log) → IsLogOf (catalog_of path) bytes read
       → (block k : ℕ) (e : Entry) → IsEntryOf log.entries (word_at block) k e
       → head_size + end_of e ≤ log.base + length bytes → IsEntered read.entries (word_at block)
-  -- and so has each with a durable one
+  -- each block with a durable entry has one among those that are read
   pub durable : (read : Log) → IsLogOf (catalog_of path) bytes read
       → (block k : ℕ) (e : Entry) → IsEntryOf log.entries (word_at block) k e
       → IsDurable log file e → IsEntered read.entries (word_at block)
@@ -74,7 +74,8 @@ pub record Recovers (path : List ℕ) (log : Log) (rest : List ℕ) (file : Stor
       → IsRecoveredBlock log rest read.entries block old (failed block)
       (page_after (word_at block) read.entries (Some page))
 
--- so it is after any end of a rewrite that began its log, and a loss since of what wasn't synced
+-- The log recovers the pages after any end of a rewrite that began it, and a loss since of what
+-- wasn't synced
 abbrev pub RecoversRewrite : Type 0
 RecoversRewrite = (path : List ℕ) (blocks base : ℕ) (before after left : List Page)
     (failed : ℕ → Bool) (file : StoredLog) → base % 8 ≡ 0 → length before ≤ 2 ^ 32 - 1
@@ -86,7 +87,7 @@ RecoversRewrite = (path : List ℕ) (blocks base : ℕ) (before after left : Lis
     → (bytes : List ℕ) → IsLostFrom leaves.log file after left failed bytes
     → Recovers path leaves.log leaves.begins.rest file before left failed bytes
 
--- of a log that was only begun no beginning has a bad head or entries, whatever the relations
+-- no beginning of a log that was only begun has a bad head or entries, whatever the relations
 abbrev pub BegunLogsAreEmpty : Type 0
 BegunLogsAreEmpty = (base : ℕ) → base % 8 ≡ 0 → base ≤ last_position
     → (file lost bytes : List ℕ) → IsHeadBegun base file → bytes ++ lost ≡ file
@@ -109,7 +110,7 @@ recovery_of r lanes = record {
   options = recover_options lanes r.options.seg_blocks;
 }
 
--- so a recovery that was done after a rewrite, and after a loss, leaves such a block of each
+-- a recovery that was done after a rewrite, and after a loss, recovers each block
 abbrev pub RecoversFilesLeft : Type 0
 RecoversFilesLeft = (r : LoggedAsked) (lanes : ℕ) → 1 ≤ r.options.seg_blocks
     → (old done left new : HostFiles) (after : List Page) (file : StoredLog)

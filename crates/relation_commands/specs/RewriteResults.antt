@@ -74,7 +74,7 @@ pub record LeavesEither (r : Rule) (names : ℕ → List ℕ) (base : ℕ) (befo
   pub full : AreFull after
   pub each : (block : ℕ) (old new : Page) → get_elem? before block ≡ some old → get_elem? after block ≡ some new → failed block ≡ false
       → (new ≡ old) ⊎ HasDurableEntry r log file block old new
-  -- so no page past the log's beginning is ahead of the durable log
+  -- no page past the log's beginning is ahead of the durable log
   pub log_first : (block : ℕ) (old new : Page) → get_elem? before block ≡ some old → get_elem? after block ≡ some new → failed block ≡ false
       → is_sound_page new ≡ true → base < lsn_of new → HasDurableEntry r log file block old new
 
@@ -98,5 +98,5 @@ pub record IsRewrittenFile (r : Rule) (names : ℕ → List ℕ) (base : ℕ) (b
       → HasDurableEntry r log file block old new
   pub same : (block : ℕ) (old new : Page) → get_elem? before block ≡ some old → get_elem? after block ≡ some new → r.changes old ≡ false
       → (HasEntry log (r.tag block) → ⊥) × (new ≡ old)
-  -- so but for their log positions the pages are a function of those before, whatever the backends did
+  -- but for their log positions the pages are a function of those before, whatever the backends did
   pub alike : DifferInPositions (map after_rewrite before) after

@@ -8,7 +8,7 @@ use Rattle.bg_writer.specs.declared.reports.Round.{Round}
 use Rattle.bg_writer.specs.Rounds.{Rounds}
 
 module _ {L G : Type 0} (contents : L → Option Pages) (m : Manager L G) where
-  -- so many rounds were made, one after the other, each to its end
+  -- this many rounds were made, one after the other, each to its end
   abbrev pub MadeRounds : ℕ → PassState → PassState → Type 0
   MadeRounds zero p q = q ≡ p
   MadeRounds (suc n) p q = (r : PassState) × MadeRounds n p r × ((done : Round) × Rounds contents m.table r.view q.view (Ok done))
@@ -18,7 +18,7 @@ module _ {L G : Type 0} (contents : L → Option Pages) (m : Manager L G) where
   EndsRounds rounds made p q (Ok done) = (made ≡ rounds) × (q ≡ p)
   EndsRounds rounds made p q (Err why) = (made < rounds) × Rounds contents m.table p.view q.view (Err why)
 
-  -- So many rounds were made, or as many as came before one that was refused
+  -- All of the rounds were made, or those before one that was refused
   pub record MakesRounds (rounds : ℕ) (p q : PassState) (end : Result Unit FlushError) : Type 0 where
     pub made : ℕ
     pub pass : PassState

@@ -48,6 +48,6 @@ sample_totals_of pages = record {
   after = totals_of (map after_rewrite pages);
 }
 
--- its lines
+-- the lines of a sample
 abbrev pub sample_lines : SampleTotals → List ℕ
 sample_lines t = totals_line t.before ++ (rewrite_lines t.rewrite t.log.base t.log.end ++ totals_line t.after)

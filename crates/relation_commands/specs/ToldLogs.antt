@@ -34,7 +34,8 @@ names_at path blocks = names_of (record {
   blocks = blocks;
 })
 
--- so it is of the files that whole rewrites at one path leave, whatever pages each began with
+-- the file that a whole rewrite leaves at a path determines where its log begins and the entries,
+-- whatever pages the rewrite began with
 abbrev pub RewrittenLogsAreTold : Type 0
 RewrittenLogsAreTold = (path : List ℕ) (m n base other : ℕ) (before after pages next : List Page)
     (file same : StoredLog) → same.bytes ≡ file.bytes → base % 8 ≡ 0 → other % 8 ≡ 0

@@ -12,9 +12,8 @@ use wal_flush::LAST_POSITION;
 /// What would take the log past its last position.
 #[derive(Clone, Copy, PartialEq, Eq, Debug)]
 pub enum PositionLimit {
-    /// A record of each of so many blocks, in a log that begins past the largest position of their pages.
-    /// A block counts, changed or not; so if the pages are known the log doesn't become full on the
-    /// way.
+    /// A record of each of these blocks, changed or not, in a log that begins past the largest
+    /// position of their pages. So if the pages are known, the log doesn't become full on the way.
     OfPages { largest: Lsn, blocks: u32 },
     /// A page whose position is past the log's end.
     OfPage { lsn: Lsn, end: Lsn },

@@ -42,8 +42,8 @@ fn redo_lanes<L: BlockLane, S: Source>(
     let relation = RelationFork {
         number: request.number,
         fork: Fork::Main,
-        // Records name a relation by its numbers, however many blocks it has.
-        // So FILE is the same log in a second recovery, when PATH has grown.
+        // Records name a relation by its numbers, however many blocks it has: FILE is the same log
+        // in a second recovery, when PATH has grown.
         blocks: 0,
     };
     let Ok(catalog) = relation.catalog(alloc) else {
@@ -55,8 +55,8 @@ fn redo_lanes<L: BlockLane, S: Source>(
     recover(alloc, lanes, &catalog, source, &mut page)
 }
 
-/// Redoes a log over the lanes of a relation that is open, and gives both back, however it ends.
-/// If 16 bytes that are no head were read whole, that is the answer (status 10), before anything is
+/// Redoes a log over the lanes of a relation that is open, and gives both back, however it ends. If
+/// the first 16 bytes were read and are no head, that is the answer (status 10), before anything is
 /// written. A read fault before that is status 4, and no clause can say more: over files nothing is
 /// known of what a failed read would have given.
 fn redo_and_give_back<'a, H: Host>(
@@ -138,9 +138,8 @@ fn redo_opened<'a, H: Host>(
     }
 }
 
-/// Opens the relation, then its log, and redoes the log.
-/// So a FILE that is a segment of PATH by a link is known as one, and refused. If neither is there,
-/// the status is 3 for PATH.
+/// Opens the relation, then its log, and redoes the log. In this order a FILE that is a segment of
+/// PATH by a link is known as one, and refused; and if neither is there, the status is 3 for PATH.
 fn redo_relation<'a, H: Host>(
     alloc: Global,
     request: &RecoverRequest<'a>,

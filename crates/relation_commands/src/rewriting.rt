@@ -118,8 +118,8 @@ fn furthest_front(passes: &[Pass]) -> Lsn
     furthest
 }
 
-/// Makes checkpoints until one begins at a position in the log, or past it.
-/// The first one does, unless it begins below a pass's front.
+/// Makes checkpoints until one begins at a position in the log, or past it. The first one does,
+/// unless it begins below a pass's front.
 fn checkpoint_past<L: BlockLane, G: LogDevice, R: Wait>(
     manager: &Manager<L, G>,
     rt: &R,

@@ -3,7 +3,7 @@ use Rattle.std.specs.Prelude.{◌≡◌, ℕ, ◌+◌}
 use Rattle.text_window.specs.declared.shares.Shares.{Shares}
 
 module _ {N A : Type 0} where
-  -- So many parts of each ledger, with nothing counted
+  -- The shares have n parts of each ledger, with nothing counted
   pub record HoldsParts (n : ℕ) (s : Shares N A) : Type 0 where
     pub parts : (s.delivered.parts ≡ n) × (s.above.parts ≡ n)
     pub amounts : (s.delivered.amount ≡ 0) × (s.above.amount ≡ 0)

@@ -51,7 +51,7 @@ pub record WindowState : Type 0 where
   pub delivered : ℕ
   pub above : ℕ
 
--- it has a free slot for the text of this chunk
+-- the window has a free slot for the text of this chunk
 abbrev pub HasFreeSlot : WindowState → ℕ → Type 0
 HasFreeSlot s chunk = (s.next ≤ chunk) × (chunk - s.next < length s.waiting) × (slice_index_or s.waiting (chunk - s.next) None ≡ None)
 
@@ -72,7 +72,7 @@ module _ (texts : ℕ → ℕ → List ℕ → Type 0) (job : Job) where
     pub is : AreFirstTexts (IsTextBy texts largest) n front
     pub bytes_are : bytes ≡ option_map (λ b. b ++ front) job.before
 
-  -- And after them maybe a prefix of the next one
+  -- The sink has the texts of the first n chunks, and maybe a prefix of the next one
   pub record HasPutPart (largest n : ℕ) (bytes : Option (List ℕ)) : Type 0 where
     pub front : List ℕ
     pub is : AreFirstTexts (IsTextBy texts largest) n front
