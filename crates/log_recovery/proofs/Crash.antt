@@ -1,5 +1,5 @@
 -- Redo of what is read of the bytes that a crash leaves.
-use Rattle.std.proofs.Common.{◌≡◌, inl, inr, ℕ, zero, suc, ◌+◌, ◌<◌, ◌≤◌, Bool, true, false, List, [], ◌∷◌, ◌++◌, length, drop, Option, Some, None, sym, refl, ap, ◌∙◌, subst, ⊎_elim, arith}
+use Rattle.std.proofs.Common.{◌≡◌, inl, inr, ℕ, zero, suc, ◌+◌, ◌<◌, ◌≤◌, true, false, List, [], ◌∷◌, ◌++◌, length, drop, Option, Some, None, sym, refl, ap, ◌∙◌, subst, ⊎_elim, arith}
 use Rattle.std.specs.Prelude.{slice_get, unwrap_or, option_map, nat_lt}
 use Rattle.std.proofs.lemmas.List.{length-drop}
 use Rattle.std.proofs.lemmas.Bool.{cases_lt}
@@ -14,7 +14,7 @@ use Rattle.history_core.specs.Log.{Change, image, ranges, resize, Entry, Log, Is
 use Rattle.history_core.specs.State.{State, stored, unsynced, last_position}
 use Rattle.history_core.specs.Laws.{Laws}
 use Rattle.history_core.specs.Redo.{CanFollow, HasWholePage}
-use Rattle.history_core.specs.Crashes.{Survives, Crashed, RangesStartAtBase, StartsSynced, CanRedo, RedoGives, IsExcepted}
+use Rattle.history_core.specs.Crashes.{Survives, RangesStartAtBase, CanRedo, RedoGives, IsExcepted}
 use Rattle.history_core.specs.Crashes as crash
 use Rattle.history_core.specs.Unentered.{IsUnentered}
 use Rattle.history_core.proofs.Crashes.{crashes_redo}

@@ -7,7 +7,7 @@ use lib.ListN.{get_elem?}
 use Rattle.block_tag.specs.declared.tag.Tag.{Tag}
 use Rattle.block_tag.specs.Names.{names_block, packed_tag, tag_eq}
 use Rattle.pin_core.specs.State.{Page}
-use Rattle.history_core.specs.Log.{Entry, Change, image, ranges, resize, is_image, AreImages, AreOfPages, AreValid, IsEntryOf, tag_in, page_after}
+use Rattle.history_core.specs.Log.{Entry, Change, image, ranges, resize, is_image, AreImages, AreOfPages, IsEntryOf, tag_in, page_after}
 use Rattle.history_core.specs.Unentered.{IsEntered}
 use Rattle.history_core.proofs.Crashes.{same_after, entry_or_none}
 use Rattle.history_core.proofs.Logs.{after_absent, images_of_pages}

@@ -1,6 +1,6 @@
 -- Bytes in hexadecimal, two digits more at a time.
 use Rattle.std.specs.Fmt.{digit_glyph, digits, digits_onto}
-use Rattle.std.proofs.Common.{zero, suc, Bool, cond, eqb, eq-eqb, ne_eqb, true, false, ◌≡◌, ◌<◌, ◌≤◌, ◌+◌, ◌-◌, ◌*◌, ◌/◌, ◌%◌, ℕ, List, [], ◌∷◌, ◌++◌, length, get_or, set, take, refl, sym, ap, ◌∙◌, append_assoc, arith}
+use Rattle.std.proofs.Common.{zero, suc, Bool, cond, eqb, eq-eqb, ne_eqb, true, false, ◌≡◌, ◌<◌, ◌≤◌, ◌+◌, ◌-◌, ◌*◌, ◌/◌, ◌%◌, ℕ, List, [], ◌∷◌, ◌++◌, length, get_or, set, take, refl, sym, ap, ◌∙◌, arith}
 use Rattle.std.proofs.lemmas.List.{length-set, take_all, take_more_set}
 use Rattle.page_layout.specs.Dump.{hex_digit, hex_of}
 use Rattle.page_layout.proofs.Dumps.{hex_step}

@@ -7,7 +7,7 @@ mod Compactable
 mod Bytes
 mod Pointers
 mod Final
-pub mod Hexes
+mod Hexes
 mod After
 mod Dumps
 mod Apart

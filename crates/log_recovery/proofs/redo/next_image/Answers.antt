@@ -1,4 +1,4 @@
-use Rattle.std.proofs.Common.{◌≡◌, ◌<◌, ◌≤◌, ◌∙◌, length, arith}
+use Rattle.std.proofs.Common.{◌<◌, ◌≤◌, ◌∙◌, length, arith}
 use Rattle.log_recovery.proofs.Taking.{next_found, no_record_left, no_record_there, takes_all}
 use Rattle.log_recovery.proofs.redo.next_image.Goals as goal
 

@@ -1,4 +1,4 @@
-use Rattle.std.proofs.Common.{◌≡◌, ◌≤◌, ◌<◌, ◌+◌, ◌-◌, ◌/◌, ◌∷◌, length, ap, sym, ◌∙◌, arith}
+use Rattle.std.proofs.Common.{◌≡◌, ◌<◌, ◌+◌, ◌-◌, ◌/◌, ◌∷◌, length, ap, sym, ◌∙◌, arith}
 use Rattle.page_layout.proofs.Hexes.{hex_last, hex_more, hex_onto, hex_out, hex_start}
 use Rattle.page_layout.proofs.line.Line.put_hex.Goals as goal
 
