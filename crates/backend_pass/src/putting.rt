@@ -1,5 +1,5 @@
 //! A pass puts a page.
-ghost use Rattle.std.specs.Prelude.{◌≡◌, ◌<◌, None, Some, false, true};
+ghost use Rattle.std.specs.Prelude.{◌≡◌, ◌<◌, false, true};
 ghost use Rattle.block_tag.specs.Names.{names_block, packed_tag};
 ghost use Rattle.page_layout.specs.Soundness.{is_new_page, is_sound_page};
 ghost use Rattle.pin_core.specs.declared.view.Content.TheVariants as content;

@@ -1,5 +1,5 @@
 //! The sync of a lane (`smgrimmedsync`).
-ghost use Rattle.std.specs.Prelude.{◌≡◌, ◌<◌, ◌≤◌, ℕ, length, IfOk};
+ghost use Rattle.std.specs.Prelude.{◌≡◌, ◌<◌, ◌≤◌, length, IfOk};
 ghost use Rattle.std.specs.Result.{is_ok};
 ghost use Rattle.pin_core.specs.State.{lane_hold};
 ghost use Rattle.history_core.specs.Lanes.{swept_by};

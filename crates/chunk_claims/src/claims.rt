@@ -3,7 +3,7 @@
 //! Chunks are claimed, not dealt out beforehand: a slow lane or thread holds up one chunk, not a
 //! whole part. Which worker gets which chunk depends on the schedule; that each chunk is claimed
 //! once doesn't. No contract excludes that one worker claims them all.
-ghost use Rattle.std.specs.Prelude.{◌≡◌, ℕ, ◌+◌, ◌-◌, ◌<◌, ◌≤◌, ◌^◌, ◌++◌, ◌∷◌, [], IfOk, IfSome, IfNone};
+ghost use Rattle.std.specs.Prelude.{◌≡◌, ℕ, ◌+◌, ◌-◌, ◌<◌, ◌≤◌, ◌^◌, [], IfOk, IfSome, IfNone};
 ghost use Rattle.grid.specs.Shape.{total};
 ghost use Rattle.chunk_claims.specs.Claims.{SitsAt, first_claimant, joined_claimants, less_a_part, sum_below, with_draw, with_one_part};
 

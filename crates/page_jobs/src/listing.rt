@@ -4,7 +4,7 @@
 //! is the worker's number, since under the lock nothing ties an error to a pass. The others find
 //! out when they deliver their next text, drop it and end as out of memory, the one answer that
 //! needs no cause. A rewrite prints nothing until its end, so its workers don't stop each other.
-ghost use Rattle.std.specs.Prelude.{◌≡◌, ℕ, ◌+◌, ◌<◌, ◌≤◌, ◌/◌, ◌^◌, [], ◌∷◌, IfOk, is_some, nat_lt};
+ghost use Rattle.std.specs.Prelude.{◌≡◌, ◌+◌, ◌<◌, ◌≤◌, ◌/◌, ◌^◌, [], ◌∷◌, IfOk, is_some, nat_lt};
 ghost use Rattle.page_layout.specs.Scan.{IsWithin, no_totals};
 ghost use Rattle.text_window.specs.Shares.{HoldsParts, IsMerged, KeepsParts};
 ghost use Rattle.page_jobs.specs.ChunkTexts.{ClosesText, HasDelivered, OpensText};

@@ -1,6 +1,5 @@
 //! A job from its passes to its workers' ends, whatever it does with the blocks.
 ghost use Rattle.std.specs.Prelude.{◌≡◌, ℕ, true, ◌+◌, ◌-◌, ◌<◌, ◌≤◌, ◌++◌, [], ◌∷◌, ◌^◌, Ok, IfErr, IfOk, OnErr, OnOk, map, vec_capacity, vec_len, All};
-ghost use Rattle.grid.specs.Shape.{total};
 ghost use Rattle.chunk_claims.specs.Claims.{SitsAt, sum_below};
 ghost use Rattle.block_tag.specs.Names.{names_block, tag_of_parts};
 ghost use Rattle.page_jobs.specs.declared.working.Worker.{Worker};

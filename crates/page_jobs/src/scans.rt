@@ -22,7 +22,6 @@ ghost use Rattle.page_jobs.specs.Ending.{as_done, totals_of_scan};
 ghost use Rattle.page_jobs.specs.Jobs.{AllAtBase, EndsJob, HaveNoTokens, IsOrigin, PutsTexts, ReadParts, ReadsAll, workers_in};
 ghost use Rattle.page_jobs.specs.Listings.{IsListed};
 ghost use Rattle.page_jobs.specs.Parts.{blocks_in};
-ghost use Rattle.page_jobs.specs.Printed.{text_of_pages};
 ghost use Rattle.page_jobs.specs.Relations.{MeetNothing};
 
 use crate::beside::Beside;

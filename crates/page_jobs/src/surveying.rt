@@ -1,5 +1,5 @@
 //! The survey of a relation's lanes: the largest log position of their pages, before a manager is started over them.
-ghost use Rattle.std.specs.Prelude.{◌≡◌, ◌+◌, ◌<◌, ◌≤◌, ◌^◌, IfErr, IfOk, IfSome, IsSome, OnOk, false, length, map, sum_by, true};
+ghost use Rattle.std.specs.Prelude.{◌≡◌, ◌+◌, ◌<◌, ◌≤◌, IfErr, IfOk, IfSome, IsSome, OnOk, false, length, map, sum_by, true};
 ghost use Rattle.std.specs.Option.{ForSome};
 ghost use Rattle.block_tag.specs.Catalogue.{blocks_at};
 ghost use Rattle.page_layout.specs.Fields.{lsn_of};

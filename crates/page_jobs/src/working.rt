@@ -7,7 +7,7 @@
 //!
 //! Each worker has room for two pages, though a scan needs one: an associated type for the room
 //! would keep the closure of `for_each_mut` from being proved.
-ghost use Rattle.std.specs.Prelude.{◌≡◌, ℕ, ◌+◌, ◌-◌, ◌<◌, ◌≤◌, ◌^◌, Result, OnOk};
+ghost use Rattle.std.specs.Prelude.{◌≡◌, ℕ, ◌+◌, ◌-◌, ◌<◌, ◌≤◌, Result, OnOk};
 ghost use Rattle.block_tag.specs.declared.tag.Fork.{Fork};
 ghost use Rattle.backend_pass.specs.declared.manager.Manager.{Manager};
 ghost use Rattle.backend_pass.specs.Passes.{PassState};

@@ -1,6 +1,6 @@
 //! What a dump prints of a page.
-ghost use Rattle.std.specs.Prelude.{◌≡◌, ◌≤◌, ◌<◌, ◌+◌, ◌-◌, ◌*◌, ◌^◌, ◌++◌, [], ◌∷◌, ℕ, Some};
-ghost use Rattle.std.specs.Prelude.{OnOk, OnErr, IfOk, length, true, take, drop, codes};
+ghost use Rattle.std.specs.Prelude.{◌≡◌, ◌≤◌, ◌<◌, ◌+◌, ◌-◌, ◌^◌, ◌++◌, [], ◌∷◌};
+ghost use Rattle.std.specs.Prelude.{OnOk, OnErr, length, true, codes};
 ghost use Rattle.std.specs.Fmt.{decimal};
 ghost use Rattle.page_layout.specs.Text.{joined};
 ghost use Rattle.page_layout.specs.Dump.{dump_lines_of, item_text, pointer_head, pointer_line};

@@ -1,5 +1,5 @@
 //! A line that is written from its end to its beginning.
-ghost use Rattle.std.specs.Prelude.{◌≡◌, ◌≤◌, ◌+◌, ◌<◌, ◌^◌, ◌++◌, ◌∷◌, [], length, true};
+ghost use Rattle.std.specs.Prelude.{◌≡◌, ◌≤◌, ◌+◌, ◌<◌, ◌++◌, ◌∷◌, [], length, true};
 ghost use Rattle.std.specs.Fmt.{decimal, digit_glyph, digits};
 
 use itoa::write_digits;

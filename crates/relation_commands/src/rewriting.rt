@@ -1,10 +1,9 @@
 //! The blocks of a relation that is open are rewritten by the backends of a buffer manager.
-ghost use Rattle.std.specs.Prelude.{◌≡◌, ◌≤◌, ◌<◌, ◌*◌, ◌+◌, ◌-◌, ◌%◌, ◌^◌, List, All, IfErr, IfOk, OnOk, length, map, sum_by, vec_len};
+ghost use Rattle.std.specs.Prelude.{◌≡◌, ◌≤◌, ◌<◌, ◌*◌, ◌+◌, ◌-◌, ◌%◌, ◌^◌, All, IfErr, OnOk, length, map, sum_by, vec_len};
 ghost use mathlib.Core.Option.{some};
 ghost use lib.ListN.{get_elem?};
 ghost use Rattle.segment_store.specs.Contents.{no_marks};
-ghost use Rattle.segment_store.specs.Lanes.{HasBlocks, HoldPages};
-ghost use Rattle.pin_core.specs.State.{Page};
+ghost use Rattle.segment_store.specs.Lanes.{HasBlocks};
 ghost use Rattle.table_rule.specs.Shows.{IsNewLog, devices};
 ghost use Rattle.command_line.specs.Numbers.{HasOptionsInRange};
 ghost use Rattle.frame_table.specs.Seats.{base_of, lanes_in, opened_of};
