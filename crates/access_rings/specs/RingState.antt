@@ -3,8 +3,8 @@ use Rattle.std.specs.Prelude.{◌≡◌, ℕ, ◌+◌, ◌/◌, ◌%◌, ◌<◌
 use Rattle.access_rings.specs.declared.ring.RingKind.{RingKind}
 use Rattle.access_rings.specs.declared.ring.RingKind.TheVariants.{BulkRead, BulkWrite, Vacuum}
 
--- The places stand in a circle, and each has the number of a frame or is empty. The current place is the
--- one that was looked at last, and place 0 before that.
+-- The places stand in a circle, and each has the number of a frame or is empty. The current place
+-- is the one that was looked at last, and place 0 before that.
 pub record RingState : Type 0 where
   pub kind : RingKind
   pub places : List (Option ℕ)

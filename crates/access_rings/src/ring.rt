@@ -35,9 +35,10 @@ impl RingKind {
     }
 }
 
-/// Places in a circle, each with a frame or empty, and a current place (`BufferAccessStrategyData`).
-/// Contracts see its kind, the list of its places, and the current place.
-/// Frames are numbered from 0, so an empty place has none; PostgreSQL's has `InvalidBuffer`, 0.
+/// Places in a circle, each with a frame or empty, and a current place
+/// (`BufferAccessStrategyData`). Contracts see its kind, the list of its places, and the current
+/// place. Frames are numbered from 0, so an empty place has no number; PostgreSQL's has 0
+/// (`InvalidBuffer`).
 #[derive(Debug, Drop)]
 pub struct Ring {
     kind: RingKind,
@@ -56,9 +57,9 @@ impl Model for Ring {
 }
 
 impl Ring {
-    /// An empty ring for a pool of this many frames (`GetAccessStrategy`). It has 32 places for bulk
-    /// reads and for a vacuum and 2048 for bulk writes, but no more than an eighth of the pool has
-    /// frames. The current place is place 0, so the first choice looks at place 1.
+    /// An empty ring for a pool of this many frames (`GetAccessStrategy`). It has 32 places for
+    /// bulk reads and for a vacuum and 2048 for bulk writes, but no more than an eighth of the pool
+    /// has frames. The current place is place 0, so the first choice looks at place 1.
     pub fn build(alloc: Global, kind: RingKind, frames: u32) -> Result<Ring, Memory>
         requires at_least { 16 ≤ frames }
         requires at_most { frames ≤ 4096 }
@@ -88,8 +89,9 @@ impl Ring {
         self.places.len() as u32
     }
 
-    /// Goes on to the next place, from the last one to place 0, and answers which frame stands there.
-    /// Whether that frame may be taken, as `GetBufferFromRing` asks next, is not the ring's matter.
+    /// Goes on to the next place, from the last one to place 0, and answers which frame stands
+    /// there. Whether that frame may be taken, as `GetBufferFromRing` asks next, is not the ring's
+    /// matter.
     pub fn next(&mut self) -> Option<u32>
         ensures ring { self.new ≡ ring_after_next self.old }
         ensures frame { result ≡ frame_at_current self.new }
@@ -98,8 +100,8 @@ impl Ring {
         self.places[self.current]
     }
 
-    /// Stores a frame at the current place in place of what stood there (`AddBufferToRing`). Any number
-    /// may be stored: the ring doesn't ask whether the pool has the frame.
+    /// Stores a frame at the current place in place of what stood there (`AddBufferToRing`). Any
+    /// number may be stored: the ring doesn't ask whether the pool has the frame.
     pub fn keep(&mut self, frame: u32)
         ensures ring { self.new ≡ ring_after_keep frame self.old }
         ensures kept { frame_at_current self.new ≡ Some frame }
@@ -110,8 +112,8 @@ impl Ring {
     /// Whether the ring gives the frame up for another one (`StrategyRejectBuffer`): exactly when
     /// it is for bulk reads and the current place holds the frame. That place is empty then.
     ///
-    /// Ask it only for a frame that `next` has answered: one from elsewhere stands at the current place
-    /// too, once it is kept there, and PostgreSQL doesn't reject that one (`from_ring`).
+    /// Ask it only for a frame that `next` has answered: one from elsewhere stands at the current
+    /// place too, once it is kept there, and PostgreSQL doesn't reject that one (`from_ring`).
     pub fn reject(&mut self, frame: u32) -> bool
         ensures answer { IsTrue result ↔ Rejects self.old frame }
         ensures rejected { OnTrue result (self.new ≡ ring_after_rejection self.old) }

@@ -24,7 +24,8 @@ use Rattle.backend_pass.specs.Passes.{PassState}
 use Rattle.clock_sweep.specs.FreeFrames.{QueueState, joined_parts, times}
 use Rattle.backend_pass.specs.Managers.{first_in, others_in}
 
--- the calls of the first pass, then those of the others, one pass after the other in the order of the list
+-- the calls of the first pass, then those of the others, one pass after the other in the order of
+-- the list
 abbrev pub calls_of_passes : List PassState → List Call
 calls_of_passes [] = []
 calls_of_passes (p ∷ ps) = p.view.calls ++ calls_of_passes ps
@@ -63,7 +64,8 @@ takes f ps = total (λ (p : PassState). times f p.queue.known.taken) ps
 abbrev pub pushes : ℕ → List PassState → ℕ
 pushes f ps = total (λ (p : PassState). times f p.queue.known.pushed) ps
 
--- The passes of a pool of n frames took each frame once, and once more for each time that it was pushed, but for those that were left
+-- The passes of a pool of n frames took each frame once, and once more for each time that it was
+-- pushed, but for those that were left
 pub record TookEach (n : ℕ) (ps : List PassState) : Type 0 where
   pub left : List ℕ
   pub inside : All (λ f. f < n) left
@@ -101,7 +103,8 @@ HasNoMark p = p.view.dirtied_or_synced ≡ false
 abbrev pub PutNothing : PassState → Type 0
 PutNothing p = writes_in p.view.calls ≡ 0
 
--- Nothing was written: no frame is dirty, no block's last write failed, no pass met a fault of writing, and none ever had an output right
+-- Nothing was written: no frame is dirty, no block's last write failed, no pass met a fault of
+-- writing, and none ever had an output right
 pub record NothingWritten (s : State) (ps : List PassState) : Type 0 where
   pub clean : (f : ℕ) → f < s.pool.core.frames → (s.pool.core.frame f).word.dirty ≡ false
   pub unfailed : (tag : ℕ) → failed s tag ≡ false
@@ -115,7 +118,8 @@ pub record NothingPut (s : State) (ps : List PassState) : Type 0 where
   pub fronts : EachPass (λ p. p.view.front ≡ s.log.base) ps
 
 module _ {L G : Type 0} where
-  -- The lanes and the log are given back in a state that has the law, and the passes' calls are one history of the log
+  -- The lanes and the log are given back in a state that has the law, and the passes' calls are one
+  -- history of the log
   pub record ClosesAll (d : Devices L G) (o : Opening L G) (ps : List PassState) (lanes : List L) (log : G) : Type 0 where
     pub state : State
     pub laws : Laws state
@@ -151,5 +155,6 @@ module _ {L G : Type 0} where
     pub failed_met : (tag : ℕ) → failed state tag ≡ true → 0 < (met_by_passes ps).writes
     pub unmarked : EachPass HasNoMark ps → NothingWritten state ps
     pub without_puts : EachPass PutNothing ps → NothingPut state ps
-    -- the passes took each frame from the free list once, and once more for each push, but for those that it still had
+    -- the passes took each frame from the free list once, and once more for each push, but for
+    -- those that it still had
     pub frames : TookEach o.config.frames ps

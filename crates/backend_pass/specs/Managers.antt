@@ -25,7 +25,8 @@ use Rattle.backend_pass.specs.declared.manager.Manager.{Manager}
 use Rattle.backend_pass.specs.Passes.{PassState}
 
 module _ {L G : Type 0} where
-  -- The manager was opened with these numbers, relations and devices, over a log that begins at `base`
+  -- The manager was opened with these numbers, relations and devices, over a log that begins at
+  -- `base`
   pub record OpenedWith (config : Config) (catalog : List RelEntry) (lanes : Vec L) (log : G) (base : ℕ) (m : Manager L G) : Type 0 where
     pub config_is : m.table.table.shared.key.config ≡ config
     pub catalog_is : m.table.table.shared.key.catalog.value ≡ catalog
@@ -65,7 +66,8 @@ module _ {L G : Type 0} where
     pub view : p.view ≡ record (new_view i (base_of m.table) (frames_of m.table) 128 (lanes_in m.table)) { next = p.view.next }
     -- the first one has given the numbers of all others
     pub next : i ≡ 0 → p.view.next ≡ passes
-    -- it pushed no frame on the free list, and took none. Each other has one part of it, and the first one what is left
+    -- it pushed no frame on the free list, and took none. Each other has one part of it, and the
+    -- first one what is left
     pub pushed : p.queue.known.pushed ≡ []
     pub taken : p.queue.known.taken ≡ []
     pub rest : i ≡ 0 → p.queue.known.parts + passes ≡ all_parts + 1
@@ -104,7 +106,8 @@ abbrev pub AreSpent : TableId → List PassState → Type 0
 AreSpent table [] = Unit {0}
 AreSpent table (p ∷ ps) = (p.table ≡ table) × (p.tokens ≡ no_tokens) × AreSpent table ps
 
--- the front of each is the largest place of what it has read and put, over a log that begins at `base`
+-- the front of each is the largest place of what it has read and put, over a log that begins at
+-- `base`
 abbrev pub AreFronted : ℕ → List PassState → Type 0
 AreFronted base [] = Unit {0}
 AreFronted base (p ∷ ps) = IsFront base p.view.calls p.view.front × AreFronted base ps

@@ -21,7 +21,8 @@ pub record PassState : Type 0 where
   pub table : TableId
   pub id : ℕ
   pub view : View
-  -- its pass of the free list: the list's, with what it knows of it, which is what it pushed there and took from there
+  -- its pass of the free list: the list's, with what it knows of it, which is what it pushed there
+  -- and took from there
   pub queue : QueueState
   -- the tokens that its callers have
   pub tokens : List HeldFrame

@@ -39,7 +39,8 @@ use Rattle.backend_pass.specs.FrameFlushes.{WasWithin}
 use Rattle.buffer_frames.specs.Outside.{shown_count}
 use Rattle.backend_pass.specs.Passes.{NoDeviceFails, PassState}
 
--- what is refused before anything is looked at: a block past the end of its fork, and then one token too many
+-- what is refused before anything is looked at: a block past the end of its fork, and then one
+-- token too many
 abbrev pub refused_at_once : List RelEntry → Tokens → Tag → Option ReadError
 refused_at_once relations tokens tag =
     if nat_lt tag.block (blocks_at relations tag.rel.0 tag.fork) then (if nat_eq (count_of tokens) 8 then Some PinsFull else None)
@@ -123,7 +124,8 @@ IsReadUnsoundAllPinnedOrShort r = IsReadUnsoundOrAllPinned r
 module _ {L G : Type 0} (contents : L → Option Pages) (t : FrameTable L G) where
   -- No device fails while a block is read, and no page is one that can't be written
   pub record NothingFails (p q : PassState) : Type 0 where
-    -- no sound page that a lane can have held as the table was opened had a position past the end of the log that the pass had seen
+    -- no sound page that a lane can have held as the table was opened had a position past the end
+    -- of the log that the pass had seen
     pub within : (other : Tag) → names_block other ≡ true → has_block (relations_of t) other ≡ true → WasWithin contents t other p.view.end_seen
     pub devices : NoDeviceFails p q
 

@@ -9,7 +9,8 @@ use Rattle.buffer_frames.specs.Tokens.{Tokens}
 use Rattle.buffer_frames.specs.Rests.{HasNoDevice, HasNoLatch, OnlyTokens, SameLocks}
 use Rattle.backend_pass.specs.Passes.{view_in}
 
--- The badge is of a pass at the table: it has one view, which holds what the pass's tokens say and nothing else
+-- The badge is of a pass at the table: it has one view, which holds what the pass's tokens say and
+-- nothing else
 pub record IsSeated (table : TableId) (held : Tokens) (b : Badge View) : Type 0 where
   pub table_is : b.table_id ≡ table
   pub one : b.views ≡ view_in b.views ∷ []

@@ -22,7 +22,10 @@ impl Pass {
     ghost use Rattle.backend_pass.specs.Managers.{Belongs};
     ghost use Rattle.backend_pass.specs.Passes.{KeepsCalls, KeepsDevices, KeepsLocks, KeepsMark, KeepsSought, SamePass};
 
-    /// Takes the cleanup lock of the frame of the pass's only token there, which has the token's block: the exclusive content lock, while no other backend pins the frame (`LockBufferForCleanup`). It waits for that, one backend at a time. A refusal gives the token back.
+    /// Takes the cleanup lock of the frame of the pass's only token there, which has the token's
+    /// block: the exclusive content lock, while no other backend pins the frame
+    /// (`LockBufferForCleanup`). It waits for that, one backend at a time. A refusal gives the
+    /// token back.
     pub fn lock_cleanup<L: BlockLane, G: LogDevice, R: Wait>(
         &mut self,
         manager: &Manager<L, G>,
@@ -64,7 +67,8 @@ impl Pass {
         }
     }
 
-    /// Takes it without waiting, neither for the content lock nor for other pins (`ConditionalLockBufferForCleanup`). A refusal gives the token back.
+    /// Takes it without waiting, neither for the content lock nor for other pins
+    /// (`ConditionalLockBufferForCleanup`). A refusal gives the token back.
     pub fn try_cleanup<L: BlockLane, G: LogDevice>(
         &mut self,
         manager: &Manager<L, G>,

@@ -69,7 +69,8 @@ pub(crate) fn place_of_first(passes: &[Pass]) -> usize
     unreachable!()
 }
 
-/// The first seat and its pass of the free list take in what the other passes know, one after the other.
+/// The first seat and its pass of the free list take in what the other passes know, one after the
+/// other.
 pub(crate) fn join_all<L: BlockLane, G: LogDevice>(
     manager: &Manager<L, G>,
     seat: &mut Seat<Value<L, G>, View>,

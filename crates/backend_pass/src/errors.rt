@@ -15,7 +15,8 @@ pub enum Setting {
 
 #[derive(Clone, Copy, PartialEq, Eq, Debug, Error)]
 pub enum StartError {
-    /// A number of the configuration is out of range: frames are 16 to 4096, passes 1 to 64, lanes 1 to 16.
+    /// A number of the configuration is out of range: frames are 16 to 4096, passes 1 to 64, lanes
+    /// 1 to 16.
     #[error("{which:?} out of range: {number}")]
     BadConfig { which: Setting, number: u32 },
     /// Another number of lanes was given than the configuration says.

@@ -137,7 +137,9 @@ impl Pass {
     ghost use Rattle.backend_pass.specs.Passes.{KeepsCalls, KeepsLocks, KeepsMark, KeepsSought, NoDeviceFails, SamePass};
     ghost use Rattle.backend_pass.specs.FrameFlushes.{IsOkOrShort, WasWithin, page_answer};
 
-    /// Writes the page of a token's frame if the frame is dirty, after flushing the log up to the page's position (`FlushOneBuffer`). The caller doesn't have the content lock. Returns false if the frame is clean.
+    /// Writes the page of a token's frame if the frame is dirty, after flushing the log up to the
+    /// page's position (`FlushOneBuffer`). The caller doesn't have the content lock. Returns false
+    /// if the frame is clean.
     pub fn flush_frame<L: BlockLane, G: LogDevice, R: Wait>(
         &mut self,
         manager: &Manager<L, G>,
@@ -158,7 +160,8 @@ impl Pass {
         ensures others { (g : ℕ) → g ≢ pinned.now.frame → link self.new.view g ≡ link self.old.view g }
         ensures notes { KeepsNotes (link self.old.view pinned.now.frame) (link self.new.view pinned.now.frame) }
 
-        // The page went to its lane after the log was flushed up to it, or the frame was clean; or this is why not, and which devices were called.
+        // The page went to its lane after the log was flushed up to it, or the frame was clean; or
+        // this is why not, and which devices were called.
         ensures answer { FlushAnswer L.contents manager.now.table (lane_number pinned.now.tag (lanes_in manager.now.table)) pinned.now.tag pinned.now.frame self.old.view self.new.view (page_answer result) }
         ensures met { self.new.view.met ≡ met_flushing (page_answer result) self.old.view.met }
         ensures ended { IfErr result (λ _. EndedInError pinned.now.frame self.old.view self.new.view) }

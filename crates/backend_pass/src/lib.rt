@@ -1,5 +1,5 @@
-//! The buffer manager as an engine sees it (`bufmgr.h`): a [`Manager`] has the pool, the lanes and the log, and each
-//! backend works through a [`Pass`] of its own.
+//! The buffer manager as an engine sees it (`bufmgr.h`): a [`Manager`] has the pool, the lanes and
+//! the log, and each backend works through a [`Pass`] of its own.
 //!
 //! 1. [`Manager::start`] takes a [`Config`], a catalogue, the lanes and a new log, and returns the manager with all
 //!    its passes. Give one to each thread, and share the manager by `&`.
@@ -7,8 +7,8 @@
 //!    it for one with the content lock. Read and `put` pages with that, then unlock and `release`.
 //! 3. [`Manager::close`] takes all passes back and returns the devices.
 //!
-//! Tokens, passes and the manager aren't `Drop`: forget one, and the compiler complains. `docs/LIBRARY.md` says how an
-//! engine uses them.
+//! Tokens, passes and the manager aren't `Drop`: forget one, and the compiler complains.
+//! `docs/LIBRARY.md` says how an engine uses them.
 #![tactic(auto)]
 
 mod cleanup;

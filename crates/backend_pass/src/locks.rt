@@ -28,7 +28,8 @@ impl Pass {
     ghost use Rattle.backend_pass.specs.Managers.{Belongs};
     ghost use Rattle.backend_pass.specs.Passes.{KeepsCalls, KeepsDevices, KeepsLocks, KeepsMark, KeepsSought, SamePass};
 
-    /// Takes the content lock of a token's frame in shared mode, once no backend has it exclusively (`BUFFER_LOCK_SHARE`).
+    /// Takes the content lock of a token's frame in shared mode, once no backend has it exclusively
+    /// (`BUFFER_LOCK_SHARE`).
     pub fn share<L: BlockLane, G: LogDevice, R: Wait>(
         &mut self,
         manager: &Manager<L, G>,
@@ -118,7 +119,8 @@ impl Pass {
         }
     }
 
-    /// Takes it in exclusive mode without waiting (`ConditionalLockBuffer`). A refusal returns the token.
+    /// Takes it in exclusive mode without waiting (`ConditionalLockBuffer`). A refusal returns the
+    /// token.
     pub fn try_exclusive<L: BlockLane, G: LogDevice>(
         &mut self,
         manager: &Manager<L, G>,

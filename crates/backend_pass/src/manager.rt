@@ -59,7 +59,9 @@ impl<L: BlockLane, G: LogDevice> Manager<L, G> {
     ghost use Rattle.backend_pass.specs.Managers.{AreAll, AreNewPasses, OpenedWith};
     ghost use Rattle.backend_pass.specs.Closing.{ClosesAll};
 
-    /// Starts a manager of these relations and devices, over a log that begins at `base`, and returns it with all its passes, in the order of their numbers. A refusal returns the devices, of which none was called.
+    /// Starts a manager of these relations and devices, over a log that begins at `base`, and
+    /// returns it with all its passes, in the order of their numbers. A refusal returns the
+    /// devices, of which none was called.
     pub fn start(
         alloc: Global,
         config: Config,
@@ -118,7 +120,9 @@ impl<L: BlockLane, G: LogDevice> Manager<L, G> {
         }
     }
 
-    /// Takes all passes, which have no tokens, in any order, and returns the devices. The calls of the first pass, then those of the others in the order of the list, are one history of the log.
+    /// Takes all passes, which have no tokens, in any order, and returns the devices. The calls of
+    /// the first pass, then those of the others in the order of the list, are one history of the
+    /// log.
     pub fn close(self, mut passes: Vec<Pass>) -> (Vec<L>, G)
         requires { AreAll self passes.items }
         ensures { ClosesAll (devices L.BlockLane G.LogDevice) self.table.table.shared.key passes.items result.0.items result.1 }

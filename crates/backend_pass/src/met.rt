@@ -1,6 +1,7 @@
 //! What a pass shows of itself at any time.
 
-/// How many calls of devices failed, as a pass met them: reads of lanes, their writes and syncs, and calls of the log. A count stands still at its type's last value.
+/// How many calls of devices failed, as a pass met them: reads of lanes, their writes and syncs,
+/// and calls of the log. A count stands still at its type's last value.
 #[derive(Clone, Copy, PartialEq, Eq, Debug)]
 pub struct Met {
     pub reads: u64,

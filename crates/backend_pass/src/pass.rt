@@ -48,7 +48,8 @@ impl Model for Pass {
       hint = p.backend.lookups.hint;
     } };
 
-    // Its seat has one view, which holds what its tokens say and nothing else. It has room to mark each frame, and counts the latches of partitions that it took.
+    // Its seat has one view, which holds what its tokens say and nothing else. It has room to mark
+    // each frame, and counts the latches of partitions that it took.
     ghost invariant = { λ p. let v = view_in p.seat.views in
         (p.seat.views ≡ v ∷ [])
         × OnlyTokens p.held v
@@ -78,14 +79,16 @@ impl Pass {
         self.shown.met
     }
 
-    /// The largest place in the log of what the pass has read and put; where the log begins, before that.
+    /// The largest place in the log of what the pass has read and put; where the log begins, before
+    /// that.
     pub fn front(&self) -> Lsn
         ensures { result ≡ self.now.view.front }
     {
         self.shown.front
     }
 
-    /// How many latches of partitions the pass took. The number stands still at its type's last value.
+    /// How many latches of partitions the pass took. The number stands still at its type's last
+    /// value.
     pub fn turns(&self) -> u64
         ensures { result ≡ shown_count self.now.view.turns }
     {
@@ -99,7 +102,8 @@ impl Pass {
         self.backend.lookups.hint
     }
 
-    /// The state words of the frames, from frame 0 on, if the last choice of a victim found every frame pinned; else empty. They were loaded at different moments.
+    /// The state words of the frames, from frame 0 on, if the last choice of a victim found every
+    /// frame pinned; else empty. They were loaded at different moments.
     pub fn census(&self) -> &[u64]
         ensures { result.now ≡ self.now.census.words }
     {
@@ -127,7 +131,8 @@ impl Pass {
         ensures devices { KeepsDevices self.old self.new }
         ensures down { self.new.view.saw_down ≡ self.old.view.saw_down }
 
-        // With the last token the pin is given up, by one step after loads of the state word, and the backend is woken that waits for its own pin to be the only one.
+        // With the last token the pin is given up, by one step after loads of the state word, and
+        // the backend is woken that waits for its own pin to be the only one.
         ensures unpins { tokens_of (held_at self.old.tokens pinned.frame) ≡ 1 → Woken pinned.frame self.old.view self.new.view }
 
         // What the pass has at other frames is untouched, and all of it if another token of the

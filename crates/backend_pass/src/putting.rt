@@ -44,7 +44,8 @@ impl Shown {
     }
 }
 
-/// Puts a page into a frame of which callers have a token and the content lock exclusively, from the seat of a pass.
+/// Puts a page into a frame of which callers have a token and the content lock exclusively, from
+/// the seat of a pass.
 fn put_seated<L: BlockLane, G: LogDevice, R: Wait>(
     table: &FrameTable<L, G>,
     rt: &R,
@@ -93,7 +94,10 @@ impl Pass {
     ghost use Rattle.backend_pass.specs.Passes.{KeepsCalls, KeepsLocks, KeepsSought, SameButTorn};
     ghost use Rattle.buffer_frames.specs.Puts.{IsDoneOrFull, PutAnswer, met_put, put_calls};
 
-    /// Makes the given page, which is sound and not new, the page of a frame whose content lock the caller has exclusively: marks the frame dirty (`MarkBufferDirty`), inserts the page into the log (`XLogInsert`), and copies it into the frame with its position there. Returns that position. After a refusal the frame's page is as it was.
+    /// Makes the given page, which is sound and not new, the page of a frame whose content lock the
+    /// caller has exclusively: marks the frame dirty (`MarkBufferDirty`), inserts the page into the
+    /// log (`XLogInsert`), and copies it into the frame with its position there. Returns that
+    /// position. After a refusal the frame's page is as it was.
     pub fn put<L: BlockLane, G: LogDevice, R: Wait>(
         &mut self,
         manager: &Manager<L, G>,
@@ -116,7 +120,8 @@ impl Pass {
         ensures others { (g : ℕ) → g ≢ exclusive.old.pinned.frame → link self.new.view g ≡ link self.old.view g }
         ensures marked { self.new.view.dirtied_or_synced ≡ true }
 
-        // The page is the frame's, and stands in the log at the position answered, past all that the pass has read and put; or this is why not.
+        // The page is the frame's, and stands in the log at the position answered, past all that
+        // the pass has read and put; or this is why not.
         ensures answer { PutAnswer (relations_of manager.now.table) exclusive.old.pinned.frame exclusive.old.pinned.tag page.now self.old.view self.new.view result }
         ensures devices { Made (put_calls result) self.old.view self.new.view }
         ensures met { self.new.view.met ≡ met_put result self.old.view.met }

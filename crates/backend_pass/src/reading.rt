@@ -222,7 +222,10 @@ impl Pass {
         }
     }
 
-    /// Pins a block and returns a token of it (`ReadBuffer_common`). If callers have one already, no lane is read and no shared word changes. Otherwise the block is looked up, by its hint and then in the map, and, if no frame has it, read into one, chosen by the ring if one is given. A refusal leaves the pass's pins as they were.
+    /// Pins a block and returns a token of it (`ReadBuffer_common`). If callers have one already,
+    /// no lane is read and no shared word changes. Otherwise the block is looked up, by its hint
+    /// and then in the map, and, if no frame has it, read into one, chosen by the ring if one is
+    /// given. A refusal leaves the pass's pins as they were.
     pub fn read_buffer<L: BlockLane, G: LogDevice, R: Wait>(
         &mut self,
         manager: &Manager<L, G>,
@@ -240,13 +243,16 @@ impl Pass {
         ensures census { ReadingCensus (frames_of manager.now.table) self.old.census self.new.census result }
         ensures met { self.new.view.met ≡ met_reading result self.old.view.met }
 
-        // A block past the end and one token too many are refused, in this order, before anything is looked at, and nothing else is refused so. The pass, but for its hint, and the ring are as they were.
+        // A block past the end and one token too many are refused, in this order, before anything
+        // is looked at, and nothing else is refused so. The pass, but for its hint, and the ring
+        // are as they were.
         ensures exact { at_once_of result ≡ refused_at_once (relations_of manager.now.table) self.old.tokens tag }
         ensures at_once { (why : ReadError)
             → refused_at_once (relations_of manager.now.table) self.old.tokens tag ≡ Some why
             → (self.new ≡ record self.old { hint = Unused }) × (ring.new ≡ ring.old) }
 
-        // A further token of a block that is pinned changes nothing but the count of its tokens, and the pass's hint, and leaves the ring as it was.
+        // A further token of a block that is pinned changes nothing but the count of its tokens,
+        // and the pass's hint, and leaves the ring as it was.
         ensures again { refused_at_once (relations_of manager.now.table) self.old.tokens tag ≡ None
             → (f : ℕ) → IsPinnedFor tag f self.old.tokens
             → (result ≡ Ok (record { frame = f; tag = tag; hit = true }))
@@ -281,7 +287,8 @@ impl Pass {
         ensures short { refused_at_once (relations_of manager.now.table) self.old.tokens tag ≡ None
             → NoDeviceFails self.old self.new → IsReadUnsoundAllPinnedOrShort result }
 
-        // If no page had a position past the log end that the pass had seen, the last of these doesn't happen.
+        // If no page had a position past the log end that the pass had seen, the last of these
+        // doesn't happen.
         ensures complete { refused_at_once (relations_of manager.now.table) self.old.tokens tag ≡ None → NothingFails L.contents manager.now.table self.old self.new → IsReadUnsoundOrAllPinned result }
 
         // It is called unsound only if it was unsound as the table was opened, as far as that is

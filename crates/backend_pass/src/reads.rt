@@ -56,7 +56,8 @@ impl Pass {
         place
     }
 
-    /// Copies the page of a token's block and returns its place in the log. Takes the content lock in shared mode for that, and releases it.
+    /// Copies the page of a token's block and returns its place in the log. Takes the content lock
+    /// in shared mode for that, and releases it.
     pub fn read_page<L: BlockLane, G: LogDevice, R: Wait>(
         &mut self,
         manager: &Manager<L, G>,
@@ -89,7 +90,8 @@ impl Pass {
         place
     }
 
-    /// Copies the page under the shared content lock that the token has, and returns its place in the log.
+    /// Copies the page under the shared content lock that the token has, and returns its place in
+    /// the log.
     pub fn read_shared<L: BlockLane, G: LogDevice, R: Wait>(
         &mut self,
         manager: &Manager<L, G>,
@@ -115,7 +117,8 @@ impl Pass {
         self.read_locked(manager, rt, &shared.pinned, page)
     }
 
-    /// Copies the page under the exclusive content lock that the token has, and returns its place in the log.
+    /// Copies the page under the exclusive content lock that the token has, and returns its place
+    /// in the log.
     pub fn read_exclusive<L: BlockLane, G: LogDevice, R: Wait>(
         &mut self,
         manager: &Manager<L, G>,

@@ -104,7 +104,8 @@ impl Pass {
     }
 }
 
-/// All passes of a manager that was just opened: the first one has its seat and its pass of the free list, and those of the others are split from it.
+/// All passes of a manager that was just opened: the first one has its seat and its pass of the
+/// free list, and those of the others are split from it.
 pub(crate) fn seat_passes<L: BlockLane, G: LogDevice>(
     manager: &Manager<L, G>,
     seat: Seat<Value<L, G>, View>,

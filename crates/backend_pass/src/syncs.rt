@@ -91,7 +91,8 @@ impl Pass {
     ghost use Rattle.backend_pass.specs.Passes.{KeepsCallers, KeepsMark, NoDeviceFails, SamePass};
     ghost use Rattle.backend_pass.specs.Reading.{NothingFails};
 
-    /// Looks at a frame's state word under its header, and by that writes the frame or passes it over (`SyncOneBuffer`). The frame is pinned for the write, its usage count unchanged.
+    /// Looks at a frame's state word under its header, and by that writes the frame or passes it
+    /// over (`SyncOneBuffer`). The frame is pinned for the write, its usage count unchanged.
     pub fn sync_one<L: BlockLane, G: LogDevice, R: Wait>(
         &mut self,
         manager: &Manager<L, G>,
@@ -111,12 +112,15 @@ impl Pass {
         ensures pins { SamePins self.old.view self.new.view }
         ensures notes { KeepsNotes (link self.old.view frame) (link self.new.view frame) }
 
-        // The frame was passed over exactly for the word that was looked at. Else it was written after the log was flushed up to its page, or was clean; or this is why not, and which devices were called.
+        // The frame was passed over exactly for the word that was looked at. Else it was written
+        // after the log was flushed up to its page, or was clean; or this is why not, and which
+        // devices were called.
         ensures syncs { SyncsFrame L.contents manager.now.table only frame self.old.view self.new.view (frame_answer result) }
         ensures met { self.new.view.met ≡ met_flushing (frame_answer result) self.old.view.met }
         ensures ended { EndsSync frame self.old.view self.new.view (frame_answer result) }
 
-        // A frame without BM_CHECKPOINT_NEEDED is none that the pass's checkpoint has still to write.
+        // A frame without BM_CHECKPOINT_NEEDED is none that the pass's checkpoint has still to
+        // write.
         ensures not_left_to_write { result ≡ Ok Skipped → only ≡ Needed → (link self.new.view frame).left_to_write ≡ false }
 
         // It is done if no device fails and the log isn't down, unless the page is past the log's
@@ -158,7 +162,8 @@ impl Pass {
         answer
     }
 
-    /// A checkpoint of the pass begins, at the log's end: it has visited no frame, and has none to write.
+    /// A checkpoint of the pass begins, at the log's end: it has visited no frame, and has none to
+    /// write.
     pub fn begin_checkpoint<L: BlockLane, G: LogDevice>(&mut self, manager: &Manager<L, G>) -> Lsn
         requires belongs { Belongs L.contents manager.now self.old }
         ensures belongs { Belongs L.contents manager.now self.new }

@@ -26,7 +26,8 @@ pages_written_for_all [] = 0
 pages_written_for_all (synced ∷ came) = pages_written_for synced + pages_written_for_all came
 
 module _ {L G : Type 0} (contents : L → Option Pages) (t : FrameTable L G) where
-  -- Beginning with the one at which the hand points, frames were looked at in order, and this came of them, while the view pinned what it pinned in `start` at each look
+  -- Beginning with the one at which the hand points, frames were looked at in order, and this came
+  -- of them, while the view pinned what it pinned in `start` at each look
   pub data LookedInOrder (hand : ℕ) (start v : View) : List Synced → View → Type 0 where
     none : LookedInOrder hand start v [] v
     next : {u w : View} (came : List Synced) (synced : Synced) → LookedInOrder hand start v came u → SamePins start u → SyncsFrame contents t NotRecentlyUsed ((hand + length came) % frames_of t) u w (Ok synced) → LookedInOrder hand start v (came ++ synced ∷ []) w

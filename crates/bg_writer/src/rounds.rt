@@ -41,7 +41,9 @@ fn pages(synced: Synced) -> u32
     }
 }
 
-/// Writes dirty frames that no backend pins and whose usage count is 0, so that victims needn't be written (`BgBufferSync`). It looks at the frames in order from the clock's hand on, until it has looked at all of them or written 100 pages.
+/// Writes dirty frames that no backend pins and whose usage count is 0, so that victims needn't be
+/// written (`BgBufferSync`). It looks at the frames in order from the clock's hand on, until it has
+/// looked at all of them or written 100 pages.
 pub fn round<L: BlockLane, G: LogDevice, R: Wait>(
     manager: &Manager<L, G>,
     rt: &R,
@@ -55,7 +57,8 @@ pub fn round<L: BlockLane, G: LogDevice, R: Wait>(
     ensures pins { SamePins pass.old.view pass.new.view }
     ensures notes { (f : ℕ) → KeepsNotes (link pass.old.view f) (link pass.new.view f) }
 
-    // The frames were looked at in order from the hand on, as this call loaded it, and each was passed over exactly for its state word then, or written; and this is where that ended.
+    // The frames were looked at in order from the hand on, as this call loaded it, and each was
+    // passed over exactly for its state word then, or written; and this is where that ended.
     ensures rounds { Rounds L.contents manager.now.table pass.old.view pass.new.view result }
 
     ensures cause { IfErr result (RefusesFrame L.contents manager.now.table pass.old pass.new) }

@@ -34,7 +34,8 @@ pub data PutsBack (f : ℕ) (q r : QueueState) : Type 0 where
   pushed : r ≡ pushing f q → PutsBack f q r
   full : r ≡ q → ListHad q.known.frames q.known → PutsBack f q r
 
--- A victim was given up and put back, and another backend's frame f, which the map gave, was pinned then, for a ring or not
+-- A victim was given up and put back, and another backend's frame f, which the map gave, was pinned
+-- then, for a ring or not
 pub record PinsOther (tag : Tag) (ring : Bool) (victim f : ℕ) (v : View) (q : QueueState) (w : View) (r : QueueState) : Type 0 where
   pub entries : List MapEntry
   pub searched : View
@@ -45,12 +46,16 @@ pub record PinsOther (tag : Tag) (ring : Bool) (victim f : ℕ) (v : View) (q : 
   pub put_back : PutsBack victim q r
   pub pinned : Tried (pins (kinds.pin_mapped (packed_tag tag) ring)) f given w true
 
--- The map was searched once more: it gave none, and then the block was brought into the victim; or it gave another backend's frame
+-- The map was searched once more: it gave none, and then the block was brought into the victim; or
+-- it gave another backend's frame
 pub data Brings (tag : Tag) (ring : Bool) (victim f : ℕ) (v : View) (q : QueueState) (w : View) (r : QueueState) : Type 0 where
   enters : {u : View} → f ≡ victim → SeesNone tag v u → OnlyRises u w → r ≡ q → Brings tag ring victim f v q w r
   pins_other : PinsOther tag ring victim f v q w r → Brings tag ring victim f v q w r
 
--- Under the latch of the tag's partition the block was brought into a frame, f, which is pinned for it. Then the tag's hint was stored, which names the frame. By then the view had what it had but for frames, partitions' latches and the hint, and after that no work was done at another frame, and these were the calls of devices
+-- Under the latch of the tag's partition the block was brought into a frame, f, which is pinned for
+-- it. Then the tag's hint was stored, which names the frame. By then the view had what it had but
+-- for frames, partitions' latches and the hint, and after that no work was done at another frame,
+-- and these were the calls of devices
 pub record EntersAndStores (n : ℕ) (tag : Tag) (held : Tokens) (ring : Bool) (victim f : ℕ)
     (last : List DeviceCall) (v : View) (q : QueueState) (w : View) (r : QueueState) : Type 0 where
   pub holds : (link v victim).role ≡ Victim
@@ -65,7 +70,8 @@ pub record EntersAndStores (n : ℕ) (tag : Tag) (held : Tokens) (ring : Bool) (
   pub calls : Made last noted w
 
 module _ {L G : Type 0} (contents : L → Option Pages) (t : FrameTable L G) where
-  -- Victims were chosen and given up, then one was chosen and lost its tag, and the block was brought into it; or another backend's frame, which has the block, was pinned
+  -- Victims were chosen and given up, then one was chosen and lost its tag, and the block was
+  -- brought into it; or another backend's frame, which has the block, was pinned
   pub record PinsAndStores (tag : Tag) (held : Tokens) (ring : Bool) (f : ℕ)
       (last : List DeviceCall) (v : View) (c : ChoiceState) (w : View) (d : ChoiceState) : Type 0 where
     pub start : View

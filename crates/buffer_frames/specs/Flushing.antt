@@ -61,7 +61,8 @@ pub record CallsLane (done : Bool) (q tag : ℕ) (page : Page) (v w : View) : Ty
   pub whole : done ≡ true → left ≡ page
   pub calls : Made (LaneWrite q tag left done ∷ []) v w
 
--- The page went to the lane q, or failed to. Before that the log was synced at most, and the flushed position was seen at the page's position or past it
+-- The page went to the lane q, or failed to. Before that the log was synced at most, and the
+-- flushed position was seen at the page's position or past it
 pub record WentToLane (done : Bool) (q tag : ℕ) (page : Page) (v w : View) : Type 0 where
   -- the view by then
   pub ready : View
@@ -75,12 +76,14 @@ pub record WentToLane (done : Bool) (q tag : ℕ) (page : Page) (v w : View) : T
   pub lane_call : Made (LaneWrite q tag left done ∷ []) ready w
   pub until : OnlyRises ready w
 
--- The frame wasn't dirty, by a word that was loaded under its header in this call, and no device was called
+-- The frame wasn't dirty, by a word that was loaded under its header in this call, and no device
+-- was called
 pub record FindsClean (f : ℕ) (v w : View) : Type 0 where
   pub finds : Within (FindsNothing false f) v w
   pub calls : w.device_calls ≡ v.device_calls
 
--- In this call a write of the frame f ended with an error, and no read or write ended after it. The state word that it stored is valid and dirty, and has BM_IO_ERROR
+-- In this call a write of the frame f ended with an error, and no read or write ended after it. The
+-- state word that it stored is valid and dirty, and has BM_IO_ERROR
 pub record EndedInError (f : ℕ) (v w : View) : Type 0 where
   pub stored : StateWord
   pub ends : Within (EndsWork Output Bad f stored) v w
@@ -117,7 +120,8 @@ abbrev pub met_flushing : {A : Type 0} → Result A FrameFlushError → FailedCa
 met_flushing (Ok done) m = m
 met_flushing (Err why) m = met_refused why m
 
--- The page is the one of the frame f, which is sound, as it was copied under the content lock in this call, after BM_JUST_DIRTIED was cleared. This came of its write
+-- The page is the one of the frame f, which is sound, as it was copied under the content lock in
+-- this call, after BM_JUST_DIRTIED was cleared. This came of its write
 pub record CopiesAnd (Work : Page → View → View → Type 0) (f : ℕ) (v w : View) : Type 0 where
   pub page : Page
   pub sound : is_sound_page page ≡ true
@@ -127,7 +131,9 @@ pub record CopiesAnd (Work : Page → View → View → Type 0) (f : ℕ) (v w :
   pub copies : Within (Copies f page) cleared w
   pub work : Work page v w
 
--- The ring gave the frame f up. It is for bulk reads, the frame came from its current place, and the log would have to be flushed for the frame's page, as that was copied in this call and the flushed position loaded. The place is empty then
+-- The ring gave the frame f up. It is for bulk reads, the frame came from its current place, and
+-- the log would have to be flushed for the frame's page, as that was copied in this call and the
+-- flushed position loaded. The place is empty then
 pub record RejectsVictim (f : ℕ) (from_ring : Bool) (before after : Option RingState) (v w : View) : Type 0 where
   pub came : from_ring ≡ true
   pub ring : RingState
@@ -140,7 +146,9 @@ pub record RejectsVictim (f : ℕ) (from_ring : Bool) (before after : Option Rin
   pub loads : Within (λ a b. DidWord load_flushed a b flushed) v w
   pub unflushed : flushed < lsn_of page
 
--- The ring keeps a dirty frame f: there is no ring, or the frame didn't come from its current place; or the ring isn't for bulk reads; or the log needn't be flushed for the frame's page, as that was copied in this call and the flushed position loaded
+-- The ring keeps a dirty frame f: there is no ring, or the frame didn't come from its current
+-- place; or the ring isn't for bulk reads; or the log needn't be flushed for the frame's page, as
+-- that was copied in this call and the flushed position loaded
 pub data IsNotRejected (f : ℕ) (from_ring : Bool) (ring : Option RingState) (v w : View) : Type 0 where
   no_ring : ring ≡ None → IsNotRejected f from_ring ring v w
   elsewhere : from_ring ≡ false → IsNotRejected f from_ring ring v w
@@ -190,7 +198,8 @@ module _ {L G : Type 0} (contents : L → Option Pages) (t : FrameTable L G) whe
   FlushAnswer q tag f v w (Ok flush.Clean) = FindsClean f v w
   FlushAnswer q tag f v w (Err why) = CopiesAnd (λ page a b. WriteAnswer q tag page a b (Err why)) f v w
 
-  -- A dirty victim was flushed, with this answer: its content lock was shared, the ring didn't reject the frame, and no device was called before the flush
+  -- A dirty victim was flushed, with this answer: its content lock was shared, the ring didn't
+  -- reject the frame, and no device was called before the flush
   pub record FlushesVictim (q : ℕ) (tag : Tag) (f : ℕ) (from_ring : Bool) (ring : Option RingState)
       (v w : View) (answer : Result FlushedPage FrameFlushError) : Type 0 where
     pub shared : View

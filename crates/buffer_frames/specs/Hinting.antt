@@ -21,7 +21,8 @@ refused_hint (try.Locked word) = Locked word
 refused_hint (try.Untagged word) = Untagged word
 refused_hint (try.Changed was now) = Changed was now
 
--- The frame f was pinned, for a ring or not, without a look at the map, and then this tag was loaded there
+-- The frame f was pinned, for a ring or not, without a look at the map, and then this tag was
+-- loaded there
 pub record PinsHinted (tag : Tag) (f : ℕ) (ring : Bool) (v w : View) : Type 0 where
   pub looked : View
   pub was : ℕ

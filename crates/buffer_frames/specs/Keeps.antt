@@ -20,8 +20,8 @@ module _ {L G : Type 0} where
     pub rests : LinksRest held s.me.0
     pub latches : HasNoLatch s.me.0
 
-  -- The seat is the same one, and its view but for what `but` leaves out of it; its content locks are
-  -- as they were, and what only rises hasn't fallen
+  -- The seat is the same one, and its view but for what `but` leaves out of it; its content locks
+  -- are as they were, and what only rises hasn't fallen
   pub record SameBut (but : View → View) (s s' : Seat (Value L G) View) : Type 0 where
     pub seat : SameSeat s s'
     pub same : but s'.me.0 ≡ but s.me.0

@@ -57,7 +57,8 @@ pub record NotesUnsound (f : ℕ) (v : View) : Type 0 where
   pub read : (link v f).read ≡ Some page
   pub unsound : is_sound_page page ≡ false
 
--- A read of the tag's block into the frame f ended with an error, for this reason, as the last step. The state word that it stored has BM_TAG_VALID and BM_IO_ERROR, and not BM_VALID
+-- A read of the tag's block into the frame f ended with an error, for this reason, as the last
+-- step. The state word that it stored has BM_TAG_VALID and BM_IO_ERROR, and not BM_VALID
 pub record EndsUnread (why : LoadError) (tag : Tag) (f : ℕ) (v w : View) : Type 0 where
   pub begun : View
   pub stored : StateWord

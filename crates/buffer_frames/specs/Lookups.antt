@@ -41,7 +41,8 @@ pub record UnderPartition (tag : Tag) (Work : View → View → Type 0) (v w : V
 
 -- In a table of n frames, by a backend whose callers have these pins
 module _ (n : ℕ) (tag : Tag) (held : Tokens) (ring : Bool) where
-  -- A block is looked up: the hint gives its frame, without a latch; or the hint doesn't and the map does, and then the hint is stored; or neither gives one
+  -- A block is looked up: the hint gives its frame, without a latch; or the hint doesn't and the
+  -- map does, and then the hint is stored; or neither gives one
   pub data LooksUp (v w : View) : HintSeen → Option ℕ → Type 0 where
     by_hint : {f : ℕ} → HasByHint n tag f ring v w → LooksUp v w (Had f) (Some f)
     by_map : {seen : HintSeen} {f : ℕ} (hinted mapped : View)

@@ -6,7 +6,8 @@ use Rattle.buffer_frames.specs.Rests.{kept_by_calls}
 use Rattle.access_rings.specs.declared.ring.RingKind.{RingKind}
 use Rattle.access_rings.specs.RingState.{RingState}
 
--- What a call that works at frames and maps, and calls no device, leaves of a view: all but what it has of them, and what it lists and counts of loads, changed words and steps
+-- What a call that works at frames and maps, and calls no device, leaves of a view: all but what it
+-- has of them, and what it lists and counts of loads, changed words and steps
 abbrev pub outside_of : View → View
 outside_of v = record v { links = []; partitions = []; steps = 0; loads = []; changes = []; unentered = []; residents = [] }
 
@@ -18,8 +19,8 @@ chosen_of v = record (outside_of v) { ticks = 0 }
 abbrev pub searched_of : View → View
 searched_of v = record (outside_of v) { turns = 0; hints = [] }
 
--- What a call leaves that may take a frame's tag away, and one that may take latches and store hints
--- besides: what they leave without that, but for the count of tags taken
+-- What a call leaves that may take a frame's tag away, and one that may take latches and store
+-- hints besides: what they leave without that, but for the count of tags taken
 abbrev pub emptying_of : View → View
 emptying_of v = record (outside_of v) { cleared = 0 }
 

@@ -20,7 +20,9 @@ use Rattle.frame_table.specs.Seats.{OnlyRises, SameMarks, base_of}
 use Rattle.frame_table.specs.WordSteps.{DidWord}
 use Rattle.content_locks.specs.Locks.{Copies, LocksContent}
 
--- What a read keeps of a view: all but what it has of frames and partitions, what it lists and counts of steps, loads and changed words, its marks, what it read and put, its front, and the log ends that it has seen
+-- What a read keeps of a view: all but what it has of frames and partitions, what it lists and
+-- counts of steps, loads and changed words, its marks, what it read and put, its front, and the log
+-- ends that it has seen
 abbrev pub kept_by_reads : View → View
 kept_by_reads v = record v {
   links = [];
@@ -46,7 +48,8 @@ pub record OnlyReads (v w : View) : Type 0 where
   pub marks : SameMarks v w
   pub rises : OnlyRises v w
 
--- The page of the frame f was copied, and after that the log's end was loaded as the place of the read. The content lock was this one at the beginning, after the copy, and at the end
+-- The page of the frame f was copied, and after that the log's end was loaded as the place of the
+-- read. The content lock was this one at the beginning, after the copy, and at the end
 pub record ReadsUnder (lock : Content) (f : ℕ) (page : Page) (place : ℕ) (v w : View) : Type 0 where
   pub copied : View
   pub copies : Copies f page v copied

@@ -23,7 +23,8 @@ use Rattle.frame_table.specs.Seats.{OnlyRises}
 use Rattle.buffer_frames.specs.Rests.{kept_by_calls}
 use Rattle.buffer_frames.specs.Working.{met_log}
 
--- What a put keeps of a view: what calls keep, but its mark, what it read and put, its front, and the records that it failed to append
+-- What a put keeps of a view: what calls keep, but its mark, what it read and put, its front, and
+-- the records that it failed to append
 abbrev pub kept_by_puts : View → View
 kept_by_puts v = record (kept_by_calls v) { calls = []; front = 0; dirtied_or_synced = false; torn = [] }
 
@@ -34,7 +35,8 @@ pub record PutsAt (f : ℕ) (v w : View) : Type 0 where
   pub partitions : w.partitions ≡ v.partitions
   pub others : (g : ℕ) → g ≢ f → link w g ≡ link v g
 
--- The frame's page went out, was overwritten by the image of the view's entry, which is this page, and came back
+-- The frame's page went out, was overwritten by the image of the view's entry, which is this page,
+-- and came back
 pub record AppliesImage (f : ℕ) (page : Page) (v w : View) : Type 0 where
   pub out : View
   pub taken : ℕ
@@ -52,7 +54,8 @@ pub record PutsPage (relations : List RelEntry) (f : ℕ) (tag : Tag) (page : Pa
   pub inserts : Inserts relations f tag page lsn marked entered
   pub applies : AppliesImage f page entered w
 
--- The page was put, with its position, which is the view's front from then on: one write more is among its calls
+-- The page was put, with its position, which is the view's front from then on: one write more is
+-- among its calls
 pub record DidPut (relations : List RelEntry) (f : ℕ) (tag : Tag) (page : Page) (lsn : ℕ) (v w : View) : Type 0 where
   pub work : PutsPage relations f tag (with_lsn lsn page) lsn v w
   pub calls : w.calls
@@ -66,7 +69,8 @@ RefusalShows (LogFull end) w = (last_position < end + record_size) × (end ≤ w
 RefusalShows (LogDown at) w = (w.saw_down ≡ true) × (at ≤ w.end_seen)
 RefusalShows LogFault w = w.saw_down ≡ true
 
--- The frame was marked dirty, and then the page was not inserted, for this reason. What was read and put is as it was, and so is what the frame has but for the mark
+-- The frame was marked dirty, and then the page was not inserted, for this reason. What was read
+-- and put is as it was, and so is what the frame has but for the mark
 pub record PutRefused (relations : List RelEntry) (f : ℕ) (tag : Tag) (page : Page) (why : InsertError) (v w : View) : Type 0 where
   pub marked : View
   pub marks : Tried (pages kinds.mark_dirty) f v marked true

@@ -38,9 +38,11 @@ pub record MadeThen (last : List DeviceCall) (v w : View) : Type 0 where
   pub calls : w.device_calls ≡ v.device_calls ++ (before ++ last)
   pub each : All IsFlushCall before
 
--- In a table of n frames, by a backend whose callers have these pins, and which saw this of the block's hint
+-- In a table of n frames, by a backend whose callers have these pins, and which saw this of the
+-- block's hint
 module _ (n : ℕ) (tag : Tag) (held : Tokens) (ring : Bool) (seen : HintSeen) where
-  -- The hint gave no frame for the block, and then the map gave none. All else was done after that, and these were its last calls of devices, the others those of flushes
+  -- The hint gave no frame for the block, and then the map gave none. All else was done after that,
+  -- and these were its last calls of devices, the others those of flushes
   pub record Misses (last : List DeviceCall) (v w : View) : Type 0 where
     pub hinted : View
     pub hint : SeesHint n tag held ring v hinted seen
@@ -53,7 +55,9 @@ module _ {L G : Type 0} (contents : L → Option Pages) (t : FrameTable L G) whe
   -- By a backend whose callers have these pins, and which saw this of the block's hint; the
   -- choice's state was c, and is d
   module _ (tag : Tag) (held : Tokens) (ring : Bool) (seen : HintSeen) (c d : ChoiceState) where
-    -- At first the hint or the map gave the frame f, which was pinned then, for a ring or not; no work was done at another one, the hand was not moved, these were the calls of devices, and no victim was chosen. Or neither gave one, and after that the block was brought into the frame
+    -- At first the hint or the map gave the frame f, which was pinned then, for a ring or not; no
+    -- work was done at another one, the hand was not moved, these were the calls of devices, and no
+    -- victim was chosen. Or neither gave one, and after that the block was brought into the frame
     pub data Locates (f : ℕ) (last : List DeviceCall) (v w : View) : Type 0 where
       looked_up : (pinned : View) → LooksUp (frames_of t) tag held ring v pinned seen (Some f)
           → WorksAt f pinned w → Made last v w → w.ticks ≡ v.ticks → d ≡ c → Locates f last v w
@@ -70,7 +74,8 @@ module _ {L G : Type 0} (contents : L → Option Pages) (t : FrameTable L G) whe
     PinAnswer v w (Ok pin) = Locates pin.frame [] v w
     PinAnswer v w (Err why) = GetsNoVictim why v w
 
-    -- The frame f was located for the block, whose page didn't come, for this reason, with these calls
+    -- The frame f was located for the block, whose page didn't come, for this reason, with these
+    -- calls
     abbrev pub LocatesUnread : LoadError → List DeviceCall → View → View → ℕ → Type 0
     LocatesUnread why last v w f = Locates f last v w × FailsRead why tag f v w
 

@@ -14,7 +14,10 @@ use Rattle.frame_table.specs.declared.table.FrameTable.{FrameTable}
 use Rattle.frame_table.specs.Seats.{Fits}
 use Rattle.buffer_frames.specs.Tokens.{HeldFrame, Tokens, held_at}
 
--- What calls of a backend keep of its view: all but what it has of frames, latches, lanes and the log, what it lists and counts of loads, changes and steps, the positions of the log that it has seen, its calls of devices, the faults that it met, whether it saw the log down, and what it last wrote. What it read and put, its front, its checkpoint and its mark are kept
+-- What calls of a backend keep of its view: all but what it has of frames, latches, lanes and the
+-- log, what it lists and counts of loads, changes and steps, the positions of the log that it has
+-- seen, its calls of devices, the faults that it met, whether it saw the log down, and what it last
+-- wrote. What it read and put, its front, its checkpoint and its mark are kept
 abbrev pub kept_by_calls : View → View
 kept_by_calls v = record v {
   links = [];

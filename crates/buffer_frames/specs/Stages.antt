@@ -55,7 +55,8 @@ pub record IsReading (tag : ℕ) (l : Link) : Type 0 where
   pub assigned : l.pending ≡ false
   pub no_wait : l.waits ≡ None
 
--- The content lock of a frame that is pinned for the tag is shared, the page is home, and there is this right
+-- The content lock of a frame that is pinned for the tag is shared, the page is home, and there is
+-- this right
 pub record IsSharing (io : Io) (tag : ℕ) (l : Link) : Type 0 where
   pub pinned : l.role ≢ Absent
   pub remembered : l.tag ≡ Some tag

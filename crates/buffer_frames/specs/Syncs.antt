@@ -37,12 +37,15 @@ use Rattle.buffer_frames.specs.declared.syncing.SyncOnly.TheVariants.{NotRecentl
 use Rattle.buffer_frames.specs.declared.syncing.Synced.{Synced}
 use Rattle.buffer_frames.specs.declared.syncing.Synced.TheVariants.{Skipped, Clean, Written}
 
--- whether a frame with this state word is passed over: the background writer writes a dirty frame that no backend pins and whose usage count is 0, and a checkpoint one that has BM_CHECKPOINT_NEEDED
+-- whether a frame with this state word is passed over: the background writer writes a dirty frame
+-- that no backend pins and whose usage count is 0, and a checkpoint one that has
+-- BM_CHECKPOINT_NEEDED
 abbrev pub passes_over : SyncOnly → StateWord → Bool
 passes_over NotRecentlyUsed w = not w.valid || not w.dirty || nat_lt 0 w.pins || nat_lt 0 w.usage
 passes_over Needed w = not w.checkpoint_needed
 
--- The header of the frame f was locked and then the state word loaded, which was `word`, while the view pinned what it pinned at first
+-- The header of the frame f was locked and then the state word loaded, which was `word`, while the
+-- view pinned what it pinned at first
 pub record LooksUnderHeader (f word : ℕ) (v w : View) : Type 0 where
   pub under : View
   pub was : ℕ
@@ -84,7 +87,9 @@ synced_of (Ok flush.Written) = Ok Written
 synced_of (Ok flush.Clean) = Ok Clean
 synced_of (Err why) = Err why
 
--- The frame f was pinned as its header was unlocked, whose word was `word`, with no more usage. Last of all that pin was given up, and a backend woken that waits for its own to be the only one; or the view pinned the frame before
+-- The frame f was pinned as its header was unlocked, whose word was `word`, with no more usage.
+-- Last of all that pin was given up, and a backend woken that waits for its own to be the only one;
+-- or the view pinned the frame before
 pub data PinsUnder (f word : ℕ) (v w : View) : Type 0 where
   pinned_anew : (x u y : View) → OnlyRises v x → Did (pins pin_victim) f x u word → OnlyRises u y
       → Woken f y w → PinsUnder f word v w
@@ -107,7 +112,8 @@ ComesAtOnce only w (Some Clean) = (passes_over only w ≡ false) × (w.dirty ≡
 ComesAtOnce only w (Some Written) = ⊥
 ComesAtOnce only w None = (passes_over only w ≡ false) × (w.dirty ≡ true)
 
--- A frame that is pinned is left pinned, with nothing done there, and what the pin knows it still knows
+-- A frame that is pinned is left pinned, with nothing done there, and what the pin knows it still
+-- knows
 pub record LeavesPinned (l m : Link) : Type 0 where
   pub calm : HasAtMostLock m
   pub unlocked : m.content ≡ Unlocked
@@ -122,13 +128,15 @@ EndsSync f v w (Ok Clean) = Unit {0}
 EndsSync f v w (Ok Skipped) = Unit {0}
 EndsSync f v w (Err why) = EndedInError f v w
 
--- The view has seen that a frame has a tag: its pin saw BM_VALID, or it holds the header with BM_TAG_VALID
+-- The view has seen that a frame has a tag: its pin saw BM_VALID, or it holds the header with
+-- BM_TAG_VALID
 pub data ShowsTag (l : Link) : Type 0 where
   by_pin : l.role ≢ Absent → l.seen_valid ≡ true → ShowsTag l
   by_header : HoldsWord (HasFlag true) l → ShowsTag l
 
 module _ {L G : Type 0} (contents : L → Option Pages) (t : FrameTable L G) where
-  -- The page of the frame f, which was pinned for a block of the relations, went to the block's lane, or this is why not
+  -- The page of the frame f, which was pinned for a block of the relations, went to the block's
+  -- lane, or this is why not
   pub record WritesBlock (f : ℕ) (v w : View) (r : Result FlushedPage FrameFlushError) : Type 0 where
     pub tag : Tag
     pub loads : Within (LoadsTag f tag) v w
@@ -152,7 +160,8 @@ module _ {L G : Type 0} (contents : L → Option Pages) (t : FrameTable L G) whe
   SyncAnswer only word f v looked w (Ok Written) = (passes_over only (fields word) ≡ false) × PinsUnder f word looked w × WritesBlock f v w (Ok flush.Written)
   SyncAnswer only word f v looked w (Err why) = (passes_over only (fields word) ≡ false) × PinsUnder f word looked w × WritesBlock f v w (Err why)
 
-  -- The state word of the frame f was looked at under its header, and by that the frame was passed over or written (`SyncOneBuffer`)
+  -- The state word of the frame f was looked at under its header, and by that the frame was passed
+  -- over or written (`SyncOneBuffer`)
   pub record SyncsFrame (only : SyncOnly) (f : ℕ) (v w : View) (r : Result Synced FrameFlushError) : Type 0 where
     pub word : ℕ
     pub looked : View
@@ -176,7 +185,8 @@ module _ {L G : Type 0} (contents : L → Option Pages) (t : FrameTable L G) whe
     pub notes : KeepsNotes (link v f) (link w f)
     pub lock : (link w f).content ≡ (link v f).content
     pub syncs : SyncsFrame only f v w r
-    -- the view's checkpoint has not to write a frame that was passed over for the lack of BM_CHECKPOINT_NEEDED
+    -- the view's checkpoint has not to write a frame that was passed over for the lack of
+    -- BM_CHECKPOINT_NEEDED
     pub not_left_to_write : r ≡ Ok Skipped → only ≡ Needed → (link w f).left_to_write ≡ false
     pub met : w.met ≡ met_flushing r v.met
     pub ended : EndsSync f v w r
@@ -194,11 +204,13 @@ pub record WritesPages (n : ℕ) (v w : View) : Type 0 where
   pub each : All IsFlushCall made
   pub counted : pages_written made ≡ n
 
--- what the sync of a lane makes of the view, beside what it has of latches: the call, the fault if it failed, and the mark
+-- what the sync of a lane makes of the view, beside what it has of latches: the call, the fault if
+-- it failed, and the mark
 abbrev pub synced_work : ℕ → Bool → View → View
 synced_work lane done v = record (work_of v) { device_calls = v.device_calls ++ LaneSync lane done ∷ []; met = met_lane_write done v.met; dirtied_or_synced = true }
 
--- The last step to the view left the latch of this lane, one of so many. Nothing else that it has of latches was changed, as how far each lane is swept
+-- The last step to the view left the latch of this lane, one of so many. Nothing else that it has
+-- of latches was changed, as how far each lane is swept
 pub record LeavesLane (lanes lane : ℕ) (w : View) : Type 0 where
   pub before : View
   pub did : DidTurn false (Lane lane) before w

@@ -4,7 +4,8 @@ use Rattle.block_tag.specs.declared.tag.Tag.{Tag}
 use Rattle.block_tag.specs.Names.{names_block, packed_tag}
 use Rattle.buffer_frames.specs.declared.pins.HeldPin.{HeldPin}
 
--- A frame that is pinned for callers: the tag of its block, and how many tokens there are of the pin
+-- A frame that is pinned for callers: the tag of its block, and how many tokens there are of the
+-- pin
 pub record HeldFrame : Type 0 where
   pub frame : ℕ
   pub tag : ℕ

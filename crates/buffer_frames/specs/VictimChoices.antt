@@ -28,7 +28,8 @@ use Rattle.buffer_frames.specs.Flushing.{EndedInError, VictimAnswer}
 use Rattle.buffer_frames.specs.Outside.{outside_of, searched_of}
 use Rattle.buffer_frames.specs.Working.{Made, Within, WorksAt}
 
--- What a choice of a victim reads and changes beside the view: the pass of the free list, the ring, if there is one, and the census
+-- What a choice of a victim reads and changes beside the view: the pass of the free list, the ring,
+-- if there is one, and the census
 pub record ChoiceState : Type 0 where
   pub queue : QueueState
   pub ring : Option RingState
@@ -37,7 +38,8 @@ pub record ChoiceState : Type 0 where
 abbrev pub choice_state : QueueState → Option RingState → CensusList → ChoiceState
 choice_state queue ring census = record { queue = queue; ring = ring; census = census }
 
--- The frame f of n was chosen, from the ring's current place or not, and pinned. The ring went on by a place and keeps it there, and the census is empty
+-- The frame f of n was chosen, from the ring's current place or not, and pinned. The ring went on
+-- by a place and keeps it there, and the census is empty
 pub record ChoosesVictim (n f : ℕ) (from_ring : Bool)
     (v : View) (c : ChoiceState) (w : View) (d : ChoiceState) : Type 0 where
   pub held : LockedFrame
@@ -50,7 +52,8 @@ pub record ChoosesVictim (n f : ℕ) (from_ring : Bool)
   pub census : d.census ≡ new_census n
   pub calls : Made [] v w
 
--- Under its header a victim was seen to be pinned by another backend too, or to have such a state word
+-- Under its header a victim was seen to be pinned by another backend too, or to have such a state
+-- word
 pub record FindsInUse (Also : StateWord → Type 0) (f : ℕ) (v w : View) : Type 0 where
   pub word : ℕ
   pub locks : TakesHeader f v w word
@@ -62,7 +65,8 @@ IsDirtied w = w.dirty ≡ true
 abbrev pub IsAssigned : StateWord → Type 0
 IsAssigned w = w.tag_valid ≡ true
 
--- After such work the victim was unpinned, which wakes the backend that waits for its own pin to be the only one. The view has what it had but for frames and partitions' latches
+-- After such work the victim was unpinned, which wakes the backend that waits for its own pin to be
+-- the only one. The view has what it had but for frames and partitions' latches
 pub record UnpinsVictim (Work : View → View → Type 0) (f : ℕ) (v w : View) : Type 0 where
   pub found : View
   pub given : View
@@ -71,7 +75,8 @@ pub record UnpinsVictim (Work : View → View → Type 0) (f : ℕ) (v w : View)
   pub until : OnlyRises given w
   pub same : searched_of w ≡ searched_of v
 
--- BM_TAG_VALID and what goes with it was cleared under the header of f, once its tag was erased (`InvalidateVictimBuffer`)
+-- BM_TAG_VALID and what goes with it was cleared under the header of f, once its tag was erased
+-- (`InvalidateVictimBuffer`)
 abbrev pub ClearsTag : ℕ → View → View → Type 0
 ClearsTag f v w = (word : ℕ) × Did (pins kinds.clear) f v w word
 
@@ -94,7 +99,8 @@ module _ {L G : Type 0} (contents : L → Option Pages) (t : FrameTable L G) whe
     -- no work was done at another frame meanwhile
     pub works : WorksAt f loaded w
 
-  -- A victim was chosen, the frame f, and is without a tag: it had none; or its page was clean or was written, and then its tag was erased
+  -- A victim was chosen, the frame f, and is without a tag: it had none; or its page was clean or
+  -- was written, and then its tag was erased
   pub data InvalidatesVictim (f : ℕ) (v : View) (c : ChoiceState) (w : View) (d : ChoiceState) : Type 0 where
     untagged : {u : View} (from_ring : Bool) → ChoosesVictim (frames_of t) f from_ring v c u d
         → Did (pins kinds.load_tag) f u w (tag_word None) → InvalidatesVictim f v c w d
@@ -102,7 +108,8 @@ module _ {L G : Type 0} (contents : L → Option Pages) (t : FrameTable L G) whe
         → searched_of w ≡ record (searched_of u) { cleared = u.cleared + 1 }
         → InvalidatesVictim f v c w d
 
-  -- A victim was chosen, the frame f, and was given up: its page was spared; or it was in use as it was to lose its tag, or to get the block's
+  -- A victim was chosen, the frame f, and was given up: its page was spared; or it was in use as it
+  -- was to lose its tag, or to get the block's
   pub data GivesVictimUp (f : ℕ) (v : View) (c : ChoiceState) (w : View) (d : ChoiceState) : Type 0 where
     spared : {u : View} → ChoosesAndFlushes f v c u d (Ok Spared) → Woken f u w → GivesVictimUp f v c w d
     in_use : {u : View} → ChoosesAndFlushes f v c u d (Ok Clean) → UnpinsVictim (FindsInUse IsDirtied f) f u w
@@ -110,13 +117,15 @@ module _ {L G : Type 0} (contents : L → Option Pages) (t : FrameTable L G) whe
     taken : {u : View} → InvalidatesVictim f v c u d → UnpinsVictim (FindsInUse IsAssigned f) f u w
         → GivesVictimUp f v c w d
 
-  -- the view v and the choice's state c became these as victims were chosen, each of which was given up
+  -- the view v and the choice's state c became these as victims were chosen, each of which was
+  -- given up
   pub data GivesVictimsUp (v : View) (c : ChoiceState) : View → ChoiceState → Type 0 where
     none_tried : GivesVictimsUp v c v c
     one_more : {u w : View} {b d : ChoiceState} (f : ℕ) → GivesVictimsUp v c u b → GivesVictimUp f u b w d
         → GivesVictimsUp v c w d
 
-  -- After victims that were given up no frame was chosen: a census found each of them pinned, and has a word of each that shows it. The view pinned just what it pinned at `entry`
+  -- After victims that were given up no frame was chosen: a census found each of them pinned, and
+  -- has a word of each that shows it. The view pinned just what it pinned at `entry`
   pub record FindsAllPinned (entry v : View) (c : ChoiceState) (w : View) (d : ChoiceState) : Type 0 where
     pub start : View
     pub by : ChoiceState
@@ -130,7 +139,8 @@ module _ {L G : Type 0} (contents : L → Option Pages) (t : FrameTable L G) whe
     pub ring : d.ring ≡ ring_gone_on by.ring
     pub calls : Made [] start w
 
-  -- After victims that were given up the page of one was not written, for this reason, and it was given up
+  -- After victims that were given up the page of one was not written, for this reason, and it was
+  -- given up
   pub record LeavesDirty (why : FrameFlushError) (entry v : View) (c : ChoiceState) (w : View)
       (d : ChoiceState) : Type 0 where
     pub start : View

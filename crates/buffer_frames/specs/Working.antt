@@ -14,7 +14,8 @@ use Rattle.frame_table.specs.Seats.{ListsOnly, OnlyRises}
 use Rattle.content_locks.specs.Io.{EndsIo}
 use Rattle.buffer_frames.specs.Rests.{kept_by_calls}
 
--- Work at the frame f, and at devices for its page: the view has at other frames, and at the partitions, what it had
+-- Work at the frame f, and at devices for its page: the view has at other frames, and at the
+-- partitions, what it had
 pub record WorksAt (f : ℕ) (v w : View) : Type 0 where
   pub kept : kept_by_calls w ≡ kept_by_calls v
   pub advances : OnlyRises v w
@@ -23,7 +24,8 @@ pub record WorksAt (f : ℕ) (v w : View) : Type 0 where
   pub partitions : w.partitions ≡ v.partitions
   pub others : (g : ℕ) → g ≢ f → link w g ≡ link v g
 
--- What the checkpoint of the view has noted of a frame is kept: one that it has visited stays visited, and none becomes one that it has to write
+-- What the checkpoint of the view has noted of a frame is kept: one that it has visited stays
+-- visited, and none becomes one that it has to write
 pub record KeepsNotes (l m : Link) : Type 0 where
   pub visited : l.visited ≡ true → m.visited ≡ true
   pub left_to_write : l.left_to_write ≡ false → m.left_to_write ≡ false
@@ -36,7 +38,8 @@ pub record Within (Work : View → View → Type 0) (v w : View) : Type 0 where
   pub work : Work before after
   pub until : OnlyRises after w
 
--- A read or a write of the frame f, by the right to it, ended so, and the view notes the state word that this stored (`TerminateBufferIO`)
+-- A read or a write of the frame f, by the right to it, ended so, and the view notes the state word
+-- that this stored (`TerminateBufferIO`)
 pub record EndsWork (right : Io) (end : IoEnd) (f : ℕ) (stored : StateWord) (v w : View) : Type 0 where
   pub had : (link v f).io ≡ right
   pub ends : EndsIo end f v w

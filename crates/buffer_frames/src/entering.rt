@@ -94,7 +94,8 @@ pub(crate) fn give_up<L: BlockLane, G: LogDevice, R: Wait>(
     unpin_and_wake(table, rt, seat, victim);
 }
 
-/// Gives a victim up that another backend's frame stands for, and pins that frame, which a search of the map just gave. The victim goes to the free list, unless that is full.
+/// Gives a victim up that another backend's frame stands for, and pins that frame, which a search
+/// of the map just gave. The victim goes to the free list, unless that is full.
 fn pin_other<L: BlockLane, G: LogDevice, R: Wait>(
     table: &FrameTable<L, G>,
     rt: &R,

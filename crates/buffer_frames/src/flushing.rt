@@ -61,7 +61,8 @@ pub enum VictimPage {
     Spared,
 }
 
-/// Clears BM_JUST_DIRTIED under the header, so that a change of the page from now on shows when the write ends.
+/// Clears BM_JUST_DIRTIED under the header, so that a change of the page from now on shows when the
+/// write ends.
 fn clear_just<L: BlockLane, G: LogDevice, R: Wait>(
     table: &FrameTable<L, G>,
     rt: &R,
@@ -89,7 +90,8 @@ fn clear_just<L: BlockLane, G: LogDevice, R: Wait>(
     table.clear_just_dirtied(seat, frame, word);
 }
 
-/// Writes the page that was copied to its lane, once the log is flushed up to the page's position. Whether the lane took it.
+/// Writes the page that was copied to its lane, once the log is flushed up to the page's position.
+/// Whether the lane took it.
 fn write_lane<L: BlockLane, G: LogDevice, R: Wait>(
     table: &FrameTable<L, G>,
     rt: &R,
@@ -245,7 +247,8 @@ fn flush_shared<L: BlockLane, G: LogDevice, R: Wait>(
     }
 }
 
-/// Writes the page of a frame that the backend pins if it is dirty, after flushing the log up to the page's position (`FlushBuffer`).
+/// Writes the page of a frame that the backend pins if it is dirty, after flushing the log up to
+/// the page's position (`FlushBuffer`).
 pub fn flush_pinned<L: BlockLane, G: LogDevice, R: Wait>(
     table: &FrameTable<L, G>,
     rt: &R,
@@ -311,7 +314,8 @@ pub fn flush_frame<L: BlockLane, G: LogDevice, R: Wait>(
     flush_pinned(table, rt, seat, held, frame, tag, page)
 }
 
-/// Whether the ring gives a dirty victim up, so that it needn't be written: it came from the current place of a ring for bulk reads, and the log would have to be flushed for it.
+/// Whether the ring gives a dirty victim up, so that it needn't be written: it came from the
+/// current place of a ring for bulk reads, and the log would have to be flushed for it.
 fn is_rejected<L: BlockLane, G: LogDevice, R: Wait>(
     table: &FrameTable<L, G>,
     rt: &R,
@@ -350,9 +354,9 @@ fn is_rejected<L: BlockLane, G: LogDevice, R: Wait>(
     ring.reject(frame)
 }
 
-/// Writes a dirty victim, unless its content lock is refused or the ring gives it up. `from_ring` says that it stands at the ring's current place.
-/// Its page is copied before the ring is asked, since the ring decides by the page's log position,
-/// and copied again when it is flushed.
+/// Writes a dirty victim, unless its content lock is refused or the ring gives it up. `from_ring`
+/// says that it stands at the ring's current place. Its page is copied before the ring is asked,
+/// since the ring decides by the page's log position, and copied again when it is flushed.
 pub fn flush_victim<L: BlockLane, G: LogDevice, R: Wait>(
     table: &FrameTable<L, G>,
     rt: &R,

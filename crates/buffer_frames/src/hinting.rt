@@ -49,7 +49,8 @@ pub enum HintSeen {
 /// What a backend keeps of its look-ups.
 #[derive(Clone, Copy, PartialEq, Eq, Debug)]
 pub struct Sought {
-    /// How many latches of partitions it has taken. The count stands still at its type's last value.
+    /// How many latches of partitions it has taken. The count stands still at its type's last
+    /// value.
     pub turns: u64,
     /// What the last look-up saw of the block's hint.
     pub hint: HintSeen,
@@ -122,7 +123,8 @@ fn try_hinted<L: BlockLane, G: LogDevice, R: Wait>(
     Err(HintSeen::Other { tag: other })
 }
 
-/// Pins the frame that the hint of a block names, without a latch, if it has the block. Callers have no pin of the block.
+/// Pins the frame that the hint of a block names, without a latch, if it has the block. Callers
+/// have no pin of the block.
 pub(crate) fn try_hint<L: BlockLane, G: LogDevice, R: Wait>(
     table: &FrameTable<L, G>,
     rt: &R,

@@ -3,11 +3,11 @@
 //! `checkpointer`.
 //!
 //! [`read_block`] looks a block up and, if it isn't in the pool, evicts a victim and reads it in.
-//! [`read_copy`] and [`share_to_read`] copy the page out, [`put_locked`] changes it through the log,
-//! and [`flush_frame`] and [`flush_pinned`] write it to its lane.
+//! [`read_copy`] and [`share_to_read`] copy the page out, [`put_locked`] changes it through the
+//! log, and [`flush_frame`] and [`flush_pinned`] write it to its lane.
 //!
-//! [`HeldPins`] are the pins that a backend has handed out (`PrivateRefCount`): one pin of the frame
-//! table for each frame, and the number of tokens that its callers have, with room for
+//! [`HeldPins`] are the pins that a backend has handed out (`PrivateRefCount`): one pin of the
+//! frame table for each frame, and the number of tokens that its callers have, with room for
 //! [`MOST_TOKENS`]. Only the first token of a block pins its frame, and only the last one to go
 //! gives the pin up.
 //!

@@ -160,7 +160,8 @@ fn read_in<L: BlockLane, G: LogDevice, R: Wait>(
         return Err(LoadError::ReadFault);
     }
     if !page.is_sound() {
-        // While the page that the lane gave is noted, a load shows that the block had it from the start.
+        // While the page that the lane gave is noted, a load shows that the block had it from the
+        // start.
         table.look(seat, frame);
         end_io(table, rt, seat, right, IoEnd::Bad);
         return Err(LoadError::Unsound);
@@ -171,7 +172,8 @@ fn read_in<L: BlockLane, G: LogDevice, R: Wait>(
     Ok(())
 }
 
-/// Reads a block into the frame that is pinned for it, unless the page is there already (`ReadBuffer_common`).
+/// Reads a block into the frame that is pinned for it, unless the page is there already
+/// (`ReadBuffer_common`).
 pub fn load<L: BlockLane, G: LogDevice, R: Wait>(
     table: &FrameTable<L, G>,
     rt: &R,

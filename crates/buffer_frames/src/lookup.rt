@@ -31,7 +31,8 @@ use pin_core::View;
 use segment_store::BlockLane;
 use std::sync::Wait;
 
-/// Pins the frame that a search of the map just gave for a block that callers have no pin of, under its partition's latch.
+/// Pins the frame that a search of the map just gave for a block that callers have no pin of, under
+/// its partition's latch.
 pub(crate) fn pin_found<L: BlockLane, G: LogDevice, R: Wait>(
     table: &FrameTable<L, G>,
     rt: &R,
@@ -57,7 +58,8 @@ pub(crate) fn pin_found<L: BlockLane, G: LogDevice, R: Wait>(
     table.pin(rt, seat, *tag, frame, ring)
 }
 
-/// Searches the map for a block that callers have no pin of, and pins the frame that it gives, under its partition's latch.
+/// Searches the map for a block that callers have no pin of, and pins the frame that it gives,
+/// under its partition's latch.
 pub(crate) fn pin_mapped<L: BlockLane, G: LogDevice, R: Wait>(
     table: &FrameTable<L, G>,
     rt: &R,
@@ -105,7 +107,8 @@ pub(crate) fn take_counted<L: BlockLane, G: LogDevice, R: Wait>(
     *turns = turns.saturating_add(1);
 }
 
-/// Searches the map under its partition's latch for a block that callers have no pin of, and pins the frame that it gives.
+/// Searches the map under its partition's latch for a block that callers have no pin of, and pins
+/// the frame that it gives.
 fn search<L: BlockLane, G: LogDevice, R: Wait>(
     table: &FrameTable<L, G>,
     rt: &R,
@@ -138,7 +141,8 @@ fn search<L: BlockLane, G: LogDevice, R: Wait>(
     pinned
 }
 
-/// Looks up a block that callers have no pin of, and pins the frame that has it (`BufferAlloc`): by its hint, without a latch, or else by the map. It answers what was seen of the hint, too.
+/// Looks up a block that callers have no pin of, and pins the frame that has it (`BufferAlloc`): by
+/// its hint, without a latch, or else by the map. It answers what was seen of the hint, too.
 pub(crate) fn look_up<L: BlockLane, G: LogDevice, R: Wait>(
     table: &FrameTable<L, G>,
     rt: &R,

@@ -18,8 +18,9 @@ use pin_core::View;
 use segment_store::BlockLane;
 use std::sync::Wait;
 
-/// Copies the page of a frame under the content lock that the backend has, and loads the place of the read.
-/// The place comes under the lock of the copy, so no write of the page can come between the two.
+/// Copies the page of a frame under the content lock that the backend has, and loads the place of
+/// the read. The place comes under the lock of the copy, so no write of the page can come between
+/// the two.
 pub fn read_copy<L: BlockLane, G: LogDevice, R: Wait>(
     table: &FrameTable<L, G>,
     rt: &R,

@@ -18,7 +18,8 @@ pub struct HeldPin {
     pub(crate) tokens: u32,
 }
 
-/// The pins that a backend has handed out, a frame at most once. Contracts see the frames, each with its tag and the number of tokens.
+/// The pins that a backend has handed out, a frame at most once. Contracts see the frames, each
+/// with its tag and the number of tokens.
 pub struct HeldPins {
     pins: Vec<HeldPin>,
     count: u32,

@@ -97,9 +97,9 @@ fn pin_block<L: BlockLane, G: LogDevice, R: Wait>(
     pinned
 }
 
-/// Reads a block that callers have no pin of (`ReadBuffer_common`): its frame is pinned, or it comes
-/// into one, and its page is there. A refusal leaves all pins as they were. The backend counts the
-/// latches of partitions that it takes, and says what it saw of the block's hint.
+/// Reads a block that callers have no pin of (`ReadBuffer_common`): its frame is pinned, or it
+/// comes into one, and its page is there. A refusal leaves all pins as they were. The backend
+/// counts the latches of partitions that it takes, and says what it saw of the block's hint.
 pub fn read_block<L: BlockLane, G: LogDevice, R: Wait>(
     table: &FrameTable<L, G>,
     rt: &R,

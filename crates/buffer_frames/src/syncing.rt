@@ -140,7 +140,8 @@ fn flush_seen<L: BlockLane, G: LogDevice, R: Wait>(
     synced_by(flushed)
 }
 
-/// Pins a frame whose header is held, and unlocks that, writes the frame if it is still dirty, and gives the pin up.
+/// Pins a frame whose header is held, and unlocks that, writes the frame if it is still dirty, and
+/// gives the pin up.
 fn flush_anew<L: BlockLane, G: LogDevice, R: Wait>(
     table: &FrameTable<L, G>,
     rt: &R,
@@ -181,7 +182,8 @@ fn is_own(held: &HeldPins, frame: u32, tag: &Tag) -> bool
     }
 }
 
-/// Writes a frame whose header is held, if it is still dirty once that is unlocked. The backend pins it for that unless callers have tokens of it.
+/// Writes a frame whose header is held, if it is still dirty once that is unlocked. The backend
+/// pins it for that unless callers have tokens of it.
 fn flush_under<L: BlockLane, G: LogDevice, R: Wait>(
     table: &FrameTable<L, G>,
     rt: &R,
@@ -213,7 +215,8 @@ fn flush_under<L: BlockLane, G: LogDevice, R: Wait>(
     flush_anew(table, rt, seat, held, frame, word, page)
 }
 
-/// Looks at a frame's state word under its header, and by that writes the frame or passes it over. The frame is pinned for the write, its usage count unchanged.
+/// Looks at a frame's state word under its header, and by that writes the frame or passes it over.
+/// The frame is pinned for the write, its usage count unchanged.
 pub fn sync_one<L: BlockLane, G: LogDevice, R: Wait>(
     table: &FrameTable<L, G>,
     rt: &R,

@@ -158,7 +158,8 @@ fn make_victim<L: BlockLane, G: LogDevice, R: Wait>(
     Freed::Again
 }
 
-/// Frees a frame for a block and brings the block there, or pins the frame that another backend has brought it into meanwhile.
+/// Frees a frame for a block and brings the block there, or pins the frame that another backend has
+/// brought it into meanwhile.
 pub(crate) fn bring_in<L: BlockLane, G: LogDevice, R: Wait>(
     table: &FrameTable<L, G>,
     rt: &R,

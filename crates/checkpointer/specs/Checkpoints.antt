@@ -14,7 +14,8 @@ use Rattle.checkpointer.specs.declared.ending.Checkpoint.{Checkpoint}
 use Rattle.checkpointer.specs.Stages.{syncs_below}
 use Rattle.checkpointer.specs.Writes.{MarksAndWrites}
 
--- A checkpoint of the view began as the first step, where the log ended at `upto`, and is its last one still
+-- A checkpoint of the view began as the first step, where the log ended at `upto`, and is its last
+-- one still
 pub record Begins (upto : ℕ) (v w : View) : Type 0 where
   pub began : View
   pub did : DidWord begin_checkpoint v began upto
@@ -22,7 +23,9 @@ pub record Begins (upto : ℕ) (v w : View) : Type 0 where
   pub until : OnlyRises began w
   pub last : w.upto ≡ upto
 
--- The last step to the view left the latch of a lane. In the state of that step each entry of the log up to `upto` is durable, the syncs of the lanes have covered it, and its block's lane holds it or a later one, or that block's last write failed and its frame is valid and dirty
+-- The last step to the view left the latch of a lane. In the state of that step each entry of the
+-- log up to `upto` is durable, the syncs of the lanes have covered it, and its block's lane holds
+-- it or a later one, or that block's last write failed and its frame is valid and dirty
 pub record StoresUpTo (lanes upto : ℕ) (w : View) : Type 0 where
   pub lane : ℕ
   pub left : LeavesLane lanes lane w
@@ -31,7 +34,9 @@ pub record StoresUpTo (lanes upto : ℕ) (w : View) : Type 0 where
   pub stored : AreStored left.did.state upto
 
 module _ {L G : Type 0} (contents : L → Option Pages) (t : FrameTable L G) where
-  -- The checkpoint wrote the frames that it marked, flushed the log, and then synced each lane, and no call of a device failed. The log is flushed up to where it began, each lane is swept up to there, and what was logged up to there is stored
+  -- The checkpoint wrote the frames that it marked, flushed the log, and then synced each lane, and
+  -- no call of a device failed. The log is flushed up to where it began, each lane is swept up to
+  -- there, and what was logged up to there is stored
   pub record Completes (c : Checkpoint) (v w : View) : Type 0 where
     pub begins : Begins c.upto v w
     -- the view by when the frames were written

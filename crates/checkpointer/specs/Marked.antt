@@ -41,7 +41,8 @@ AreInside frames marked = All (λ m. m.frame < frames) marked
 abbrev pub KeepsEachNote : View → View → Type 0
 KeepsEachNote v w = (f : ℕ) → KeepsNotes (link v f) (link w f)
 
--- The frames below a number were looked at in order, and each was seen not dirty, with loads and changes of no other frame's words, or noted. The list is of those that were noted, as they came
+-- The frames below a number were looked at in order, and each was seen not dirty, with loads and
+-- changes of no other frame's words, or noted. The list is of those that were noted, as they came
 pub data NotesInOrder (v : View) : ℕ → View → List MarkedFrame → Type 0 where
   nothing : NotesInOrder v 0 v []
   sees_clean : {f : ℕ} {u w : View} {noted : List MarkedFrame} → NotesInOrder v f u noted
@@ -50,7 +51,8 @@ pub data NotesInOrder (v : View) : ℕ → View → List MarkedFrame → Type 0 
       → NotesInOrder v m.frame u noted → NotesBlock m.frame tag u w → m.tag ≡ packed_tag tag
       → NotesInOrder v (m.frame + 1) w (noted ++ m ∷ [])
 
--- The dirty ones of so many frames were noted, and no device was called. The list is of these and no other, by packed tag
+-- The dirty ones of so many frames were noted, and no device was called. The list is of these and
+-- no other, by packed tag
 pub record ListsDirty (frames : ℕ) (marked : List MarkedFrame) (v w : View) : Type 0 where
   pub noted : List MarkedFrame
   pub notes : NotesInOrder v frames w noted

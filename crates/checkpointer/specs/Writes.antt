@@ -14,7 +14,8 @@ use Rattle.checkpointer.specs.Marked.{ListsDirty}
 use Rattle.checkpointer.specs.Stages.{FlushesPages}
 
 module _ {L G : Type 0} (contents : L → Option Pages) (t : FrameTable L G) where
-  -- The frame f was written, or found clean, any number of times, each as it had BM_CHECKPOINT_NEEDED
+  -- The frame f was written, or found clean, any number of times, each as it had
+  -- BM_CHECKPOINT_NEEDED
   pub data SyncsWhileNeeded (f : ℕ) (v : View) : View → Type 0 where
     still : SyncsWhileNeeded f v v
     again : {u w : View} (synced : Synced) → SyncsWhileNeeded f v u → synced ≢ Skipped
@@ -33,7 +34,8 @@ module _ {L G : Type 0} (contents : L → Option Pages) (t : FrameTable L G) whe
     next : {u w : View} {marked : List MarkedFrame} (m : MarkedFrame) → WritesInOrder v marked u
         → SyncsUntilPassed m.frame u w → WritesInOrder v (marked ++ m ∷ []) w
 
-  -- The frame f stands in the list. Those before it were written, and it was as long as it had BM_CHECKPOINT_NEEDED
+  -- The frame f stands in the list. Those before it were written, and it was as long as it had
+  -- BM_CHECKPOINT_NEEDED
   pub record WritesUpTo (marked : List MarkedFrame) (f : ℕ) (v w : View) : Type 0 where
     pub before : List MarkedFrame
     pub tag : ℕ
@@ -43,7 +45,8 @@ module _ {L G : Type 0} (contents : L → Option Pages) (t : FrameTable L G) whe
     pub writes : WritesInOrder v before turn
     pub needed : SyncsWhileNeeded f turn w
 
-  -- A checkpoint began at `upto` in the view v, noted the dirty frames, and wrote these and no other, in the order of their tags: so many pages
+  -- A checkpoint began at `upto` in the view v, noted the dirty frames, and wrote these and no
+  -- other, in the order of their tags: so many pages
   pub record MarksAndWrites (upto n : ℕ) (v w : View) : Type 0 where
     pub marked : List MarkedFrame
     pub listed : View

@@ -20,7 +20,9 @@ use log_device::LogDevice;
 use segment_store::BlockLane;
 use std::sync::Wait;
 
-/// Makes a checkpoint (`CheckPointBuffers`): marks each dirty frame, writes those still marked in the order of their tags, flushes the log up to where it ended at first, and syncs each lane. The pass has no content lock.
+/// Makes a checkpoint (`CheckPointBuffers`): marks each dirty frame, writes those still marked in
+/// the order of their tags, flushes the log up to where it ended at first, and syncs each lane. The
+/// pass has no content lock.
 pub fn checkpoint<L: BlockLane, G: LogDevice, R: Wait>(
     manager: &Manager<L, G>,
     rt: &R,

@@ -10,7 +10,8 @@ use thiserror::Error;
 /// What a checkpoint did.
 #[derive(Clone, Copy, PartialEq, Eq, Debug)]
 pub struct Checkpoint {
-    /// The log's end as the checkpoint began. What was logged up to there is in the lanes, but for blocks whose last write failed.
+    /// The log's end as the checkpoint began. What was logged up to there is in the lanes, but for
+    /// blocks whose last write failed.
     pub upto: Lsn,
     /// How many pages it wrote.
     pub written: u32,

@@ -40,7 +40,8 @@ fn mark_frame<L: BlockLane, G: LogDevice, R: Wait>(
     });
 }
 
-/// Sets BM_CHECKPOINT_NEEDED in each dirty frame, and lists these in the order of their tags (`BufferSync`).
+/// Sets BM_CHECKPOINT_NEEDED in each dirty frame, and lists these in the order of their tags
+/// (`BufferSync`).
 pub(crate) fn mark_frames<L: BlockLane, G: LogDevice, R: Wait>(
     manager: &Manager<L, G>,
     rt: &R,

@@ -61,7 +61,8 @@ fn write_frame<L: BlockLane, G: LogDevice, R: Wait>(
     unreachable!()
 }
 
-/// Writes each frame that was marked and needs it still, and returns how many pages were written (`BufferSync`).
+/// Writes each frame that was marked and needs it still, and returns how many pages were written
+/// (`BufferSync`).
 pub(crate) fn write_marked<L: BlockLane, G: LogDevice, R: Wait>(
     manager: &Manager<L, G>,
     rt: &R,

@@ -39,7 +39,8 @@ joined_claimants c d = record { chunks = d.chunks; workers = d.workers; parts = 
 abbrev pub spent_claimant : Claimant
 spent_claimant = record { chunks = 0; workers = 0; parts = 0; past = 0; drawn = [] }
 
--- Claims of this work: at most one number past the last chunk for each part, and none at all without a part
+-- Claims of this work: at most one number past the last chunk for each part, and none at all
+-- without a part
 pub record IsClaimant (w : Work) (c : Claimant) : Type 0 where
   pub past : c.past ≤ c.parts
   pub none : c.parts ≡ 0 → c.drawn ≡ []
@@ -63,7 +64,9 @@ pub record ClaimsHold (w : Work) (s : State (Unit {0}) Claimant) : Type 0 where
 abbrev pub Draws : Step (Unit {0}) → Me (Unit {0}) Claimant → ℕ → Me (Unit {0}) Claimant → Type 0
 Draws s v found w = (w ≡ (with_draw found v.0, v.1)) × ((g : ℕ → ℕ) → total g w.0.drawn ≤ sum_below (found + 1) g)
 
--- Nothing changed. What the seat drew is at most what there is below the number found. With a part, that number is at most the chunks and the workers together; with the parts of all workers, the seat drew the numbers below it, each once
+-- Nothing changed. What the seat drew is at most what there is below the number found. With a part,
+-- that number is at most the chunks and the workers together; with the parts of all workers, the
+-- seat drew the numbers below it, each once
 abbrev pub Counts : Step (Unit {0}) → Me (Unit {0}) Claimant → ℕ → Me (Unit {0}) Claimant → Type 0
 Counts s v found w =
     (w ≡ v)

@@ -5,7 +5,8 @@ use Rattle.chunk_claims.specs.declared.claimant.Claimant.{Claimant}
 use Rattle.chunk_claims.specs.declared.claims.Claims.{Claims}
 use Rattle.chunk_claims.specs.Claims.{SitsAt}
 
--- The seat of a worker that may claim: its part is its own, and it found a chunk whenever it claimed
+-- The seat of a worker that may claim: its part is its own, and it found a chunk whenever it
+-- claimed
 pub record MayClaim (c : Claims) (seat : Seat (Unit {0}) Claimant) : Type 0 where
   pub sits : SitsAt c.table.shared.table_id seat
   pub part : (seat.me.0.parts ≡ 1) × (seat.me.0.past ≡ 0)

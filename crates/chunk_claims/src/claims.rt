@@ -30,7 +30,8 @@ pub struct Claims {
 }
 
 impl Claims {
-    /// The claims of so many chunks, none claimed yet, and a seat that has the parts of all workers.
+    /// The claims of so many chunks, none claimed yet, and a seat that has the parts of all
+    /// workers.
     pub fn build(
         alloc: Global,
         chunks: u32,
@@ -96,7 +97,8 @@ impl Claims {
         ensures seat { SitsAt self.now.table.shared.table_id seat.new }
         ensures some { IfSome result (λ n. (n < self.now.chunks) × (seat.new.me.0 ≡ with_draw n seat.old.me.0)) }
         ensures none { IfNone result ((n : ℕ) × (self.now.chunks ≤ n) × (seat.new.me.0 ≡ with_draw n seat.old.me.0)) }
-        // What a seat claimed is at most what there is up to this chunk, however chunks are weighed; so this chunk comes after those that it claimed before.
+        // What a seat claimed is at most what there is up to this chunk, however chunks are
+        // weighed; so this chunk comes after those that it claimed before.
         ensures within { IfSome result (λ n. (g : ℕ → ℕ) → total g seat.new.me.0.drawn ≤ sum_below (n + 1) g) }
     {
         let number = self.draw(seat);
@@ -107,7 +109,9 @@ impl Claims {
         }
     }
 
-    /// How many numbers were drawn: as many as this seat drew at least, and at most one by each worker after the last chunk. A seat that has the parts of all workers drew them all, each once.
+    /// How many numbers were drawn: as many as this seat drew at least, and at most one by each
+    /// worker after the last chunk. A seat that has the parts of all workers drew them all, each
+    /// once.
     pub fn claimed(&self, seat: &mut Seat<(), Claimant>) -> u64
         requires seat { SitsAt self.now.table.shared.table_id seat.old }
         ensures same { seat.new.me ≡ seat.old.me }

@@ -5,7 +5,8 @@ use crate::claimant::Claimant;
 use crate::claims::Work;
 use atomic_table::{Join, Play, Split, TableRule};
 
-/// The numbers that were drawn are those below the word, each once, and each worker drew at most one past the last chunk.
+/// The numbers that were drawn are those below the word, each once, and each worker drew at most
+/// one past the last chunk.
 pub(crate) struct ClaimsLaw;
 
 impl TableRule<(), Claimant, Work> for ClaimsLaw {

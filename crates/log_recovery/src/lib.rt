@@ -1,8 +1,9 @@
-//! Recovery: [`recover`] reads a log back and writes the page of each record to its block, up to the first record that
-//! isn't well formed, and then syncs the lanes (`PerformWalRecovery`).
+//! Recovery: [`recover`] reads a log back and writes the page of each record to its block, up to
+//! the first record that isn't well formed, and then syncs the lanes (`PerformWalRecovery`).
 //!
-//! Give it the lanes with their old contents, the catalogue and a source of the log's bytes. It may be interrupted and
-//! called again, as often as you like. [`Redone`] says where the log begins and ends. docs/LOG_FORMAT.md has the format.
+//! Give it the lanes with their old contents, the catalogue and a source of the log's bytes. It may
+//! be interrupted and called again, as often as you like. [`Redone`] says where the log begins and
+//! ends. docs/LOG_FORMAT.md has the format.
 #![tactic(auto)]
 
 mod error;

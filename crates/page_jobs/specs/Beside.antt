@@ -24,7 +24,8 @@ abbrev pub LastDid : (PassState → PassState → Type 0) → List PassState →
 LastDid did ps qs = (p q : PassState) → get_elem? ps (length ps - 1) ≡ some p → get_elem? qs (length ps - 1) ≡ some q → did p q
 
 module _ {L G : Type 0} (contents : L → Option Pages) (m : Manager L G) where
-  -- A pass worked beside the workers: it is the same one, it read and put nothing, and its tokens, its content locks, its census and its mark are as they were
+  -- A pass worked beside the workers: it is the same one, it read and put nothing, and its tokens,
+  -- its content locks, its census and its mark are as they were
   pub record WorksBeside (p q : PassState) : Type 0 where
     pub belongs : Belongs contents m q
     pub same : SamePass p q

@@ -6,7 +6,8 @@ use Rattle.grid.specs.Shape.{total}
 use Rattle.chunk_claims.specs.Claims.{sum_below}
 use Rattle.page_jobs.specs.Blocks.{blocks_from}
 
--- where the chunk begins, and ends, of n blocks; how many chunks there are, and how many blocks a chunk has
+-- where the chunk begins, and ends, of n blocks; how many chunks there are, and how many blocks a
+-- chunk has
 abbrev pub chunk_start : ℕ → ℕ
 chunk_start c = 8 * c
 
@@ -44,7 +45,8 @@ abbrev pub items_in_all : {A : Type 0} → List (Claimed A) → List A
 items_in_all [] = []
 items_in_all (c ∷ cs) = c.items ++ items_in_all cs
 
--- The chunks of a fork of n blocks were dealt with one after the other, in order: all blocks of each, but of the last one maybe only the first
+-- The chunks of a fork of n blocks were dealt with one after the other, in order: all blocks of
+-- each, but of the last one maybe only the first
 pub record CoversChunks {A : Type 0} (n : ℕ) (c : Claimed A) : Type 0 where
   pub whole : List ℕ
   pub last : List ℕ
@@ -58,7 +60,8 @@ pub record CoversChunks {A : Type 0} (n : ℕ) (c : Claimed A) : Type 0 where
 abbrev pub CoversAll : {A : Type 0} → ℕ → Claimed A → Type 0
 CoversAll n c = length c.items ≡ length (blocks_in_all n c.chunks)
 
--- the passes claimed the first chunks of a fork of n blocks, so many, each once: whatever the weights, those of the claimed chunks sum to those of these
+-- the passes claimed the first chunks of a fork of n blocks, so many, each once: whatever the
+-- weights, those of the claimed chunks sum to those of these
 abbrev pub AreFirstClaimed : {A : Type 0} → ℕ → List (Claimed A) → Type 0
 AreFirstClaimed n cs = (many : ℕ) × (many ≤ chunk_count n) × ((g : ℕ → ℕ) → total (λ c. total g c.chunks) cs ≡ sum_below many g)
 

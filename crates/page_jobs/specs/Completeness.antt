@@ -22,13 +22,15 @@ pub record OutIsQuiet (before now : ℕ) : Type 0 where
   pub same : now ≡ before
   pub below : now < 2 ^ 64 - 1
 
--- a rewrite ended well, or there was no memory, or the log was full: a record at this end would pass the last position
+-- a rewrite ended well, or there was no memory, or the log was full: a record at this end would
+-- pass the last position
 abbrev pub IsDoneFullOrMemory : Result Totals JobError → Type 0
 IsDoneFullOrMemory (Ok totals) = Unit {0}
 IsDoneFullOrMemory (Err (LogFull end)) = last_position < end + record_size
 IsDoneFullOrMemory (Err e) = e ≡ Memory
 
--- a scan or a dump ended well, or there was no memory, or a page was past the log's end; a rewrite ended so, or as the log was full
+-- a scan or a dump ended well, or there was no memory, or a page was past the log's end; a rewrite
+-- ended so, or as the log was full
 abbrev pub IsDoneShortOrMemory : Result Totals JobError → Type 0
 IsDoneShortOrMemory (Err (LogShort lsn end)) = Unit {0}
 IsDoneShortOrMemory r = IsDoneOrMemory r

@@ -122,14 +122,16 @@ total_delivered ws = total (λ w. w.task.shares.delivered.amount) ws
 abbrev pub total_above : {N A : Type 0} → List (Worker (Lister N A)) → ℕ
 total_above ws = total (λ w. w.task.shares.above.amount) ws
 
--- At the end of a job the line of the totals was put, or a prefix of it, if no put had failed before, and the workers and the work beside them had ended well; otherwise nothing
+-- At the end of a job the line of the totals was put, or a prefix of it, if no put had failed
+-- before, and the workers and the work beside them had ended well; otherwise nothing
 pub record PutsEnd (output : Bool) (worked beside : Result Unit JobError) (totals : ScanTotals) (old new : Option (List ℕ)) (end : Result Unit JobError) : Type 0 where
   pub last : List ℕ
   pub ending : (last ≡ []) ⊎ ((output ≡ false) × (worked ≡ Ok tt) × (beside ≡ Ok tt) × (last ≡ totals_line totals))
   pub puts : Puts last old new end
   pub whole : OnOk end (last ≡ totals_line totals)
 
--- Why no totals were put: a put had failed before, or this one did; or a worker had failed, the work beside them was refused, or there was no memory
+-- Why no totals were put: a put had failed before, or this one did; or a worker had failed, the
+-- work beside them was refused, or there was no memory
 abbrev pub PutsNoEnd : Bool → Result Unit JobError → Result Unit JobError → ℕ → ℕ → JobError → Type 0
 PutsNoEnd output worked beside outs outs_now e =
     ((e ≡ OutFault) × MatchBool output (outs_now ≡ outs) (Rose outs outs_now))
@@ -148,7 +150,8 @@ pub record PutsAll {N A : Type 0} (texts : ℕ → List ℕ → Type 0) (ws : Li
   pub whole : OnOk end ((many ≡ chunks) × (last ≡ totals_line (job_totals ws)))
 
 module _ {L G : Type 0} (contents : L → Option Pages) (m : Manager L G) where
-  -- A worker can begin: its pass has no token, its seat claimed nothing, and its task can count and can begin a chunk
+  -- A worker can begin: its pass has no token, its seat claimed nothing, and its task can count and
+  -- can begin a chunk
   pub record IsReady {K : Type 0} (claims : Claims) (fits : K → ℕ → Type 0) (opens : K → Type 0) (w : Worker K) : Type 0 where
     pub free : HasNoTokens contents m w.pass
     pub seat : HasSeat claims w

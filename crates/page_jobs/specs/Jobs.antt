@@ -56,7 +56,9 @@ module _ {L G : Type 0} (contents : L → Option Pages) (m : Manager L G) (rel :
     pub counted : length pages ≡ blocks_in m rel fork
     pub each : (block : ℕ) (page : Page) → get_elem? pages block ≡ some page → WasKnownAtOpening contents m (tag_of_parts rel fork block) page
 
-  -- The pass read blocks of the chunks that it claimed, one chunk after the other, each to its end but maybe the last one. It is the same pass, without tokens, with its mark and its content locks as they were
+  -- The pass read blocks of the chunks that it claimed, one chunk after the other, each to its end
+  -- but maybe the last one. It is the same pass, without tokens, with its mark and its content
+  -- locks as they were
   pub record ReadsChunks (c : Claimed BlockRead) (p q : PassState) : Type 0 where
     pub stays : Stays contents m p q
     pub spent : q.tokens ≡ no_tokens
@@ -65,7 +67,8 @@ module _ {L G : Type 0} (contents : L → Option Pages) (m : Manager L G) (rel :
     pub places : AllReads (λ block r. IsWithinFront q.view.front r) (blocks_in_all (blocks_in m rel fork) c.chunks) c.items
     pub covers : CoversChunks (blocks_in m rel fork) c
 
-  -- The passes claimed the first chunks, each once, and each pass read blocks of those that it claimed
+  -- The passes claimed the first chunks, each once, and each pass read blocks of those that it
+  -- claimed
   pub record ReadParts (ps qs : List PassState) : Type 0 where
     pub counted : length qs ≡ length ps
     pub claimed : List (Claimed BlockRead)
@@ -81,7 +84,8 @@ module _ {L G : Type 0} (contents : L → Option Pages) (m : Manager L G) (rel :
     pub whole : CoversAll (blocks_in m rel fork) c
     pub met : q.view.met ≡ p.view.met
 
-  -- All chunks were read, each once, by one pass and to its end, and no fault was met. The totals are those of what was read
+  -- All chunks were read, each once, by one pass and to its end, and no fault was met. The totals
+  -- are those of what was read
   pub record ReadsAll (ps qs : List PassState) (totals : Totals) : Type 0 where
     pub claimed : List (Claimed BlockRead)
     pub listed : length claimed ≡ length ps
@@ -89,7 +93,9 @@ module _ {L G : Type 0} (contents : L → Option Pages) (m : Manager L G) (rel :
     pub all : AreAllClaimed (blocks_in m rel fork) claimed
     pub totals_is : totals ≡ totals_of_scan (reads_totals (items_in_all claimed))
 
-  -- What was put, with any end: a prefix of the texts of the first chunks, in order, and after those of all chunks, if the passes met no fault, of the line of the totals of what they read; if the job ended well, all of that
+  -- What was put, with any end: a prefix of the texts of the first chunks, in order, and after
+  -- those of all chunks, if the passes met no fault, of the line of the totals of what they read;
+  -- if the job ended well, all of that
   pub record PutsTexts (lines : Lines) (ps qs : List PassState) (old new : Option (List ℕ)) (end : Result Totals JobError) : Type 0 where
     pub parts : ReadParts ps qs
     -- nothing in the texts was read past this place, which is the log's base if no pass has seen
@@ -111,7 +117,8 @@ module _ {L G : Type 0} (contents : L → Option Pages) (m : Manager L G) (rel :
   AnyMeets (p ∷ ps) (q ∷ qs) e = MeetsFault contents m rel fork p q e ⊎ AnyMeets ps qs e
   AnyMeets ps qs e = ⊥
 
-  -- why a job ended before its end: one of the passes that work met a fault, or the work of the last one was refused, or the output failed, or there was no memory
+  -- why a job ended before its end: one of the passes that work met a fault, or the work of the
+  -- last one was refused, or the output failed, or there was no memory
   abbrev pub EndsJob : List PassState → List PassState → ℕ → ℕ → JobError → Type 0
   EndsJob ps qs outs outs_now e =
       (e ≡ Memory) ⊎ (AnyMeets (workers_in ps) (workers_in qs) e ⊎ (LastIsRefused contents m ps qs e ⊎ ((e ≡ OutFault) × Rose outs outs_now)))

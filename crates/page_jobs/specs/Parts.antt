@@ -33,7 +33,8 @@ module _ {L G : Type 0} (contents : L → Option Pages) (m : Manager L G) (rel :
   abbrev pub AreKnown : List ℕ → List BlockRead → Type 0
   AreKnown blocks rs = AllReads (λ b r. IsKnown contents m (tag_of_parts rel fork b) r) blocks rs
 
-  -- A read of one of the fork's blocks was refused, for a reason that the error names, and the pass has met that fault, and no other
+  -- A read of one of the fork's blocks was refused, for a reason that the error names, and the pass
+  -- has met that fault, and no other
   pub record MeetsFault (p q : PassState) (e : JobError) : Type 0 where
     pub block : ℕ
     pub inside : block < blocks_in m rel fork
@@ -50,7 +51,8 @@ module _ {L G : Type 0} (contents : L → Option Pages) (m : Manager L G) (rel :
   abbrev pub EndsFor : PassState → PassState → JobError → Type 0
   EndsFor p q e = ((e ≡ Memory) × (q.view.met ≡ p.view.met)) ⊎ MeetsFault p q e
 
-  -- These blocks were read one after the other, or the first of them. What was read is printed, and counted, but for what there was no memory for
+  -- These blocks were read one after the other, or the first of them. What was read is printed, and
+  -- counted, but for what there was no memory for
   pub record ListsBlocks (lines : Lines) (blocks : List ℕ) (p q : PassState) (text text' : List ℕ) (t u : ScanTotals) (end : Result Unit JobError) : Type 0 where
     pub stays : Stays contents m p q
     pub spent : q.tokens ≡ no_tokens

@@ -41,7 +41,8 @@ text_of_pages Dump pages = dump_text pages
 abbrev pub totals_line : ScanTotals → List ℕ
 totals_line t = totals_text t ++ codes "\n"
 
--- What a job reads of a block: a copy of its page, at a place in the log, or that its page isn't sound
+-- What a job reads of a block: a copy of its page, at a place in the log, or that its page isn't
+-- sound
 pub data BlockRead : Type 0 where
   copied : Page → ℕ → BlockRead
   unsound : BlockRead

@@ -35,7 +35,8 @@ abbrev pub is_crowding : ReadError → Bool
 is_crowding (read.NoUnpinned frames) = true
 is_crowding _ = false
 
--- whether a read is given up for this reason, by a worker that has no token and reads a block of the relation
+-- whether a read is given up for this reason, by a worker that has no token and reads a block of
+-- the relation
 abbrev pub is_tried_once : ReadError → Bool
 is_tried_once (read.PastEnd block blocks) = false
 is_tried_once read.PinsFull = false
@@ -54,7 +55,8 @@ fault_of_refusal (read.LogDown at) = Some (LogDown at)
 fault_of_refusal (read.LogShort lsn end) = Some (LogShort lsn end)
 fault_of_refusal (read.Unsound tag) = None
 
--- the calls of a backend that reads these blocks of a fork one after the other, and finds this: one for each sound page
+-- the calls of a backend that reads these blocks of a fork one after the other, and finds this: one
+-- for each sound page
 abbrev pub calls_of_reads : ℕ → ℕ → Fork → List ℕ → List BlockRead → List Call
 calls_of_reads backend rel fork blocks [] = []
 calls_of_reads backend rel fork [] (r ∷ rs) = []
@@ -67,7 +69,8 @@ module _ {L G : Type 0} (contents : L → Option Pages) (m : Manager L G) where
     pub belongs : Belongs contents m p
     pub spent : p.tokens ≡ no_tokens
 
-  -- What reads leave of a pass: it is the same one, its mark and its content locks are as they were, and its front isn't before the old one
+  -- What reads leave of a pass: it is the same one, its mark and its content locks are as they
+  -- were, and its front isn't before the old one
   pub record Stays (p q : PassState) : Type 0 where
     pub belongs : Belongs contents m q
     pub same : SamePass p q

@@ -38,7 +38,8 @@ pub record PutsNoMore (q z : PassState) : Type 0 where
   pub reads : writes_in more ≡ 0
   pub torn : z.view.torn ≡ q.view.torn
 
--- The log has an entry of this block, whose page is what the rule made of this one, and durable; and that is the page that the block has now
+-- The log has an entry of this block, whose page is what the rule made of this one, and durable;
+-- and that is the page that the block has now
 pub record HasEntryPage (r : Rule) (s : State) (packed : ℕ) (page : Page) (now : Option Page) : Type 0 where
   pub made : HasEntry s.log packed
   pub entered : IsPageEntry made.entry packed (r.rewritten page (end_of made.entry))
@@ -46,7 +47,8 @@ pub record HasEntryPage (r : Rule) (s : State) (packed : ℕ) (page : Page) (now
   pub held : now ≡ Some (r.rewritten page (end_of made.entry))
 
 module _ {L G : Type 0} (contents : L → Option Pages) (m : Manager L G) (rel : ℕ) (fork : Fork) where
-  -- A rewrite made the passes qs of the passes ps, and they were these, in the same order, as the manager was closed: none had put a page before it, or put one after it, or failed to append one
+  -- A rewrite made the passes qs of the passes ps, and they were these, in the same order, as the
+  -- manager was closed: none had put a page before it, or put one after it, or failed to append one
   pub record RewritesAlone (ps qs zs : List PassState) : Type 0 where
     pub several : 1 < length ps
     pub parts : RewriteParts contents m rel fork (workers_in ps) (workers_in qs)
@@ -79,7 +81,8 @@ module _ {L G : Type 0} (contents : L → Option Pages) (m : Manager L G) (rel :
     pub rises : (i : ℕ) (q z : PassState) → get_elem? qs i ≡ some q → get_elem? zs i ≡ some z → OnlyRises q.view z.view
 
 module _ {L G : Type 0} (d : Devices L G) (o : Opening L G) (lanes : List L) where
-  -- The block of this tag, whose number this is, lies in a lane with these contents as the table was opened, and with these as it was closed
+  -- The block of this tag, whose number this is, lies in a lane with these contents as the table
+  -- was opened, and with these as it was closed
   pub record IsInLanes (packed : ℕ) (tag : Tag) (before after : Pages) (closed : L) : Type 0 where
     pub lane : ℕ
     pub opened : L
@@ -107,7 +110,9 @@ module _ {L G : Type 0} (d : Devices L G) (o : Opening L G) (lanes : List L) whe
     pub others : (packed : ℕ) (tag : Tag) (before after : Pages) (closed : L) (page : Page) → IsInLanes packed tag before after closed → before tag ≡ Some page → (HasEntry log packed → ⊥) → d.failed_writes closed tag ≡ false → after tag ≡ Some page
 
 module _ {L G : Type 0} (d : Devices L G) (m : Manager L G) where
-  -- After a rewrite with any end each entry of the log is what the rule made of a block's page at the opening, and a block has one at most; each lane has the one page or the other; and what a failure left after the log begins the record of such a page, of a block that has no entry
+  -- After a rewrite with any end each entry of the log is what the rule made of a block's page at
+  -- the opening, and a block has one at most; each lane has the one page or the other; and what a
+  -- failure left after the log begins the record of such a page, of a block that has no entry
   abbrev pub ClosesEither : Type 0
   ClosesEither = (rel : ℕ) (fork : Fork) (ps qs zs : List PassState) (lanes : List L) (log : G) → RewritesAlone d.contents m rel fork ps qs zs
       → (c : ClosesAll d m.table.table.shared.key zs lanes log)
@@ -115,7 +120,9 @@ module _ {L G : Type 0} (d : Devices L G) (m : Manager L G) where
       × HoldEither d m.table.table.shared.key lanes (rule_of rel fork) c.state
       × (c.laws.rest.behind.rest ≢ [] → c.mark ≢ None → BeginsRewrite (rule_of rel fork) (blocks_in m rel fork) c.state c.laws.rest.behind.rest)
 
-  -- After one of all blocks, and a checkpoint, the log has exactly the entries of the changed blocks, the totals are those of the pages at the opening, and the lanes have the rewritten relation
+  -- After one of all blocks, and a checkpoint, the log has exactly the entries of the changed
+  -- blocks, the totals are those of the pages at the opening, and the lanes have the rewritten
+  -- relation
   abbrev pub ClosesRewritten : Type 0
   ClosesRewritten = (rel : ℕ) (fork : Fork) (ps qs zs : List PassState) (totals : Totals) (upto : ℕ) (lanes : List L) (log : G) → RewritesAndStores d.contents m rel fork ps qs zs totals upto
       → (c : ClosesAll d m.table.table.shared.key zs lanes log)

@@ -92,7 +92,8 @@ pub record HasEntry (log : Log) (tag : ℕ) : Type 0 where
   pub entry : Entry
   pub entered : IsEntryOf log.entries tag index entry
 
--- After the log's bytes are the first bytes of the record that would be next, which is what the rule makes of a block's page at the start; the block has no entry
+-- After the log's bytes are the first bytes of the record that would be next, which is what the
+-- rule makes of a block's page at the start; the block has no entry
 pub record BeginsRewrite (r : Rule) (n : ℕ) (s : State) (rest : List ℕ) : Type 0 where
   pub entry : Entry
   pub starts : entry.start ≡ s.end
@@ -112,7 +113,8 @@ pub record IsRewritten (r : Rule) (n : ℕ) (known : ℕ → Bool) (origin : ℕ
   pub all : (b : ℕ) → b < n → r.changes (page_at_start origin (r.tag b)) ≡ true → HasEntry log (r.tag b)
   pub end : log_end log ≡ log.base + record_size * sum_below n (change_weight r origin)
 
--- What the lane has of a block: the page of an entry, which is durable in the log, or the page that it had at the start
+-- What the lane has of a block: the page of an entry, which is durable in the log, or the page that
+-- it had at the start
 abbrev pub IsAfter : State → ℕ → Type 0
 IsAfter s tag = ((k : ℕ) × (e : Entry) × (page : Page) × (get_elem? s.log.entries k ≡ some e) × IsPageEntry e tag page × (head_size + end_of e ≤ s.log.base + s.device.synced) × (stored s tag ≡ Some page)) ⊎ (stored s tag ≡ s.origin tag)
 
@@ -138,7 +140,8 @@ pub record IsResult (r : Rule) (n : ℕ) (s : State) : Type 0 where
   -- another one has none, and its page is as before
   pub same : (b : ℕ) → b < n → r.changes (page_at_start s.origin (r.tag b)) ≡ false → (HasEntry s.log (r.tag b) → ⊥) × (failed s (r.tag b) ≡ false → stored s (r.tag b) ≡ s.origin (r.tag b))
 
--- A state with the law, whose history is that of a rewrite of all blocks; all entries up to `upto` are stored, and no call is past it
+-- A state with the law, whose history is that of a rewrite of all blocks; all entries up to `upto`
+-- are stored, and no call is past it
 pub record Finishes (r : Rule) (n : ℕ) (s : State) (calls : List Call) (ps : List BackendCalls) (upto : ℕ) : Type 0 where
   pub laws : Laws s
   pub history : IsHistory s.known s.origin s.opened_sizes s.log calls

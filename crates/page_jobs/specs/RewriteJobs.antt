@@ -19,12 +19,14 @@ use Rattle.page_jobs.specs.Rewrites.{Outcome, outcome_totals}
 use Rattle.page_jobs.specs.Rewriting.{PutIsRefused, RewritesBlocks, RewritesWhole}
 
 module _ {L G : Type 0} (contents : L → Option Pages) (m : Manager L G) (rel : ℕ) (fork : Fork) where
-  -- The pass dealt with blocks of the chunks that it claimed, one chunk after the other, each to its end but maybe the last one
+  -- The pass dealt with blocks of the chunks that it claimed, one chunk after the other, each to
+  -- its end but maybe the last one
   pub record RewritesChunks (c : Claimed Outcome) (p q : PassState) : Type 0 where
     pub blocks : RewritesBlocks contents m rel fork (blocks_in_all (blocks_in m rel fork) c.chunks) c.items p q
     pub covers : CoversChunks (blocks_in m rel fork) c
 
-  -- The passes claimed the first chunks, each once, and each pass dealt with blocks of those that it claimed
+  -- The passes claimed the first chunks, each once, and each pass dealt with blocks of those that
+  -- it claimed
   pub record RewriteParts (ps qs : List PassState) : Type 0 where
     pub counted : length qs ≡ length ps
     pub claimed : List (Claimed Outcome)
@@ -38,7 +40,8 @@ module _ {L G : Type 0} (contents : L → Option Pages) (m : Manager L G) (rel :
     -- the fork's blocks have numbers of their own
     pub named : (block : ℕ) → block < blocks_in m rel fork → names_block (tag_of_parts rel fork block) ≡ true
 
-  -- The passes claimed all chunks, each once, and dealt with all blocks of these; no put was refused, and no fault was met. The totals are those of what became of the blocks
+  -- The passes claimed all chunks, each once, and dealt with all blocks of these; no put was
+  -- refused, and no fault was met. The totals are those of what became of the blocks
   pub record RewritesFork (ps qs : List PassState) (totals : Totals) : Type 0 where
     pub claimed : List (Claimed Outcome)
     pub listed : length claimed ≡ length ps
@@ -47,14 +50,16 @@ module _ {L G : Type 0} (contents : L → Option Pages) (m : Manager L G) (rel :
     pub all : AreAllClaimed (blocks_in m rel fork) claimed
     pub totals_is : totals ≡ totals_of_rewrite (outcome_totals (items_in_all claimed))
 
-  -- of these passes, the first that didn't deal with all blocks of its chunks met a fault, or its put was refused, as the error says
+  -- of these passes, the first that didn't deal with all blocks of its chunks met a fault, or its
+  -- put was refused, as the error says
   abbrev pub FailsFirst : List PassState → List PassState → JobError → Type 0
   FailsFirst (p ∷ ps) (q ∷ qs) e =
       (MeetsFault contents m rel fork p q e ⊎ PutIsRefused contents m rel fork p q e)
       ⊎ (((c : Claimed Outcome) × RewritesWhole contents m rel fork (blocks_in_all (blocks_in m rel fork) c.chunks) c.items p q) × FailsFirst ps qs e)
   FailsFirst ps qs e = ⊥
 
-  -- why a rewrite ended before its end: of the first of the passes that work that failed; or they dealt with all blocks, and the work of the last one was refused; or there was no memory
+  -- why a rewrite ended before its end: of the first of the passes that work that failed; or they
+  -- dealt with all blocks, and the work of the last one was refused; or there was no memory
   abbrev pub EndsRewrite : List PassState → List PassState → JobError → Type 0
   EndsRewrite ps qs e =
       (e ≡ Memory)

@@ -33,7 +33,8 @@ rule_of rel fork = record {
   rewritten = λ page lsn. with_lsn lsn (rewritten_page page);
 }
 
--- What was done with a block: which one, by which backend, the page that was read and its place, and the place of the write
+-- What was done with a block: which one, by which backend, the page that was read and its place,
+-- and the place of the write
 pub data Outcome : Type 0 where
   unsound : ℕ → Outcome
   kept : ℕ → ℕ → Page → ℕ → Outcome
@@ -113,7 +114,8 @@ is_unput (changed b i p n m) = false
 abbrev pub IsUnput : Outcome → Type 0
 IsUnput o = is_unput o ≡ true
 
--- the record is of a block whose put was refused, and of what the rule makes of the page that was read
+-- the record is of a block whose put was refused, and of what the rule makes of the page that was
+-- read
 abbrev pub TornOf : Rule → List Outcome → TornRecord → Type 0
 TornOf r os x = (k b i n lsn : ℕ) × (p : Page) × (get_elem? os k ≡ some (refused b i p n)) × (lsn ≤ last_position) × (x ≡ record { tag = r.tag b; page = r.rewritten p lsn })
 

@@ -48,7 +48,8 @@ pub record HoldsUntil (frame : ℕ) (calls : List Call) (v w : View) : Type 0 wh
   pub held : (link done frame).content ≡ Exclusive
   pub until : OnlyRises done w
 
--- The view was granted the cleanup lock of the frame that has this packed tag when its calls were those before, and had the lock until they were those after
+-- The view was granted the cleanup lock of the frame that has this packed tag when its calls were
+-- those before, and had the lock until they were those after
 pub record UnderCleanup (number packed : ℕ) (before after : List Call) (v w : View) : Type 0 where
   pub frame : ℕ
   pub asked : View
@@ -71,7 +72,8 @@ AllUnderCleanup r number v w calls [] = Unit {0}
 AllUnderCleanup r number v w calls (o ∷ os) = IfRead o (UnderCleanup number (r.tag (outcome_block o)) calls (calls ++ outcome_calls r o) v w) × AllUnderCleanup r number v w (calls ++ outcome_calls r o) os
 
 module _ {L G : Type 0} (contents : L → Option Pages) (m : Manager L G) where
-  -- What every call of a rewrite leaves of a pass: it is the same one, and its front isn't before the old one
+  -- What every call of a rewrite leaves of a pass: it is the same one, and its front isn't before
+  -- the old one
   pub record GoesOn (p q : PassState) : Type 0 where
     pub belongs : Belongs contents m q
     pub same : SameButTorn p q
@@ -96,7 +98,8 @@ module _ {L G : Type 0} (contents : L → Option Pages) (m : Manager L G) where
     pub unlocked : HasLock Unlocked e.pinned.frame p
     pub others : KeepsOtherLocks e.pinned.frame p q
 
-  -- The put of a page was refused, for this reason, which the pass has seen, and it met that fault, and no other. Its last call is the read of the block, whose page the rule changes
+  -- The put of a page was refused, for this reason, which the pass has seen, and it met that fault,
+  -- and no other. Its last call is the read of the block, whose page the rule changes
   pub record PutFails (tag : Tag) (p q : PassState) (why : InsertError) : Type 0 where
     pub frame : ℕ
     pub page : Page
@@ -157,7 +160,8 @@ module _ {L G : Type 0} (contents : L → Option Pages) (m : Manager L G) (rel :
     pub fault : fault_of_put why ≡ e
     pub fails : PutFails contents m (tag_of_parts rel fork block) p q why
 
-  -- why a worker of a rewrite ends before its end: there was no memory, and it met no fault; or it met this one; or its put was refused
+  -- why a worker of a rewrite ends before its end: there was no memory, and it met no fault; or it
+  -- met this one; or its put was refused
   abbrev pub EndsRewriteFor : PassState → PassState → JobError → Type 0
   EndsRewriteFor p q e = ((e ≡ Memory) × (q.view.met ≡ p.view.met)) ⊎ (MeetsFault contents m rel fork p q e ⊎ PutIsRefused p q e)
 

@@ -36,7 +36,8 @@ pub record IsLsnOf (blocks : Tag → Type 0) (lanes : List (Option Pages)) (tag 
   pub listed : blocks tag
   pub page : ForSome (lane_at lanes tag) (λ pages. IsSomeAnd (pages tag) (IsSoundAt lsn))
 
--- The largest log position of the sound pages of these blocks: no page that is known has a larger one, and it is that of a block, or 0
+-- The largest log position of the sound pages of these blocks: no page that is known has a larger
+-- one, and it is that of a block, or 0
 pub record IsLargestLsn (blocks : Tag → Type 0) (lanes : List (Option Pages)) (largest : ℕ) : Type 0 where
   pub bound : (tag : Tag) (page : List ℕ) → blocks tag → page_in lanes tag ≡ Some page → is_sound_page page ≡ true → lsn_of page ≤ largest
   pub reached : (largest ≡ 0) ⊎ ((tag : Tag) × IsLsnOf blocks lanes tag largest)

@@ -43,7 +43,8 @@ module _ {K : Type 0} (does : ℕ → PassState → PassState → K → K → Re
   DoesUpTo n chunk p q k l (Ok done) = DoesBlocks (blocks_of n chunk) p q k l
   DoesUpTo n chunk p q k l (Err e) = FailsAtBlock n chunk p q k l e
 
-  -- The pass and the task at the end of a chunk of n blocks: all of its blocks were dealt with, by a pass without tokens and from a task that could begin the chunk
+  -- The pass and the task at the end of a chunk of n blocks: all of its blocks were dealt with, by
+  -- a pass without tokens and from a task that could begin the chunk
   pub record IsAtEnd (free : PassState → Type 0) (opens : K → Type 0) (n chunk : ℕ) (q : PassState) (l : K) : Type 0 where
     pub pass : PassState
     pub task : K
@@ -68,14 +69,16 @@ module _ {K : Type 0} (does : ℕ → PassState → PassState → K → K → Re
     DoesChunks [] p q k l = (q ≡ p) × (l ≡ k)
     DoesChunks (c ∷ cs) p q k l = (r : PassState) × (i : K) × (c < chunk_count n) × DoesChunk c p r k i (Ok tt) × DoesChunks cs r q i l
 
-    -- after these chunks: none was left, so that the last number drawn is past them all; or there was no memory to begin with; or the task failed in the chunk that was claimed last
+    -- after these chunks: none was left, so that the last number drawn is past them all; or there
+    -- was no memory to begin with; or the task failed in the chunk that was claimed last
     abbrev pub EndsAfter : List ℕ → List ℕ → PassState → PassState → K → K → Result Unit JobError → Type 0
     EndsAfter whole drawn p q k l (Ok done) = ((past : ℕ) × (chunk_count n ≤ past) × (drawn ≡ whole ++ past ∷ [])) × (q ≡ p) × (l ≡ k)
     EndsAfter whole drawn p q k l (Err e) =
         ((e ≡ Memory) × (drawn ≡ []) × (whole ≡ []) × (q ≡ p) × (l ≡ k))
         ⊎ ((chunk : ℕ) × (chunk < chunk_count n) × (drawn ≡ whole ++ chunk ∷ []) × WorksChunk chunk p q k l (Err e))
 
-    -- Of n blocks, chunks were claimed, these numbers in all, and dealt with one after the other, each to its end; and then the worker ended so
+    -- Of n blocks, chunks were claimed, these numbers in all, and dealt with one after the other,
+    -- each to its end; and then the worker ended so
     pub record WorksChunks (drawn : List ℕ) (p q : PassState) (k l : K) (end : Result Unit JobError) : Type 0 where
       pub whole : List ℕ
       pub pass : PassState

@@ -15,14 +15,16 @@ use log_device::LogDevice;
 use segment_store::BlockLane;
 use std::sync::Wait;
 
-/// What the last pass of a job does while the others work on the blocks, as rounds of a background writer are.
+/// What the last pass of a job does while the others work on the blocks, as rounds of a background
+/// writer are.
 pub trait Beside<L: BlockLane, G: LogDevice> {
     // What its work did, between two states of it and of the pass, and how that ended.
     // A refusal because the log is down, or a page is past its end, raises no count of faults; so
     // if no call failed there may be one still. A job that is Ok says that this work was Ok.
     ghost works: { Manager L G → Self → Self → PassState → PassState → Result Unit FlushError → Type 0 };
 
-    /// Works with the pass, once for a job. It may write pages that are dirty; it reads and puts none.
+    /// Works with the pass, once for a job. It may write pages that are dirty; it reads and puts
+    /// none.
     fn work<R: Wait>(
         &mut self,
         manager: &Manager<L, G>,

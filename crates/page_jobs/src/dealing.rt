@@ -15,7 +15,8 @@ use backend_pass::Pass;
 use chunk_claims::{Claimant, Claims};
 use std::alloc::{AllocError, Global};
 
-/// Each pass becomes a worker, with a seat and a task of its own. The passes' room stays, and the first seat is left with no part.
+/// Each pass becomes a worker, with a seat and a task of its own. The passes' room stays, and the
+/// first seat is left with no part.
 pub(crate) fn deal<K: JobTask>(
     alloc: Global,
     claims: &Claims,

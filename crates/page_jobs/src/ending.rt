@@ -51,7 +51,9 @@ impl From<AllocError> for JobError {
     }
 }
 
-/// What a job counts of the blocks: of a scan and a dump how many there are of each kind, and how many line pointers of each state the used ones have; of a rewrite what became of them, and how many dead line pointers the changed ones had. What a job doesn't count is 0.
+/// What a job counts of the blocks: of a scan and a dump how many there are of each kind, and how
+/// many line pointers of each state the used ones have; of a rewrite what became of them, and how
+/// many dead line pointers the changed ones had. What a job doesn't count is 0.
 #[derive(Clone, Copy, PartialEq, Eq, Debug)]
 pub struct Totals {
     pub blocks: u64,

@@ -1,4 +1,5 @@
-//! What the end of a manager tells of a rewrite. The functions do nothing: their contracts are the laws.
+//! What the end of a manager tells of a rewrite. The functions do nothing: their contracts are the
+//! laws.
 //!
 //! `rewrite_ends` needs a state's laws and history, and no manager, so the work may be divided in
 //! any way. `rewrite_closes` says the same of the devices that are given back. It knows the
@@ -18,15 +19,18 @@ use backend_pass::Manager;
 use log_device::LogDevice;
 use segment_store::BlockLane;
 
-/// What the state that the devices are given back in holds of a rewrite whose calls are in its history, by any rule.
+/// What the state that the devices are given back in holds of a rewrite whose calls are in its
+/// history, by any rule.
 pub fn rewrite_ends()
-    // With any end a block has at most one entry, the image of its page at the start, and its lane holds one of the two pages, or its last write failed.
+    // With any end a block has at most one entry, the image of its page at the start, and its lane
+    // holds one of the two pages, or its last write failed.
     ensures any { (r : Rule) (n : ℕ) (s : State) (calls : List Call) (ps : List BackendCalls)
         → Laws s → IsHistory s.known s.origin s.opened_sizes s.log calls
         → Rewrites r n s.known s.origin calls ps
         → HasRewrites r n s.known s.origin s.log × LanesHoldEither s }
 
-    // After one of all blocks, and a checkpoint after it, the log has exactly the entries of the changed blocks, and the lanes hold the rewritten relation.
+    // After one of all blocks, and a checkpoint after it, the log has exactly the entries of the
+    // changed blocks, and the lanes hold the rewritten relation.
     ensures all { (r : Rule) (n : ℕ) (s : State) (calls : List Call) (ps : List BackendCalls) (upto : ℕ)
         → Finishes r n s calls ps upto → IsResult r n s }
 {}
@@ -34,10 +38,13 @@ pub fn rewrite_ends()
 /// What the devices hold that `Manager::close` gives back after `rewrite`, if no other page was
 /// put.
 pub fn rewrite_closes<L: BlockLane, G: LogDevice>(_manager: &Manager<L, G>)
-    // With any end a block has at most one entry, and its lane holds its page from before or the rewritten one, or its last write failed.
+    // With any end a block has at most one entry, and its lane holds its page from before or the
+    // rewritten one, or its last write failed.
     ensures any { ClosesEither (devices L.BlockLane G.LogDevice) _manager.now }
 
-    // After a whole rewrite, and a later checkpoint that is the last of its pass, the log has exactly the entries of the changed blocks, and the lanes hold the rewritten relation, but for blocks whose last write failed.
+    // After a whole rewrite, and a later checkpoint that is the last of its pass, the log has
+    // exactly the entries of the changed blocks, and the lanes hold the rewritten relation, but for
+    // blocks whose last write failed.
     ensures all { ClosesRewritten (devices L.BlockLane G.LogDevice) _manager.now }
 
     // A log that has room for a record of each block is not full.

@@ -3,7 +3,9 @@ ghost use Rattle.std.specs.Prelude.{◌≡◌};
 
 use core::mem::replace_with;
 
-/// Takes a value and gives one back in its place. `replace_with` says nothing of what its closure writes through a `&mut` that it captures, so the closure there captures a value of a type parameter.
+/// Takes a value and gives one back in its place. `replace_with` says nothing of what its closure
+/// writes through a `&mut` that it captures, so the closure there captures a value of a type
+/// parameter.
 trait Change<T> {
     type Output;
 
@@ -49,7 +51,8 @@ fn replace_by<T, S: Change<T, Output = A> + Drop, A>(dest: &mut T, s: S) -> A
     )
 }
 
-/// Takes the value out of its place for `f`, and puts there what `f` gives back. The caller learns what `f` wrote through its captures.
+/// Takes the value out of its place for `f`, and puts there what `f` gives back. The caller learns
+/// what `f` wrote through its captures.
 pub(crate) fn lend_value<T, R, F: FnMut(T) -> (T, R)>(dest: &mut T, f: &mut F) -> R
     requires { F.pre f.old dest.old }
     ensures { F.step f.old dest.old (dest.new, result) f.new }

@@ -1,8 +1,8 @@
-//! Jobs over all blocks of a fork, by several backends at once: [`scan`], [`dump`], [`rewrite`], [`survey`]. Each
-//! backend works in a thread of its own, on the chunks of blocks that it claims.
+//! Jobs over all blocks of a fork, by several backends at once: [`scan`], [`dump`], [`rewrite`],
+//! [`survey`]. Each backend works in a thread of its own, on the chunks of blocks that it claims.
 //!
-//! Start a manager with one pass more than there are to be workers, and hand all passes to the job: the last one works
-//! beside them, at what a [`Beside`] says. The passes come back in [`JobEnd`].
+//! Start a manager with one pass more than there are to be workers, and hand all passes to the job:
+//! the last one works beside them, at what a [`Beside`] says. The passes come back in [`JobEnd`].
 #![tactic(auto)]
 
 mod beside;

@@ -27,7 +27,8 @@ use std::sync::{Mutex, Wait};
 use std::thread;
 use text_window::{Delivery, Naming, Shares, Window};
 
-/// Blocks are read and printed: what is printed of the chunk that is read now, the totals so far, and the worker's shares of what it delivered.
+/// Blocks are read and printed: what is printed of the chunk that is read now, the totals so far,
+/// and the worker's shares of what it delivered.
 #[derive(Drop)]
 pub(crate) struct Lister<N: Naming, A: Ledger> {
     pub(crate) lines: Lines,
@@ -63,7 +64,8 @@ impl<N: Naming, A: Ledger> Lister<N, A> {
     }
 }
 
-/// Delivers the text of a chunk to the window, and waits while the window has no room for it; or finds that the job has stopped.
+/// Delivers the text of a chunk to the window, and waits while the window has no room for it; or
+/// finds that the job has stopped.
 fn deliver_text<N: Naming, A: Ledger, O: Sink, R: Wait>(
     rt: &R,
     window: &Mutex<Window<N, A, O>>,

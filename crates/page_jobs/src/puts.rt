@@ -42,8 +42,8 @@ fn end_of_stopper<K>(workers: &[Worker<K>], stopped_by: Option<u32>) -> Result<(
     }
 }
 
-/// How the workers ended: as the one that stopped the job, or else as the first that failed. A worker
-/// that another one stopped ends as out of memory, which isn't why the job ends.
+/// How the workers ended: as the one that stopped the job, or else as the first that failed. A
+/// worker that another one stopped ends as out of memory, which isn't why the job ends.
 pub(crate) fn end_of_workers<K>(
     workers: &[Worker<K>],
     stopped_by: Option<u32>,
@@ -84,7 +84,8 @@ fn put_totals<O: Sink>(alloc: Global, totals: ScanTotals, out: &mut O) -> Result
     Ok(())
 }
 
-/// Ends a job: as its output failed; or as a worker did; or as the work beside them; or else with its totals, whose line is put.
+/// Ends a job: as its output failed; or as a worker did; or as the work beside them; or else with
+/// its totals, whose line is put.
 pub(crate) fn put_end<O: Sink>(
     alloc: Global,
     stop: Option<Stop>,

@@ -15,7 +15,8 @@ use segment_store::BlockLane;
 use std::sync::Wait;
 use std::thread;
 
-/// Whether a read was refused since each frame was pinned, which doesn't last: each worker gives its pin up after its read.
+/// Whether a read was refused since each frame was pinned, which doesn't last: each worker gives
+/// its pin up after its read.
 fn is_crowding(why: &ReadError) -> bool
     ensures { result ≡ is_crowding why.now }
 {

@@ -61,7 +61,10 @@ fn end_rewrite(
     Ok(Totals::of_rewrite(sum_rewritten(workers)))
 }
 
-/// Rewrites the blocks of a fork, each under its cleanup lock: the page of a block that the rule changes is put into the log and into its frame (`lazy_vacuum_heap_page`). All passes are given, of which all but the last work, each on the chunks of eight blocks that it claims, and the last one does other work beside them; all are given back.
+/// Rewrites the blocks of a fork, each under its cleanup lock: the page of a block that the rule
+/// changes is put into the log and into its frame (`lazy_vacuum_heap_page`). All passes are given,
+/// of which all but the last work, each on the chunks of eight blocks that it claims, and the last
+/// one does other work beside them; all are given back.
 pub fn rewrite<
     L: BlockLane + Send,
     G: LogDevice + Send,

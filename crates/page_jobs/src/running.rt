@@ -26,7 +26,8 @@ use std::sync::Wait;
 use std::thread;
 use std::thread::Threads;
 
-/// The workers of a job, once all have ended; the pass that worked beside them, and how its work ended; and the room of the passes that the job was given.
+/// The workers of a job, once all have ended; the pass that worked beside them, and how its work
+/// ended; and the room of the passes that the job was given.
 pub(crate) struct Ran<K> {
     pub(crate) workers: Vec<Worker<K>>,
     pub(crate) beside_end: Result<(), JobError>,
@@ -159,7 +160,9 @@ fn deal_out<K: JobTask>(
     })
 }
 
-/// Runs a job to its workers' ends: all passes but the last one work, each on the chunks that it claims, and the last one does other work beside them. If memory runs out, the passes are given back.
+/// Runs a job to its workers' ends: all passes but the last one work, each on the chunks that it
+/// claims, and the last one does other work beside them. If memory runs out, the passes are given
+/// back.
 pub(crate) fn run_job<
     L: BlockLane + Send,
     G: LogDevice + Send,

@@ -56,7 +56,8 @@ fn first_front(passes: &[Pass]) -> Lsn
     passes[0].front()
 }
 
-/// Lists the blocks of a fork: all passes but the last work, and the texts of the chunks go out through a window, which has the sink in the meantime.
+/// Lists the blocks of a fork: all passes but the last work, and the texts of the chunks go out
+/// through a window, which has the sink in the meantime.
 fn list_over<
     N: Naming + Send + Sync,
     A: Ledger + Send + Sync,
@@ -231,7 +232,10 @@ fn list_fork<
     end
 }
 
-/// Scans the blocks of a fork: a line for each in the order of blocks, then one of their totals. Lines are put while later blocks are still being read. All passes are given, of which all but the last work, each on the chunks of eight blocks that it claims, and the last one does other work beside them; all are given back.
+/// Scans the blocks of a fork: a line for each in the order of blocks, then one of their totals.
+/// Lines are put while later blocks are still being read. All passes are given, of which all but
+/// the last work, each on the chunks of eight blocks that it claims, and the last one does other
+/// work beside them; all are given back.
 pub fn scan<
     L: BlockLane + Send,
     G: LogDevice + Send,
@@ -300,7 +304,8 @@ pub fn scan<
     )
 }
 
-/// Dumps the blocks of a fork: a scan, with a line for each line pointer of a page after that of its block.
+/// Dumps the blocks of a fork: a scan, with a line for each line pointer of a page after that of
+/// its block.
 pub fn dump<
     L: BlockLane + Send,
     G: LogDevice + Send,

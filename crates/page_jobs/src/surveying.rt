@@ -1,4 +1,5 @@
-//! The survey of a relation's lanes: the largest log position of their pages, before a manager is started over them.
+//! The survey of a relation's lanes: the largest log position of their pages, before a manager is
+//! started over them.
 ghost use Rattle.std.specs.Prelude.{◌≡◌, ◌+◌, ◌<◌, ◌≤◌, IfErr, IfOk, IfSome, IsSome, OnOk, false, length, map, sum_by, true};
 ghost use Rattle.std.specs.Option.{ForSome};
 ghost use Rattle.block_tag.specs.Catalogue.{blocks_at};
@@ -109,9 +110,12 @@ fn survey_relation<L: BlockLane>(
     Ok(largest)
 }
 
-/// Reads each block of the catalogue once, from the lane of its tag, and gives the largest log position of the sound pages among them; 0 if there is none, and in the order of the relations, of the forks and of the blocks. A log for these lanes begins there, or later.
+/// Reads each block of the catalogue once, from the lane of its tag, and gives the largest log
+/// position of the sound pages among them; 0 if there is none, and in the order of the relations,
+/// of the forks and of the blocks. A log for these lanes begins there, or later.
 ///
-/// Of a block whose lane's contents are not known the page is what was read. At the first read that fails the survey ends.
+/// Of a block whose lane's contents are not known the page is what was read. At the first read that
+/// fails the survey ends.
 pub fn survey<L: BlockLane>(
     lanes: &mut [L],
     catalog: &Catalog,

@@ -31,7 +31,8 @@ use segment_store::BlockLane;
 use std::alloc::{AllocError, Global};
 use std::sync::Wait;
 
-/// What a worker works with: room for the page that it reads and for the one that a rewrite makes of it, and a ring.
+/// What a worker works with: room for the page that it reads and for the one that a rewrite makes
+/// of it, and a ring.
 #[derive(Drop)]
 pub(crate) struct Buffers {
     pub(crate) page: Page,
@@ -47,7 +48,8 @@ pub(crate) trait JobTask {
     // So many workers can still begin.
     ghost deals: { ℕ → Self → Type 0 };
 
-    // The third one is what the job's task, the first one, is after a worker gave the second one back.
+    // The third one is what the job's task, the first one, is after a worker gave the second one
+    // back.
     ghost joins: { Self → Self → Self → Type 0 };
 
     /// The task of a worker that begins: it has nothing to show yet.
@@ -62,12 +64,15 @@ pub(crate) trait JobTask {
         ensures joins { joins self.old other self.new };
 }
 
-/// What a worker does with a block, and with a chunk once all its blocks are worked on. `L` and `G` are the manager's lanes and log, and all workers of a job share a `W`.
+/// What a worker does with a block, and with a chunk once all its blocks are worked on. `L` and `G`
+/// are the manager's lanes and log, and all workers of a job share a `W`.
 pub(crate) trait BlockTask<L: BlockLane, G: LogDevice, W> {
-    // What was done with a block of the fork, between two states of the pass and of the task, and how that ended.
+    // What was done with a block of the fork, between two states of the pass and of the task, and
+    // how that ended.
     ghost does: { Manager L G → ℕ → Fork → ℕ → PassState → PassState → Self → Self → Result Unit JobError → Type 0 };
 
-    // What was done at the end of a chunk, whose blocks left the pass so, between two states of the task, and how that ended.
+    // What was done at the end of a chunk, whose blocks left the pass so, between two states of the
+    // task, and how that ended.
     ghost closes: { ℕ → PassState → Self → Self → Result Unit JobError → Type 0 };
 
     // It can begin a chunk of the fork.

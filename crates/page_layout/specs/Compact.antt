@@ -3,7 +3,8 @@ use Rattle.std.specs.Prelude.{◌≡◌, ℕ, suc, zero, ◌+◌, ◌-◌, ◌*�
 use Rattle.page_layout.specs.Fields.{item_count}
 use Rattle.page_layout.specs.Rewritten.{is_normal, length_at, lower_of, new_offset, offset_at, places_of, room_at, room_of_items, special_of, upper_of}
 
--- a page that isn't skipped: its items stand between the line pointers and the end, and have room there when rounded up
+-- a page that isn't skipped: its items stand between the line pointers and the end, and have room
+-- there when rounded up
 pub record IsCompactable (page : List ℕ) : Type 0 where
   pub size : length page ≡ 8192
   pub special : special_of page ≡ 8192
@@ -13,7 +14,8 @@ pub record IsCompactable (page : List ℕ) : Type 0 where
   pub inside : (place : ℕ) → place < item_count page → is_normal page place ≡ true → (upper_of page ≤ offset_at page place) × (offset_at page place + length_at page place ≤ 8192)
   pub room : room_of_items page + lower_of page ≤ 8192
 
--- a number that is the smaller the higher the item stands, and among items at one offset the smaller the smaller its place
+-- a number that is the smaller the higher the item stands, and among items at one offset the
+-- smaller the smaller its place
 unfoldable pub key_at : List ℕ → ℕ → ℕ
 key_at page place = (32767 - offset_at page place) * 65536 + place
 

@@ -1,4 +1,5 @@
--- The fields of a page, as PostgreSQL's "Database Page Layout" has them. Numbers have their lowest byte first.
+-- The fields of a page, as PostgreSQL's "Database Page Layout" has them. Numbers have their lowest
+-- byte first.
 use Rattle.std.specs.Prelude.{ℕ, ◌+◌, ◌-◌, ◌*◌, ◌/◌, ◌%◌, ◌^◌, List, ◌++◌, drop}
 use Rattle.byteorder.specs.Endian.{little_bytes, little_number}
 use Rattle.page_layout.specs.declared.page.Header.{Header}

@@ -50,7 +50,8 @@ places_of page = range_with_len 0 (item_count page)
 unfoldable pub room_of_items : List ℕ → ℕ
 room_of_items page = sum_by (room_at page) (places_of page)
 
--- whether another item stands at or above this one: at a higher offset, or at the same one under no larger number
+-- whether another item stands at or above this one: at a higher offset, or at the same one under no
+-- larger number
 unfoldable pub is_at_or_above : List ℕ → ℕ → ℕ → Bool
 is_at_or_above page place other =
     nat_lt (offset_at page place) (offset_at page other) || (offset_at page other == offset_at page place && nat_le other place)
@@ -65,8 +66,9 @@ abbrev pub is_outside : List ℕ → ℕ → Bool
 is_outside page place =
     is_normal page place && (nat_lt (offset_at page place) (upper_of page) || nat_lt (special_of page) (offset_at page place + length_at page place))
 
--- whether the page is left alone: it has a checksum, a special space or a lower end within the header, an item reaches out of the
--- items' space, or the items have no room after the line pointers
+-- whether the page is left alone: it has a checksum, a special space or a lower end within the
+-- header, an item reaches out of the items' space, or the items have no room after the line
+-- pointers
 unfoldable pub is_skipped : List ℕ → Bool
 is_skipped page =
     not (number_at 8 2 page == 0) || (not (special_of page == 8192) || (nat_lt (lower_of page) 24 || (list_any (is_outside page) (places_of page) || nat_lt (special_of page - lower_of page) (room_of_items page))))
@@ -79,7 +81,8 @@ left_of_first page (suc n) = if stays page n then suc n else left_of_first page 
 unfoldable pub pointers_left : List ℕ → ℕ
 pointers_left page = left_of_first page (item_count page)
 
--- the line pointer at a place: a normal one has its item's new offset, a redirect is as before, all others are unused
+-- the line pointer at a place: a normal one has its item's new offset, a redirect is as before, all
+-- others are unused
 unfoldable pub new_pointer : List ℕ → ℕ → ℕ
 new_pointer page place =
     if is_normal page place then new_offset page place + 2 ^ 15 + length_at page place * 2 ^ 17 else (if is_redirect page place then pointer_at page place else 0)

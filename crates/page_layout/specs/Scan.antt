@@ -36,7 +36,8 @@ pointers_of Invalid = no_pointers
 pointers_of New = no_pointers
 pointers_of (Used u) = u.pointers
 
--- how many pages there are of each kind, and how many line pointers of each state the used ones have
+-- how many pages there are of each kind, and how many line pointers of each state the used ones
+-- have
 abbrev pub totals_of_summaries : List PageSummary → ScanTotals
 totals_of_summaries summaries = record {
   blocks = length summaries;

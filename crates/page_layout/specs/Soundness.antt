@@ -8,8 +8,8 @@ use Rattle.page_layout.specs.Fields.{header_of}
 unfoldable pub is_new_page : List ℕ → Bool
 is_new_page page = list_all (λ b. b == 0) page
 
--- the upper end isn't 0, no flag but 1, 2 and 4 is set, and lower end, upper end, special space and the
--- page's end stand in this order, the special space on a multiple of 8
+-- the upper end isn't 0, no flag but 1, 2 and 4 is set, and lower end, upper end, special space and
+-- the page's end stand in this order, the special space on a multiple of 8
 abbrev pub is_sound_header : Header → Bool
 is_sound_header h =
     not (h.upper == 0) && (nat_lt h.flags 8 && (nat_le h.lower h.upper && (nat_le h.upper h.special && (nat_le h.special 8192 && h.special % 8 == 0))))

@@ -13,8 +13,8 @@ fn hex_digit(n: u8) -> u8
     if n < 10 { b'0' + n } else { b'a' + (n - 10) }
 }
 
-/// Writes bytes in lower-case hexadecimal. The loop writes by index, not by appending, so it becomes
-/// vector code.
+/// Writes bytes in lower-case hexadecimal. The loop writes by index, not by appending, so it
+/// becomes vector code.
 fn write_hex(bytes: &[u8], out: &mut [u8])
     requires { length out.old ≡ 2 * length bytes.now }
     ensures { out.new ≡ hex_of bytes.now }

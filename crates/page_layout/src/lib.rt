@@ -1,9 +1,9 @@
 //! Pages of 8192 bytes, as PostgreSQL's "Database Page Layout" has them.
 //!
-//! A [`Page`] has [`Header`] and [`Item`]s; `is_sound` tests what `PageIsVerifiedExtended` does, but for
-//! the checksum. [`rewritten`] takes the dead line pointers out, as a vacuum does
-//! (`lazy_vacuum_heap_page`). [`append_line`] and [`dump_lines`] are the text that a scan and a dump print
-//! of a page.
+//! A [`Page`] has [`Header`] and [`Item`]s; `is_sound` tests what `PageIsVerifiedExtended` does,
+//! but for the checksum. [`rewritten`] takes the dead line pointers out, as a vacuum does
+//! (`lazy_vacuum_heap_page`). [`append_line`] and [`dump_lines`] are the text that a scan and a
+//! dump print of a page.
 #![tactic(auto)]
 
 mod dump;

@@ -138,8 +138,9 @@ impl Page {
         self.bytes.copy_from_slice(bytes);
     }
 
-    /// Reads the page from a file, from this byte on. After an error its bytes are unspecified, as if the
-    /// file ends first. It has as many as ever: which ones a file gives is known to no contract.
+    /// Reads the page from a file, from this byte on. After an error its bytes are unspecified, as
+    /// if the file ends first. It has as many as ever: which ones a file gives is known to no
+    /// contract.
     pub fn read_at<F: FileExt>(&mut self, file: &F, offset: u64) -> io::Result<()>
         ensures { length self.new ≡ 8192 }
     {

@@ -1,4 +1,5 @@
-//! What a scan tells of a page: that it isn't sound, that it is new, or its header and line pointers.
+//! What a scan tells of a page: that it isn't sound, that it is new, or its header and line
+//! pointers.
 ghost use Rattle.std.specs.Prelude.{◌≡◌, ◌≤◌, ◌<◌, ◌+◌, true};
 ghost use Rattle.page_layout.specs.Fields.{item_count};
 ghost use Rattle.page_layout.specs.Soundness.{is_sound_page};

@@ -8,7 +8,8 @@ use crate::summary::{PageSummary, PointerCounts, UsedPage};
 use std::alloc::Global;
 use std::fmt;
 
-/// A log position, which prints as its high and its low half in upper-case hexadecimal (`LSN_FORMAT_ARGS`).
+/// A log position, which prints as its high and its low half in upper-case hexadecimal
+/// (`LSN_FORMAT_ARGS`).
 #[derive(Clone, Copy, PartialEq, Eq, Debug)]
 pub struct Position(pub Lsn);
 

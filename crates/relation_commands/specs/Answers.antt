@@ -118,7 +118,8 @@ pub record CountsLater (old new : FaultCounts) : Type 0 where
   pub logs : old.logs ≤ new.logs
   pub outs : old.outs ≤ new.outs
 
--- what is left of the files by a listing: no path and no log changed, and no further block's last write failed
+-- what is left of the files by a listing: no path and no log changed, and no further block's last
+-- write failed
 pub record ListingKeeps (l : ListingAsked) (old new : HostFiles) : Type 0 where
   pub paths : new.paths ≡ old.paths
   pub logs : new.logs ≡ old.logs
@@ -159,7 +160,8 @@ RefusesWords Memory = Unit {0}
 RefusesWords _ = ⊥
 
 -- A rewrite could pass the last log position: with this many pages of this largest position; or a
--- page is past the log's end; or the log is full. The last two don't happen if the relation is known
+-- page is past the log's end; or the log is full. The last two don't happen if the relation is
+-- known
 abbrev pub IsOverLimit : Option (List Page) → PositionLimit → Type 0
 IsOverLimit known (OfPages largest blocks) = PassesLimit largest blocks × IfSome known (λ pages. (largest ≡ largest_lsn pages) × (blocks ≡ length pages))
 IsOverLimit known (OfPage lsn end) = (end < lsn) × IfSome known (λ pages. ⊥)
@@ -208,7 +210,8 @@ IsRefusal a known logs old new (BadLog path) =
     (log_path_of a ≡ Some path.now) × IsThere known (path_of a) × HasBadLog a logs
     × ¬ IsCrowded (options_of a) × (new.reads ≡ old.reads)
 
--- A command that was done: it wasn't crowded, the relation was there, its positions stay below the last one, the log of a recovery was there with a good head, and no count rose
+-- A command that was done: it wasn't crowded, the relation was there, its positions stay below the
+-- last one, the log of a recovery was there with a good head, and no count rose
 pub record IsDone (a : Asked) (known : Option Paths) (logs : Option Logs) (old new : FaultCounts) : Type 0 where
   pub roomy : ¬ IsCrowded (options_of a)
   pub there : IsThere known (path_of a)
@@ -266,7 +269,8 @@ pub record LimitIf (a : Asked) (known : Option Paths) (reads reads_now status : 
   pub always : is_rewriting a ≡ true → ¬ IsCrowded (options_of a)
       → IfSome known (λ paths. IsThere (Some paths) (path_of a) → ArePastLimit (pages_asked a paths) → (status ≡ 9) ⊎ ((status ≡ 8) ⊎ ((status ≡ 4) × Rose reads reads_now)))
 
--- the faults of writing are those of a rewrite and of a recovery alone, those of the log of a rewrite alone, and those of reading of a relation at a path
+-- the faults of writing are those of a rewrite and of a recovery alone, those of the log of a
+-- rewrite alone, and those of reading of a relation at a path
 pub record FaultIf (request : Option Asked) (old new : FaultCounts) (status : ℕ) : Type 0 where
   pub reads : status ≡ 4 → Rose old.reads new.reads × IsSomeAnd request (λ a. IsSome (path_of a))
   pub writes : status ≡ 5 → Rose old.writes new.writes × IsSomeAnd request (λ a. is_writing a ≡ true)
@@ -309,7 +313,8 @@ IsComplete a known logs old new status = ¬ IsCrowded (options_of a)
     → IsKnownThere known (path_of a) → IsKnownLog a logs → HasPositionsAt a known
     → new ≡ old → CountsBelowLast old → (status ≡ 0) ⊎ (status ≡ 8)
 
--- the text of a status, which the request, the position limit and the path of a file that is missing make whole
+-- the text of a status, which the request, the position limit and the path of a file that is
+-- missing make whole
 abbrev pub status_text : Option Asked → PositionLimit → List ℕ → ℕ → List ℕ
 status_text None limit missing status = if status == 1 then usage_text else codes "out of memory"
 status_text (Some a) limit missing status =
@@ -332,7 +337,8 @@ status_line request limit missing status =
 abbrev pub Said : List ℕ → Option (List ℕ) → Option (List ℕ) → ℕ → ℕ → Type 0
 Said text old new faults faults_now = (result : Result Unit Failed) × Puts text old new result × HasCause faults faults_now result
 
--- The line of the status was said; that of status 9 with a position limit that was passed, that of status 3 with the path of a file that isn't there
+-- The line of the status was said; that of status 9 with a position limit that was passed, that of
+-- status 3 with the path of a file that isn't there
 pub record SaysStatus (request : Option Asked) (known : Option Paths) (logs : Option Logs) (old new : Option (List ℕ)) (faults faults_now status : ℕ) : Type 0 where
   pub limit : PositionLimit
   pub passed : status ≡ 9 → IsSomeAnd request (λ a. IsOverLimit (option_map (pages_asked a) known) limit)

@@ -41,7 +41,8 @@ pub record SweepsPast (lanes front : ℕ) (v : View) : Type 0 where
   pub past : front ≤ upto
   pub swept : HasSwept lanes upto v
 
--- A sound page that the lane of a block can have held as the table was opened has a position past the log's end, which wasn't before one that the view had seen
+-- A sound page that the lane of a block can have held as the table was opened has a position past
+-- the log's end, which wasn't before one that the view had seen
 pub record IsPastEnd {L G : Type 0} (contents : L → Option Pages) (t : FrameTable L G) (v : View) (lsn end : ℕ) : Type 0 where
   pub tag : Tag
   pub named : names_block tag ≡ true
@@ -82,7 +83,8 @@ abbrev pub LastMeets : {L G : Type 0} → (L → Option Pages) → FrameTable L 
 LastMeets contents t ps qs e = (p q : PassState) → get_elem? ps (length ps - 1) ≡ some p → get_elem? qs (length ps - 1) ≡ some q → PassMeets contents t p.view q.view e
 
 module _ {L G : Type 0} (contents : L → Option Pages) (m : Manager L G) (fork : Fork) where
-  -- The job ended early, for this reason, and nothing was done after it; or it was whole, and the checkpoint was refused
+  -- The job ended early, for this reason, and nothing was done after it; or it was whole, and the
+  -- checkpoint was refused
   abbrev pub EndsEarly : List PassState → List PassState → List PassState → RewriteError → Type 0
   EndsEarly ps qs zs e =
       ((why : JobError) × (e ≡ rewrite_error why) × (zs ≡ qs) × EndsRewrite contents m 0 fork ps qs why)
@@ -90,7 +92,8 @@ module _ {L G : Type 0} (contents : L → Option Pages) (m : Manager L G) (fork 
       × ((counts : Totals) × RewritesFork contents m 0 fork (workers_in ps) (workers_in qs) counts))
 
   module _ (rounds : ℕ) where
-    -- The passes `ps`, which were `qs` after the job, rewrote all blocks, beside which the last one made so many rounds, and then, as `zs`, have stored what was logged; none met a fault
+    -- The passes `ps`, which were `qs` after the job, rewrote all blocks, beside which the last one
+    -- made so many rounds, and then, as `zs`, have stored what was logged; none met a fault
     pub record StoresWhole (ps qs zs : List PassState) (totals : RewriteTotals) : Type 0 where
       pub counts : Totals
       pub all : RewritesFork contents m 0 fork (workers_in ps) (workers_in qs) counts

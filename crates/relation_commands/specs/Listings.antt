@@ -25,7 +25,8 @@ pub record LeavesLanes {L : Type 0} (contents : L → Option Pages) (failed : L 
       → (block : ℕ) → block < blocks → mark_in (map failed lanes') (tag_at fork block) ≡ false
   pub writes : sum_by write_faults lanes' ≡ 0
 
--- No block of the relation at a path came to those whose last write failed; at all other paths these are as they were
+-- No block of the relation at a path came to those whose last write failed; at all other paths
+-- these are as they were
 pub record NoneFails (seg_blocks : ℕ) (paths : Paths) (path : List ℕ) (old new : PathMarks) : Type 0 where
   pub others : (other : List ℕ) → bytes_eq other path ≡ false → new other ≡ old other
   pub here : (block : ℕ) → block < length (relation_of seg_blocks (paths path)) → new path block ≡ true → old path block ≡ true

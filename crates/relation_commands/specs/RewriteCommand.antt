@@ -1,4 +1,5 @@
--- The steps of a rewrite of a host's relation: the survey, the log, the rewrite, and what is printed.
+-- The steps of a rewrite of a host's relation: the survey, the log, the rewrite, and what is
+-- printed.
 use Rattle.std.specs.Prelude.{◌≡◌, ◌≢◌, ◌⊎◌, ℕ, ◌+◌, ◌*◌, ◌%◌, ◌<◌, ◌≤◌, List, [], All, length, map, sum_by, Option, Some, None, IfSome, Result, Ok, Err, MatchResult, option_map}
 use Rattle.log_device.specs.Faults.{Rose}
 use Rattle.segment_store.specs.Contents.{Marks, Pages, no_marks}
@@ -20,7 +21,8 @@ use Rattle.relation_commands.specs.Rewriting.{ArePages, HavePages}
 use Rattle.relation_commands.specs.Status.{rewrite_tool_error, status_of_error}
 
 module _ {L : Type 0} (contents : L → Option Pages) where
-  -- why a survey says of no position that the log begins there, by the faults that the lanes then have
+  -- why a survey says of no position that the log begins there, by the faults that the lanes then
+  -- have
   abbrev pub IsSurveyRefusal : RelationFork → List L → ℕ → RewriteError → Type 0
   IsSurveyRefusal relation lanes faults ReadFault = 0 < faults
   IsSurveyRefusal relation lanes faults Memory = faults ≡ 0

@@ -51,7 +51,8 @@ files_in contents failed logs writes faults host =
 abbrev pub BecomesOf : Option HostFiles → Option HostFiles → (HostFiles → HostFiles → Type 0) → Type 0
 BecomesOf old new Leaves = IfSome old (λ files. IsSomeAnd new (Leaves files))
 
--- the relation that was opened has these pages as its blocks; all its other bytes, and all other paths, are as they were
+-- the relation that was opened has these pages as its blocks; all its other bytes, and all other
+-- paths, are as they were
 abbrev pub with_blocks : OpenAt → List Page → Paths → Paths
 with_blocks at pages paths = λ path. if bytes_eq path at.path then restored at.seg_blocks (paths path) pages else paths path
 
@@ -118,7 +119,8 @@ pub data RewriteLeaves (r : LoggedAsked) (old new : HostFiles) : Type 0 where
   log_opened : BeginsHead r old new → RewriteLeaves r old new
   rewrote : BeginsLog r old new → RewriteLeaves r old new
 
--- The rewrite was done: the relation is the rewritten one, the file is that of its log, and no block's last write failed
+-- The rewrite was done: the relation is the rewritten one, the file is that of its log, and no
+-- block's last write failed
 pub record IsRewrittenAt (r : LoggedAsked) (old new : HostFiles) : Type 0 where
   pub after : List Page
   pub file : StoredLog
@@ -126,7 +128,8 @@ pub record IsRewrittenAt (r : LoggedAsked) (old new : HostFiles) : Type 0 where
   pub rewritten : IsRewrittenFile main_rule (names_of (fork_at r old.paths)) (log_base (pages_at r old.paths)) (pages_at r old.paths) after file
   pub unfailed : (block : ℕ) → block < length (pages_at r old.paths) → new.failed r.path block ≡ false
 
--- What a rewrite leaves by its status: nothing is written before the log is opened, which no refusal of the words, the path or the positions is
+-- What a rewrite leaves by its status: nothing is written before the log is opened, which no
+-- refusal of the words, the path or the positions is
 pub record RewritesFiles (r : LoggedAsked) (status : ℕ) (old new : HostFiles) : Type 0 where
   pub any : RewriteLeaves r old new
   pub done : status ≡ 0 → IsRewrittenAt r old new

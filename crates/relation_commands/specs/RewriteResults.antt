@@ -28,7 +28,8 @@ pub record HasImages (r : Rule) (pages : List Page) (log : Log) : Type 0 where
   pub each : (k : ℕ) (e : Entry) → get_elem? log.entries k ≡ some e → IsImageOf r pages e
   pub one : (j k tag : ℕ) (d e : Entry) → IsEntryOf log.entries tag j d → IsEntryOf log.entries tag k e → j ≡ k
 
--- These are the first bytes of the record that would be the log's next one, of such an image, whose block has no entry; `names` is how the log names a block
+-- These are the first bytes of the record that would be the log's next one, of such an image, whose
+-- block has no entry; `names` is how the log names a block
 pub record BeginsNext (r : Rule) (names : ℕ → List ℕ) (pages : List Page) (log : Log) (bytes : List ℕ) : Type 0 where
   pub entry : Entry
   pub starts : entry.start ≡ log_end log
@@ -38,7 +39,8 @@ pub record BeginsNext (r : Rule) (names : ℕ → List ℕ) (pages : List Page) 
   pub more : List ℕ
   pub begins : bytes ++ more ≡ record_bytes names entry
 
--- The bytes of the log's file begin with those of the log, and what a failure left after them begins such a record
+-- The bytes of the log's file begin with those of the log, and what a failure left after them
+-- begins such a record
 pub record BeginsWith (r : Rule) (names : ℕ → List ℕ) (pages : List Page) (log : Log) (file : StoredLog) : Type 0 where
   pub rest : List ℕ
   pub is_bytes : file.bytes ≡ log_bytes names log ++ rest
@@ -49,7 +51,8 @@ pub record BeginsWith (r : Rule) (names : ℕ → List ℕ) (pages : List Page) 
 abbrev pub IsDurable : Log → StoredLog → Entry → Type 0
 IsDurable log file e = head_size + end_of e ≤ log.base + file.synced
 
--- The log has an entry of the block, durable in its file, whose page is the new one: what the rule makes of the old one
+-- The log has an entry of the block, durable in its file, whose page is the new one: what the rule
+-- makes of the old one
 pub record HasDurableEntry (r : Rule) (log : Log) (file : StoredLog) (block : ℕ) (old new : Page) : Type 0 where
   pub made : HasEntry log (r.tag block)
   pub entered : IsPageEntry made.entry (r.tag block) new
@@ -60,7 +63,8 @@ pub record HasDurableEntry (r : Rule) (log : Log) (file : StoredLog) (block : �
 abbrev pub AreFull : List Page → Type 0
 AreFull pages = All (λ page. length page ≡ 8192) pages
 
--- What any end of a rewrite leaves of the pages `before` and of the log: of a block whose last write didn't fail the page is as before, or that of its entry
+-- What any end of a rewrite leaves of the pages `before` and of the log: of a block whose last
+-- write didn't fail the page is as before, or that of its entry
 pub record LeavesEither (r : Rule) (names : ℕ → List ℕ) (base : ℕ) (before after : List Page) (failed : ℕ → Bool) (file : StoredLog) : Type 0 where
   pub log : Log
   pub law : LogLaw log
@@ -82,7 +86,9 @@ pub record LeavesEither (r : Rule) (names : ℕ → List ℕ) (base : ℕ) (befo
 abbrev pub after_rewrite : Page → Page
 after_rewrite page = if is_changed_outcome (page_rewrite_of page) then rewritten_page page else page
 
--- What a whole rewrite leaves: the file is that of the log, which has exactly one entry of each block that the rule changes; such a block has the page of its entry, which is durable, and any other block its page as before
+-- What a whole rewrite leaves: the file is that of the log, which has exactly one entry of each
+-- block that the rule changes; such a block has the page of its entry, which is durable, and any
+-- other block its page as before
 pub record IsRewrittenFile (r : Rule) (names : ℕ → List ℕ) (base : ℕ) (before after : List Page) (file : StoredLog) : Type 0 where
   pub log : Log
   pub law : LogLaw log

@@ -45,7 +45,8 @@ checkpoint_error (checkpoint.SyncFault lane) = WriteFault
 abbrev pub rewrite_totals_in : Totals → RewriteTotals
 rewrite_totals_in t = record { blocks = t.blocks; changed = t.changed; same = t.same; skipped = t.skipped; new = t.new; invalid = t.invalid; dead = t.dead }
 
--- a fault is one of the lanes, which had none at first, or of the log; a position is past the log's end, or a record would pass the last position
+-- a fault is one of the lanes, which had none at first, or of the log; a position is past the log's
+-- end, or a record would pass the last position
 abbrev pub IsRewriteCause : ℕ → ℕ → ℕ → ℕ → RewriteError → Type 0
 IsRewriteCause reads writes logs logs_now ReadFault = 0 < reads
 IsRewriteCause reads writes logs logs_now WriteFault = 0 < writes
@@ -76,7 +77,8 @@ module _ {L : Type 0} (contents : L → Option Pages) where
     pub held : HoldPages r.fork pages (map contents lanes)
     pub counted : r.blocks ≡ length pages
 
-  -- These are its pages, the contents of all lanes are known, and no page is past the log's beginning
+  -- These are its pages, the contents of all lanes are known, and no page is past the log's
+  -- beginning
   pub record ArePages (r : RelationFork) (base : ℕ) (lanes : List L) (pages : List Page) : Type 0 where
     pub have : HavePages r lanes pages
     pub known : All (λ lane. is_some (contents lane) ≡ true) lanes

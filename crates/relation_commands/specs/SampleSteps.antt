@@ -15,7 +15,8 @@ use Rattle.relation_commands.specs.RewriteTexts.{log_end_of, rewrite_lines}
 use Rattle.relation_commands.specs.RewriteResults.{after_rewrite}
 
 module _ {L : Type 0} (contents : L → Option Pages) (failed : L → Marks) (read_faults : L → ℕ) where
-  -- Lanes whose contents are known, of which no read fails, and no failed write leaves a block marked
+  -- Lanes whose contents are known, of which no read fails, and no failed write leaves a block
+  -- marked
   pub record AreTold : Type 0 where
     pub known : (lane : L) → is_some (contents lane) ≡ true
     pub unmarked : (lane : L) → failed lane ≡ no_marks
@@ -31,7 +32,8 @@ module _ {L : Type 0} (contents : L → Option Pages) where
     pub pages : List Page
     pub have : HavePages contents relation lanes pages
 
-  -- The relation of these pages was rewritten over its lanes: the scan totals of those that the lanes have now don't depend on their log positions
+  -- The relation of these pages was rewritten over its lanes: the scan totals of those that the
+  -- lanes have now don't depend on their log positions
   pub record IsSampleRewritten (relation : RelationFork) (pages : List Page) (rewritten : Rewritten L) : Type 0 where
     pub after : List Page
     pub have : HavePages contents relation rewritten.lanes.items after

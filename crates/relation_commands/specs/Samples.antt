@@ -11,7 +11,8 @@ use Rattle.relation_commands.specs.Crowded.{IsCrowded, crowding_of}
 use Rattle.relation_commands.specs.RewriteResults.{after_rewrite}
 use Rattle.relation_commands.specs.RewriteTexts.{rewrite_text}
 
--- the text of a sample: the totals of its relation, the text of the rewrite, and the totals of the pages after it
+-- the text of a sample: the totals of its relation, the text of the rewrite, and the totals of the
+-- pages after it
 abbrev pub sample_text : ℕ → ℕ → List ℕ
 sample_text seed blocks =
     let pages = sample_relation seed blocks in

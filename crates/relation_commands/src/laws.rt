@@ -1,14 +1,15 @@
-//! What recoveries make of what a rewrite, a crash and another recovery leave; what a log's bytes tell.
+//! What recoveries make of what a rewrite, a crash and another recovery leave; what a log's bytes
+//! tell.
 ghost use Rattle.relation_commands.specs.RecoverRewrite.{BegunLogsAreEmpty, CompletesRecovery, KeepsFilesLeft, RecoversAgain, RecoversFilesLeft, RecoversRewrite};
 ghost use Rattle.relation_commands.specs.ToldLogs.{LogsAreTold, RewrittenLogsAreTold};
 
 use page_layout::all_positions;
 
-/// After any end of a rewrite that began its log, and a crash that loses what wasn't synced, the log
-/// has no bad head, and a recovery that is done, with segments of the same size, leaves each block
-/// as it was before the rewrite or as the rule makes it. Excepted are blocks whose last write failed
-/// and of which no whole record is left. The block of one whole record more, which the rewrite
-/// didn't know of, is made as the rule makes it, too.
+/// After any end of a rewrite that began its log, and a crash that loses what wasn't synced, the
+/// log has no bad head, and a recovery that is done, with segments of the same size, leaves each
+/// block as it was before the rewrite or as the rule makes it. Excepted are blocks whose last write
+/// failed and of which no whole record is left. The block of one whole record more, which the
+/// rewrite didn't know of, is made as the rule makes it, too.
 pub fn rewrites_are_recovered()
     ensures begun { BegunLogsAreEmpty }
     ensures pages { RecoversRewrite }

@@ -1,8 +1,10 @@
-//! The commands of `page_tool` over a host, whether of files or in memory: [`list_relation`], [`rewrite_relation`],
-//! [`recover_relation`], [`sample`]. [`read_request`] gets one from the command line.
+//! The commands of `page_tool` over a host, whether of files or in memory: [`list_relation`],
+//! [`rewrite_relation`], [`recover_relation`], [`sample`]. [`read_request`] gets one from the
+//! command line.
 //!
-//! Each opens the relation, starts a manager, runs a job, closes the manager and gives the files back, also after a
-//! failure. Read them as an example of an engine. [`ToolError`] says what can go wrong.
+//! Each opens the relation, starts a manager, runs a job, closes the manager and gives the files
+//! back, also after a failure. Read them as an example of an engine. [`ToolError`] says what can go
+//! wrong.
 #![tactic(auto)]
 
 mod beside;

@@ -42,7 +42,8 @@ pub enum ListingError {
 }
 
 impl ListingError {
-    /// What the end of a job means to a listing. A listing writes no page and no log record, so no fault of theirs can end it.
+    /// What the end of a job means to a listing. A listing writes no page and no log record, so no
+    /// fault of theirs can end it.
     fn from_job(error: JobError) -> ListingError
         ensures { result ≡ listing_error error }
     {
@@ -85,7 +86,8 @@ fn end_of_job(end: Result<Totals, JobError>) -> Result<ScanTotals, ListingError>
     }
 }
 
-/// A fork of a relation, how it is listed, where the log begins meanwhile, and how many rounds the background writer makes.
+/// A fork of a relation, how it is listed, where the log begins meanwhile, and how many rounds the
+/// background writer makes.
 #[derive(Clone, Copy)]
 pub(crate) struct Listed {
     pub(crate) relation: RelationFork,
@@ -168,7 +170,8 @@ fn list_and_close<L: BlockLane + Send, R: Threads + Wait + Sync, O: Sink + Send,
     }
 }
 
-/// Lists the blocks of a relation from its lanes, by as many backends as the options say, and returns the lanes.
+/// Lists the blocks of a relation from its lanes, by as many backends as the options say, and
+/// returns the lanes.
 pub(crate) fn list<L: BlockLane + Send, R: Threads + Wait + Sync, O: Sink + Send, T: Gate + Sync>(
     rt: &R,
     alloc: Global,

@@ -145,7 +145,8 @@ fn open_log<H: Host>(
     }
 }
 
-/// Rewrites the relation that is open over its lanes, which were surveyed, with a new log that begins at `base`, and gives both back.
+/// Rewrites the relation that is open over its lanes, which were surveyed, with a new log that
+/// begins at `base`, and gives both back.
 fn rewrite_and_give_back<H: Host, R: Threads + Wait + Sync, T: Gate + Sync>(
     rt: &R,
     alloc: Global,
@@ -204,7 +205,8 @@ fn put_totals<O: Sink>(
     put_lines(format!(in alloc; "{totals}\nlog {base} {end}\n"), out)
 }
 
-/// Rewrites the relation over its lanes, which were surveyed, gives them back with the log, and prints the totals.
+/// Rewrites the relation over its lanes, which were surveyed, gives them back with the log, and
+/// prints the totals.
 fn rewrite_surveyed<H: Host, R: Threads + Wait + Sync, O: Sink, T: Gate + Sync>(
     rt: &R,
     alloc: Global,

@@ -146,7 +146,8 @@ fn checkpoint_past<L: BlockLane, G: LogDevice, R: Wait>(
     unreachable!()
 }
 
-/// Makes a checkpoint of all that the passes put, by the last of them, which worked beside the others.
+/// Makes a checkpoint of all that the passes put, by the last of them, which worked beside the
+/// others.
 fn checkpoint_all<L: BlockLane, G: LogDevice, R: Wait>(
     manager: &Manager<L, G>,
     rt: &R,
@@ -172,7 +173,8 @@ struct StoredRewrite {
     end: Result<RewriteTotals, RewriteError>,
 }
 
-/// The backends rewrite the blocks, and what they put is stored by a checkpoint. After a fault there is none.
+/// The backends rewrite the blocks, and what they put is stored by a checkpoint. After a fault
+/// there is none.
 fn rewrite_and_store<
     L: BlockLane + Send,
     G: LogDevice + Send,
@@ -255,7 +257,8 @@ fn rewrite_and_close<
     RewriteEnd { lanes, log, end }
 }
 
-/// Rewrites the blocks of a relation over its lanes and a log that begins at `base`, by as many backends as the options say, and returns the lanes and the log.
+/// Rewrites the blocks of a relation over its lanes and a log that begins at `base`, by as many
+/// backends as the options say, and returns the lanes and the log.
 pub(crate) fn rewrite_lanes<
     L: BlockLane + Send,
     G: LogDevice + Send,

@@ -46,7 +46,8 @@ struct LogSpan {
     end: Lsn,
 }
 
-/// What a sample prints: the totals of its relation, those of the rewrite, the log's positions, and the totals of the pages after it.
+/// What a sample prints: the totals of its relation, those of the rewrite, the log's positions, and
+/// the totals of the pages after it.
 #[derive(Clone, Copy)]
 struct SampleTotals {
     before: ScanTotals,
@@ -108,7 +109,8 @@ fn scan_lanes<L: BlockLane + Send + Drop, R: Threads + Wait + Sync, G: Gate + Sy
     }
 }
 
-/// Rewrites the blocks over their lanes, with a log in memory that begins where that of a rewrite does, and a checkpoint.
+/// Rewrites the blocks over their lanes, with a log in memory that begins where that of a rewrite
+/// does, and a checkpoint.
 fn rewrite_sample<L: BlockLane + Send + Drop, R: Threads + Wait + Sync, G: Gate + Sync>(
     rt: &R,
     alloc: Global,
@@ -229,7 +231,8 @@ fn put_sample<O: Sink>(
     put_lines(lines, out)
 }
 
-/// Makes a sample's relation in memory, scans it, rewrites it with a log and a checkpoint, and scans it again, each with a buffer manager of its own over the same lanes; prints the totals.
+/// Makes a sample's relation in memory, scans it, rewrites it with a log and a checkpoint, and
+/// scans it again, each with a buffer manager of its own over the same lanes; prints the totals.
 pub fn sample<'a, R: Threads + Wait + Sync, O: Sink, G: Gate + Sync>(
     rt: &R,
     alloc: Global,

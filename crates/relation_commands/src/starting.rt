@@ -68,7 +68,8 @@ pub(crate) fn new_log(alloc: Global, base: Lsn, records: u32) -> Result<MemLog, 
     }
 }
 
-/// Starts a manager of the relation, with a pass for each backend and one besides. Out of memory, the devices come back.
+/// Starts a manager of the relation, with a pass for each backend and one besides. Out of memory,
+/// the devices come back.
 pub(crate) fn start<L: BlockLane + Send, G: LogDevice>(
     alloc: Global,
     options: &Options,

@@ -6,7 +6,8 @@ use Rattle.log_device.specs.Faults.{Rose}
 use Rattle.text_window.specs.declared.window.Stop.{Stop}
 use Rattle.text_window.specs.declared.window.Stop.TheVariants.{Output, Worker}
 
--- how many chunks there are, and how many texts may wait; where the log begins; the sink's bytes before the job, and its count of faults
+-- how many chunks there are, and how many texts may wait; where the log begins; the sink's bytes
+-- before the job, and its count of faults
 pub record Job : Type 0 where
   pub chunks : ℕ
   pub width : ℕ

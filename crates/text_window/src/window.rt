@@ -33,8 +33,8 @@ pub enum Stop {
 pub enum Delivery {
     /// It is put, or waits in the window.
     Delivered,
-    /// There is no free slot for it: its chunk is too far ahead, or, which no job does, was delivered
-    /// before. The worker keeps it, and tries again.
+    /// There is no free slot for it: its chunk is too far ahead, or, which no job does, was
+    /// delivered before. The worker keeps it, and tries again.
     Later,
     /// The job stops.
     Stopped,

@@ -245,8 +245,8 @@ impl Page {
         bytes[to..to + size].copy_from_slice(&source[start..start + size]);
     }
 
-    /// Copies the items of a page to where they are put. The bytes after each, up to a multiple of 8,
-    /// are 0 already.
+    /// Copies the items of a page to where they are put. The bytes after each, up to a multiple of
+    /// 8, are 0 already.
     fn move_items(&mut self, page: &Page, offsets: &[u16; MOST_ITEMS])
         requires compactable { IsCompactable page.now }
         requires cleared { (k : ℕ) → new_upper page.now ≤ k → slice_index self.now k ≡ 0 }
