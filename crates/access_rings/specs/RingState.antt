@@ -1,5 +1,6 @@
 -- A buffer ring by what it shows, and what each call makes of it.
-use Rattle.std.specs.Prelude.{◌≡◌, ℕ, ◌+◌, ◌/◌, ◌%◌, ◌<◌, ◌≤◌, List, length, min, replicate, slice_index_or, slice_set, Option, Some, None}
+use Rattle.std.specs.Prelude.{◌≡◌, ℕ, ◌+◌, ◌/◌, ◌%◌, ◌<◌, ◌≤◌, List, length, min, replicate}
+use Rattle.std.specs.Prelude.{slice_index_or, slice_set, Option, Some, None}
 use Rattle.access_rings.specs.declared.ring.RingKind.{RingKind}
 use Rattle.access_rings.specs.declared.ring.RingKind.TheVariants.{BulkRead, BulkWrite, Vacuum}
 

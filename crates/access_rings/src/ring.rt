@@ -1,7 +1,9 @@
 //! The ring and its kinds.
 ghost use Rattle.std.specs.Prelude.{◌≡◌, ◌<◌, ◌≤◌, ◌↔◌, IfOk, IsTrue, Some, length};
 ghost use Rattle.std.specs.Bool.{OnFalse, OnTrue};
-ghost use Rattle.access_rings.specs.RingState.{IsRing, Rejects, frame_at_current, full_size, new_ring, ring_after_keep, ring_after_next, ring_after_rejection};
+ghost use Rattle.access_rings.specs.RingState.{IsRing, Rejects, frame_at_current, full_size};
+ghost use Rattle.access_rings.specs.RingState.{new_ring, ring_after_keep, ring_after_next};
+ghost use Rattle.access_rings.specs.RingState.{ring_after_rejection};
 
 use std::alloc::{AllocError, Global};
 use std::marker::Model;

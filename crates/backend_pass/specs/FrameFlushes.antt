@@ -17,7 +17,8 @@ use Rattle.buffer_frames.specs.declared.flushing.FlushedPage.TheVariants as flus
 use Rattle.buffer_frames.specs.Flushing.{EndedInError, met_refused}
 use Rattle.buffer_frames.specs.Syncs.{WritesBlock}
 use Rattle.backend_pass.specs.declared.errors.FlushError.{FlushError}
-use Rattle.backend_pass.specs.declared.errors.FlushError.TheVariants.{WriteFault, LogFault, LogDown, LogShort}
+use Rattle.backend_pass.specs.declared.errors.FlushError.TheVariants.{WriteFault, LogFault, LogDown}
+use Rattle.backend_pass.specs.declared.errors.FlushError.TheVariants.{LogShort}
 use Rattle.backend_pass.specs.declared.met.Shown.{Shown}
 use Rattle.backend_pass.specs.Passes.{PassState, shown_log, shown_write}
 

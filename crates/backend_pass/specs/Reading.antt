@@ -1,5 +1,6 @@
 -- How a pass reads a block, and what it is refused for.
-use Rattle.std.specs.Prelude.{◌≡◌, ℕ, ◌+◌, ◌<◌, nat_lt, nat_eq, Bool, true, false, List, [], ◌∷◌, Option, Some, None, Result, Ok, Err, if◌then◌else◌, is_some}
+use Rattle.std.specs.Prelude.{◌≡◌, ℕ, ◌+◌, ◌<◌, nat_lt, nat_eq, Bool, true, false, List, [], ◌∷◌}
+use Rattle.std.specs.Prelude.{Option, Some, None, Result, Ok, Err, if◌then◌else◌, is_some}
 use Rattle.block_tag.specs.declared.catalogue.RelEntry.{RelEntry}
 use Rattle.block_tag.specs.declared.tag.Tag.{Tag}
 use Rattle.block_tag.specs.Catalogue.{blocks_at}
@@ -31,7 +32,10 @@ use Rattle.buffer_frames.specs.VictimChoices.{ChoiceState, choice_state}
 use Rattle.buffer_frames.specs.Victims.{VictimRefused}
 use Rattle.buffer_frames.specs.Working.{met_log, met_read, met_write}
 use Rattle.backend_pass.specs.declared.errors.ReadError.{ReadError}
-use Rattle.backend_pass.specs.declared.errors.ReadError.TheVariants.{PastEnd, PinsFull, NoUnpinned, ReadFault, WriteFault, LogFault, LogDown, LogShort, Unsound}
+use Rattle.backend_pass.specs.declared.errors.ReadError.TheVariants.{PastEnd, PinsFull, NoUnpinned}
+use Rattle.backend_pass.specs.declared.errors.ReadError.TheVariants.{ReadFault, WriteFault}
+use Rattle.backend_pass.specs.declared.errors.ReadError.TheVariants.{LogFault, LogDown, LogShort}
+use Rattle.backend_pass.specs.declared.errors.ReadError.TheVariants.{Unsound}
 use Rattle.backend_pass.specs.declared.met.Met as shown
 use Rattle.backend_pass.specs.declared.met.Shown.{Shown}
 use Rattle.backend_pass.specs.declared.pinned.Pinned.{Pinned}

@@ -15,12 +15,15 @@ impl Pass {
     ghost use Rattle.std.specs.Prelude.{◌≡◌, ◌≢◌, ℕ, IfErr, IfOk};
     ghost use Rattle.pin_core.specs.declared.view.Content.TheVariants as lock;
     ghost use Rattle.pin_core.specs.State.{link};
-    ghost use Rattle.cleanup_lock.specs.Cleanup.{GrantsCleanup, GrantsTry, RefusesCleanup, RefusesTry, local_pins, refused_tokens, tried_local_pins};
+    ghost use Rattle.cleanup_lock.specs.Cleanup.{GrantsCleanup, GrantsTry, RefusesCleanup};
+    ghost use Rattle.cleanup_lock.specs.Cleanup.{RefusesTry, local_pins, refused_tokens};
+    ghost use Rattle.cleanup_lock.specs.Cleanup.{tried_local_pins};
     ghost use Rattle.buffer_frames.specs.Tokens.{IsPinnedFor, held_at, tokens_of};
     ghost use Rattle.backend_pass.specs.Cleanups.{why_of};
     ghost use Rattle.backend_pass.specs.Locks.{ChangesLock, HasLock, IsTagged};
     ghost use Rattle.backend_pass.specs.Managers.{Belongs};
-    ghost use Rattle.backend_pass.specs.Passes.{KeepsCalls, KeepsDevices, KeepsLocks, KeepsMark, KeepsSought, SamePass};
+    ghost use Rattle.backend_pass.specs.Passes.{KeepsCalls, KeepsDevices, KeepsLocks, KeepsMark};
+    ghost use Rattle.backend_pass.specs.Passes.{KeepsSought, SamePass};
 
     /// Takes the cleanup lock of the frame of the pass's only token there, which has the token's
     /// block: the exclusive content lock, while no other backend pins the frame

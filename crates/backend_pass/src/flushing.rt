@@ -8,7 +8,8 @@ ghost use Rattle.frame_table.specs.Seats.{frames_of, lanes_in, relations_of};
 ghost use Rattle.buffer_frames.specs.Rests.{OnlyTokens};
 ghost use Rattle.buffer_frames.specs.Tokens.{IsPinnedFor};
 ghost use Rattle.buffer_frames.specs.declared.flushing.FlushedPage.TheVariants.{Written};
-ghost use Rattle.buffer_frames.specs.Flushing.{EndedInError, EndedWritten, FlushAnswer, met_flushing};
+ghost use Rattle.buffer_frames.specs.Flushing.{EndedInError, EndedWritten, FlushAnswer};
+ghost use Rattle.buffer_frames.specs.Flushing.{met_flushing};
 ghost use Rattle.buffer_frames.specs.Working.{KeepsNotes, WorksAt};
 ghost use Rattle.backend_pass.specs.Passes.{view_in, shown_log, shown_write};
 ghost use Rattle.backend_pass.specs.Seats.{IsSeated, SameBadge};
@@ -130,11 +131,13 @@ impl Pass {
     ghost use Rattle.pin_core.specs.State.{link};
     ghost use Rattle.frame_table.specs.Seats.{lanes_in};
     ghost use Rattle.buffer_frames.specs.Tokens.{IsPinnedFor};
-    ghost use Rattle.buffer_frames.specs.Flushing.{EndedInError, EndedWritten, FlushAnswer, met_flushing};
+    ghost use Rattle.buffer_frames.specs.Flushing.{EndedInError, EndedWritten, FlushAnswer};
+    ghost use Rattle.buffer_frames.specs.Flushing.{met_flushing};
     ghost use Rattle.buffer_frames.specs.Working.{KeepsNotes};
     ghost use Rattle.backend_pass.specs.Locks.{HasLock};
     ghost use Rattle.backend_pass.specs.Managers.{Belongs};
-    ghost use Rattle.backend_pass.specs.Passes.{KeepsCalls, KeepsLocks, KeepsMark, KeepsSought, NoDeviceFails, SamePass};
+    ghost use Rattle.backend_pass.specs.Passes.{KeepsCalls, KeepsLocks, KeepsMark, KeepsSought};
+    ghost use Rattle.backend_pass.specs.Passes.{NoDeviceFails, SamePass};
     ghost use Rattle.backend_pass.specs.FrameFlushes.{IsOkOrShort, WasWithin, page_answer};
 
     /// Writes the page of a token's frame if the frame is dirty, after flushing the log up to the

@@ -22,11 +22,13 @@ impl Pass {
     ghost use Rattle.page_core.specs.Kinds as kinds;
     ghost use Rattle.frame_table.specs.FrameSteps.{Did};
     ghost use Rattle.frame_table.specs.Kinds.{pages};
-    ghost use Rattle.content_locks.specs.Locks.{LocksAtOnce, LocksContent, RefusesLock, ShowsExclusive, ShowsLock};
+    ghost use Rattle.content_locks.specs.Locks.{LocksAtOnce, LocksContent, RefusesLock};
+    ghost use Rattle.content_locks.specs.Locks.{ShowsExclusive, ShowsLock};
     ghost use Rattle.buffer_frames.specs.Tokens.{IsPinnedFor};
     ghost use Rattle.backend_pass.specs.Locks.{ChangesLock, HasLock};
     ghost use Rattle.backend_pass.specs.Managers.{Belongs};
-    ghost use Rattle.backend_pass.specs.Passes.{KeepsCalls, KeepsDevices, KeepsLocks, KeepsMark, KeepsSought, SamePass};
+    ghost use Rattle.backend_pass.specs.Passes.{KeepsCalls, KeepsDevices, KeepsLocks, KeepsMark};
+    ghost use Rattle.backend_pass.specs.Passes.{KeepsSought, SamePass};
 
     /// Takes the content lock of a token's frame in shared mode, once no backend has it exclusively
     /// (`BUFFER_LOCK_SHARE`).

@@ -68,7 +68,8 @@ impl Pass {
     ghost use Rattle.backend_pass.specs.Locks.{HasLock};
     ghost use Rattle.backend_pass.specs.Managers.{Belongs};
     ghost use Rattle.buffer_frames.specs.Outside.{shown_count};
-    ghost use Rattle.backend_pass.specs.Passes.{KeepsCalls, KeepsDevices, KeepsLocks, KeepsMark, KeepsSought, SamePass};
+    ghost use Rattle.backend_pass.specs.Passes.{KeepsCalls, KeepsDevices, KeepsLocks, KeepsMark};
+    ghost use Rattle.backend_pass.specs.Passes.{KeepsSought, SamePass};
 
     /// The faults that the pass met.
     pub fn met(&self) -> Met

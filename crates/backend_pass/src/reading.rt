@@ -10,7 +10,8 @@ ghost use Rattle.buffer_frames.specs.Backends.{IsFurnished, KeepsOwn, choice_of}
 ghost use Rattle.buffer_frames.specs.Tokens.{IsNew};
 ghost use Rattle.buffer_frames.specs.Hinting.{TakesTurns};
 ghost use Rattle.buffer_frames.specs.Outside.{kept_by_block_reads, ring_shape};
-ghost use Rattle.buffer_frames.specs.Reads.{CensusRead, ReadAnswer, ReadCalls, ReadNotes, met_read_block};
+ghost use Rattle.buffer_frames.specs.Reads.{CensusRead, ReadAnswer, ReadCalls, ReadNotes};
+ghost use Rattle.buffer_frames.specs.Reads.{met_read_block};
 ghost use Rattle.backend_pass.specs.Passes.{view_in};
 ghost use Rattle.backend_pass.specs.Seats.{IsSeated, KeepsBadge};
 ghost use Rattle.backend_pass.specs.Reading.{read_refusal, shown_after};
@@ -149,7 +150,8 @@ fn read_seated<L: BlockLane, G: LogDevice, R: Wait>(
 }
 
 impl Pass {
-    ghost use Rattle.std.specs.Prelude.{◌≡◌, ◌≢◌, ◌<◌, ◌≤◌, ◌↔◌, ℕ, None, Some, Ok, Err, IfErr, IfOk, is_some, true};
+    ghost use Rattle.std.specs.Prelude.{◌≡◌, ◌≢◌, ◌<◌, ◌≤◌, ◌↔◌, ℕ, None, Some, Ok, Err, IfErr};
+    ghost use Rattle.std.specs.Prelude.{IfOk, is_some, true};
     ghost use Rattle.block_tag.specs.Names.{names_block};
     ghost use Rattle.pin_core.specs.declared.view.Content.TheVariants.{Unlocked};
     ghost use Rattle.pin_core.specs.State.{link};
@@ -164,8 +166,12 @@ impl Pass {
     ghost use Rattle.buffer_frames.specs.declared.hinting.HintSeen.TheVariants.{Unused};
     ghost use Rattle.backend_pass.specs.Managers.{Belongs};
     ghost use Rattle.backend_pass.specs.HintsSeen.{IsUnusedOrHad, ShowsHint, StoresHints};
-    ghost use Rattle.backend_pass.specs.Passes.{KeepsCalls, KeepsLocks, KeepsMark, NoDeviceFails, SamePass};
-    ghost use Rattle.backend_pass.specs.Reading.{IsReadUnsoundAllPinnedOrShort, IsReadUnsoundOrAllPinned, NothingFails, ReadingCensus, ReadsBlock, at_once_of, met_reading, refused_at_once};
+    ghost use Rattle.backend_pass.specs.Passes.{KeepsCalls, KeepsLocks, KeepsMark, NoDeviceFails};
+    ghost use Rattle.backend_pass.specs.Passes.{SamePass};
+    ghost use Rattle.backend_pass.specs.Reading.{IsReadUnsoundAllPinnedOrShort};
+    ghost use Rattle.backend_pass.specs.Reading.{IsReadUnsoundOrAllPinned, NothingFails};
+    ghost use Rattle.backend_pass.specs.Reading.{ReadingCensus, ReadsBlock, at_once_of};
+    ghost use Rattle.backend_pass.specs.Reading.{met_reading, refused_at_once};
     ghost use Rattle.buffer_frames.specs.Loading.{WasUnsoundAtOpening};
     ghost use Rattle.backend_pass.specs.declared.errors.ReadError.{ReadError};
     ghost use Rattle.backend_pass.specs.declared.errors.ReadError.TheVariants.{Unsound};

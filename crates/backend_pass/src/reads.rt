@@ -21,7 +21,8 @@ impl Pass {
     ghost use Rattle.backend_pass.specs.Locks.{HasLock};
     ghost use Rattle.backend_pass.specs.Managers.{Belongs};
     ghost use Rattle.buffer_frames.specs.PageReads.{ReadsPage, ReadsUnder, SharesToRead};
-    ghost use Rattle.backend_pass.specs.Passes.{KeepsDevices, KeepsLocks, KeepsMark, KeepsSought, SamePass};
+    ghost use Rattle.backend_pass.specs.Passes.{KeepsDevices, KeepsLocks, KeepsMark, KeepsSought};
+    ghost use Rattle.backend_pass.specs.Passes.{SamePass};
 
     /// Reads the page of a token's block under the content lock that the pass has.
     fn read_locked<L: BlockLane, G: LogDevice, R: Wait>(

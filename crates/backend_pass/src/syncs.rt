@@ -63,7 +63,8 @@ impl Shown {
 }
 
 impl Pass {
-    ghost use Rattle.std.specs.Prelude.{◌≡◌, ◌≢◌, ◌<◌, ◌≤◌, ℕ, false, true, length, IfErr, IfNone, IfOk, IfSome, IsOk, MatchResult};
+    ghost use Rattle.std.specs.Prelude.{◌≡◌, ◌≢◌, ◌<◌, ◌≤◌, ℕ, false, true, length, IfErr, IfNone};
+    ghost use Rattle.std.specs.Prelude.{IfOk, IfSome, IsOk, MatchResult};
     ghost use Rattle.std.specs.Result.{is_ok};
     ghost use Rattle.block_tag.specs.Names.{names_block};
     ghost use Rattle.pin_core.specs.declared.view.Content.TheVariants.{Unlocked};
@@ -77,7 +78,8 @@ impl Pass {
     ghost use Rattle.frame_table.specs.Seats.{Touches, frames_of, lanes_in};
     ghost use Rattle.frame_table.specs.WordSteps.{DidWord, begin_checkpoint, load_hand, view_of};
     ghost use Rattle.wal_flush.specs.declared.flushes.FlushedBy.{FlushedBy};
-    ghost use Rattle.wal_flush.specs.Flushes.{FlushRefused, FlushSeesEnd, Flushed, as_looked, flushed_view, unflushed_view};
+    ghost use Rattle.wal_flush.specs.Flushes.{FlushRefused, FlushSeesEnd, Flushed, as_looked};
+    ghost use Rattle.wal_flush.specs.Flushes.{flushed_view, unflushed_view};
     ghost use Rattle.clock_sweep.specs.Keeping.{SamePins};
     ghost use Rattle.buffer_frames.specs.Flushing.{met_flushing};
     ghost use Rattle.buffer_frames.specs.Working.{KeepsNotes, Within};

@@ -1,5 +1,6 @@
 -- How the page of a frame goes to its lane, and why not.
-use Rattle.std.specs.Prelude.{◌≡◌, ◌≢◌, ℕ, ◌<◌, ◌≤◌, Bool, true, false, List, [], ◌∷◌, Option, Some, None, Result, Ok, Err}
+use Rattle.std.specs.Prelude.{◌≡◌, ◌≢◌, ℕ, ◌<◌, ◌≤◌, Bool, true, false, List, [], ◌∷◌, Option, Some}
+use Rattle.std.specs.Prelude.{None, Result, Ok, Err}
 use Rattle.access_rings.specs.declared.ring.RingKind.TheVariants.{BulkRead}
 use Rattle.access_rings.specs.RingState.{RingState, Rejects, ring_after_rejection}
 use Rattle.block_tag.specs.declared.tag.Tag.{Tag}

@@ -13,7 +13,8 @@ use Rattle.map_partitions.specs.Hints.{LoadsHint, hint_number}
 use Rattle.cleanup_lock.specs.Waking.{Woken}
 use Rattle.buffer_frames.specs.Tokens.{Tokens, held_at}
 use Rattle.buffer_frames.specs.declared.hinting.HintSeen.{HintSeen}
-use Rattle.buffer_frames.specs.declared.hinting.HintSeen.TheVariants.{Unused, Nothing, Own, Locked, Untagged, Changed, Other, Had}
+use Rattle.buffer_frames.specs.declared.hinting.HintSeen.TheVariants.{Unused, Nothing, Own, Locked}
+use Rattle.buffer_frames.specs.declared.hinting.HintSeen.TheVariants.{Untagged, Changed, Other, Had}
 
 -- what was seen of a hint whose frame a try to pin it refused
 abbrev pub refused_hint : TryPin → HintSeen

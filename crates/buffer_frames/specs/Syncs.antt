@@ -1,5 +1,6 @@
 -- How a frame is written for the background writer and for a checkpoint, and why it is passed over.
-use Rattle.std.specs.Prelude.{◌≡◌, ◌≢◌, ◌⊎◌, ℕ, ◌+◌, ◌≤◌, nat_lt, Bool, true, false, not, ◌||◌, List, [], ◌∷◌, ◌++◌, length, Option, Some, None, Result, Ok, Err}
+use Rattle.std.specs.Prelude.{◌≡◌, ◌≢◌, ◌⊎◌, ℕ, ◌+◌, ◌≤◌, nat_lt, Bool, true, false, not, ◌||◌}
+use Rattle.std.specs.Prelude.{List, [], ◌∷◌, ◌++◌, length, Option, Some, None, Result, Ok, Err}
 use Rattle.std.specs.List.{All}
 use Rattle.state_word.specs.declared.word.StateWord.{StateWord}
 use Rattle.state_word.specs.Fields.{fields}
@@ -21,7 +22,8 @@ use Rattle.frame_table.specs.declared.table.FrameTable.{FrameTable}
 use Rattle.frame_table.specs.FrameSteps.{Did, looking}
 use Rattle.frame_table.specs.Kinds.{pages, pins}
 use Rattle.frame_table.specs.Latches.{DidTurn, IsTurned, work_of}
-use Rattle.frame_table.specs.Seats.{HasFlag, HoldsWord, ListsOnly, OnlyRises, lanes_in, relations_of}
+use Rattle.frame_table.specs.Seats.{HasFlag, HoldsWord, ListsOnly, OnlyRises, lanes_in}
+use Rattle.frame_table.specs.Seats.{relations_of}
 use Rattle.content_locks.specs.Io.{LocksHeader}
 use Rattle.cleanup_lock.specs.Waking.{Woken}
 use Rattle.clock_sweep.specs.Keeping.{SamePins}
@@ -30,7 +32,8 @@ use Rattle.buffer_frames.specs.Tokens.{HeldFrame, Tokens, held_at}
 use Rattle.buffer_frames.specs.declared.flushing.FrameFlushError.{FrameFlushError}
 use Rattle.buffer_frames.specs.declared.flushing.FlushedPage.{FlushedPage}
 use Rattle.buffer_frames.specs.declared.flushing.FlushedPage.TheVariants as flush
-use Rattle.buffer_frames.specs.Flushing.{EndedInError, EndedWritten, FindsClean, FlushAnswer, met_flushing, met_lane_write}
+use Rattle.buffer_frames.specs.Flushing.{EndedInError, EndedWritten, FindsClean, FlushAnswer}
+use Rattle.buffer_frames.specs.Flushing.{met_flushing, met_lane_write}
 use Rattle.buffer_frames.specs.Working.{IsFlushCall, KeepsNotes, Made, Within, WorksAt}
 use Rattle.buffer_frames.specs.declared.syncing.SyncOnly.{SyncOnly}
 use Rattle.buffer_frames.specs.declared.syncing.SyncOnly.TheVariants.{NotRecentlyUsed, Needed}

@@ -1,5 +1,6 @@
 -- The tokens of pins that a backend has given to its callers.
-use Rattle.std.specs.Prelude.{◌≡◌, ◌≢◌, ℕ, ◌+◌, ◌-◌, ◌<◌, true, nat_eq, List, [], ◌∷◌, ◌++◌, map, take, length, get_or, Option, Some, None, if◌then◌else◌}
+use Rattle.std.specs.Prelude.{◌≡◌, ◌≢◌, ℕ, ◌+◌, ◌-◌, ◌<◌, true, nat_eq, List, [], ◌∷◌, ◌++◌, map}
+use Rattle.std.specs.Prelude.{take, length, get_or, Option, Some, None, if◌then◌else◌}
 use Rattle.block_tag.specs.declared.tag.Tag.{Tag}
 use Rattle.block_tag.specs.Names.{names_block, packed_tag}
 use Rattle.buffer_frames.specs.declared.pins.HeldPin.{HeldPin}

@@ -18,7 +18,8 @@ use Rattle.frame_table.specs.Seats.{OnlyRises, frames_of, lanes_in, relations_of
 use Rattle.cleanup_lock.specs.Waking.{Woken}
 use Rattle.clock_sweep.specs.declared.held.LockedFrame.{LockedFrame}
 use Rattle.clock_sweep.specs.CensusList.{CensusList, new_census}
-use Rattle.clock_sweep.specs.Choosing.{Chooses, FindsNone, TakesHeader, frame_at_place, ring_gone_on, ring_keeping}
+use Rattle.clock_sweep.specs.Choosing.{Chooses, FindsNone, TakesHeader, frame_at_place}
+use Rattle.clock_sweep.specs.Choosing.{ring_gone_on, ring_keeping}
 use Rattle.clock_sweep.specs.FreeFrames.{QueueState}
 use Rattle.clock_sweep.specs.Keeping.{SamePins}
 use Rattle.buffer_frames.specs.declared.flushing.FrameFlushError.{FrameFlushError}

@@ -17,7 +17,8 @@ use Rattle.buffer_frames.specs.declared.victims.VictimError.TheVariants.{Flush, 
 use Rattle.buffer_frames.specs.Bringing.{PinsAndStores}
 use Rattle.buffer_frames.specs.Flushing.{met_refused}
 use Rattle.buffer_frames.specs.Stages.{HasVictim, Pins}
-use Rattle.buffer_frames.specs.VictimChoices.{ChoiceState, InvalidatesVictim, FindsAllPinned, LeavesDirty, GivesVictimUp}
+use Rattle.buffer_frames.specs.VictimChoices.{ChoiceState, InvalidatesVictim, FindsAllPinned}
+use Rattle.buffer_frames.specs.VictimChoices.{LeavesDirty, GivesVictimUp}
 
 module _ {L G : Type 0} (contents : L → Option Pages) (t : FrameTable L G) where
   -- why no frame was freed

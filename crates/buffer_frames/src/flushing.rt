@@ -13,9 +13,13 @@ ghost use Rattle.buffer_frames.specs.Rests.{HasNoLatch, LinksRest, LinksRestBesi
 ghost use Rattle.buffer_frames.specs.Tokens.{IsPinnedFor};
 ghost use Rattle.buffer_frames.specs.declared.flushing.FlushedPage.TheVariants.{Written};
 ghost use Rattle.clock_sweep.specs.Choosing.{frame_at_place};
-ghost use Rattle.buffer_frames.specs.Flushing.{CallsLane, CopiesAnd, EndedInError, EndedWritten, FlushAnswer, ClearsJust, IsNotRejected, RejectsVictim, VictimAnswer, WriteAnswer, met_flushing, met_lane_write};
+ghost use Rattle.buffer_frames.specs.Flushing.{CallsLane, CopiesAnd, EndedInError, EndedWritten};
+ghost use Rattle.buffer_frames.specs.Flushing.{FlushAnswer, ClearsJust, IsNotRejected};
+ghost use Rattle.buffer_frames.specs.Flushing.{RejectsVictim, VictimAnswer, WriteAnswer};
+ghost use Rattle.buffer_frames.specs.Flushing.{met_flushing, met_lane_write};
 ghost use Rattle.buffer_frames.specs.Stages.{HasVictim, IsPinned, IsSharing};
-ghost use Rattle.buffer_frames.specs.Working.{Calls, IsFlushCall, KeepsNotes, Made, Within, WorksAt};
+ghost use Rattle.buffer_frames.specs.Working.{Calls, IsFlushCall, KeepsNotes, Made, Within};
+ghost use Rattle.buffer_frames.specs.Working.{WorksAt};
 
 use crate::pins::HeldPins;
 use access_rings::{Ring, RingKind};

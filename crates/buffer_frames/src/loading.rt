@@ -11,7 +11,8 @@ ghost use Rattle.table_rule.specs.Blocks.{has_block};
 ghost use Rattle.frame_table.specs.Opened.{WasSoundAtOpening};
 ghost use Rattle.frame_table.specs.Seats.{Looked, SameSeat, frames_of, lanes_in, relations_of};
 ghost use Rattle.buffer_frames.specs.Rests.{HasNoLatch, LinksRestBeside, Stands};
-ghost use Rattle.buffer_frames.specs.Loading.{EndsUnread, LoadShows, loading_calls, met_lane_read, met_loading, reading_calls};
+ghost use Rattle.buffer_frames.specs.Loading.{EndsUnread, LoadShows, loading_calls, met_lane_read};
+ghost use Rattle.buffer_frames.specs.Loading.{met_loading, reading_calls};
 ghost use Rattle.buffer_frames.specs.Stages.{IsRead, IsReading, Pins};
 ghost use Rattle.buffer_frames.specs.Working.{Made, WorksAt};
 

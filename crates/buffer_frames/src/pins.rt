@@ -67,7 +67,8 @@ fn place_of(pins: &[HeldPin], tag: &Tag) -> Option<usize>
 }
 
 impl HeldPins {
-    ghost use Rattle.std.specs.Prelude.{◌≡◌, ◌≢◌, ◌<◌, true, false, None, Some, IfOk, IfSome, IfNone};
+    ghost use Rattle.std.specs.Prelude.{◌≡◌, ◌≢◌, ◌<◌, true, false, None, Some, IfOk, IfSome};
+    ghost use Rattle.std.specs.Prelude.{IfNone};
     ghost use Rattle.block_tag.specs.Names.{names_block, packed_tag};
     ghost use Rattle.buffer_frames.specs.Tokens.{IsNew, IsPinnedFor, count_of, held_at, no_tokens};
     ghost use Rattle.buffer_frames.specs.Tokens.{tokens_less, tokens_more, tokens_of, tokens_with};

@@ -8,7 +8,8 @@ ghost use Rattle.buffer_frames.specs.Backends.{IsFurnished, KeepsOwn, choice_of}
 ghost use Rattle.buffer_frames.specs.Hinting.{TakesTurns};
 ghost use Rattle.buffer_frames.specs.Keeps.{IsReady, Keeps};
 ghost use Rattle.buffer_frames.specs.Outside.{kept_by_block_reads, ring_shape};
-ghost use Rattle.buffer_frames.specs.Reads.{CensusPinned, CensusRead, PinAnswer, PinNotes, ReadAnswer, ReadCalls, ReadNotes, met_read_block};
+ghost use Rattle.buffer_frames.specs.Reads.{CensusPinned, CensusRead, PinAnswer, PinNotes};
+ghost use Rattle.buffer_frames.specs.Reads.{ReadAnswer, ReadCalls, ReadNotes, met_read_block};
 ghost use Rattle.buffer_frames.specs.Victims.{PinsOrRests, met_claimed};
 
 use crate::backend::Backend;

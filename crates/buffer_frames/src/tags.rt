@@ -7,7 +7,8 @@ ghost use Rattle.pin_core.specs.Kinds as kinds;
 ghost use Rattle.table_rule.specs.Blocks.{has_block};
 ghost use Rattle.frame_table.specs.FrameSteps.{Did};
 ghost use Rattle.frame_table.specs.Kinds.{pins};
-ghost use Rattle.frame_table.specs.Seats.{CanStep, SameMarks, SameSeat, Touches, read_link, relations_of};
+ghost use Rattle.frame_table.specs.Seats.{CanStep, SameMarks, SameSeat, Touches, read_link};
+ghost use Rattle.frame_table.specs.Seats.{relations_of};
 ghost use Rattle.buffer_frames.specs.Syncs.{ShowsTag};
 
 use atomic_table::Seat;

@@ -16,7 +16,8 @@ ghost use Rattle.buffer_frames.specs.Hinting.{NotesHint};
 ghost use Rattle.buffer_frames.specs.Keeps.{IsReady, Keeps};
 ghost use Rattle.buffer_frames.specs.Outside.{kept_by_block_reads, outside_of, ring_shape};
 ghost use Rattle.buffer_frames.specs.Stages.{HasVictim};
-ghost use Rattle.buffer_frames.specs.Victims.{CensusClaimed, CensusFreed, ClaimAnswer, FreedAnswer, PinsOrRests, met_claimed, met_freed};
+ghost use Rattle.buffer_frames.specs.Victims.{CensusClaimed, CensusFreed, ClaimAnswer, FreedAnswer};
+ghost use Rattle.buffer_frames.specs.Victims.{PinsOrRests, met_claimed, met_freed};
 ghost use Rattle.buffer_frames.specs.Working.{Calls, IsFlushCall};
 
 use crate::backend::Backend;

@@ -1,5 +1,6 @@
 -- Why a checkpoint stops.
-use Rattle.std.specs.Prelude.{◌≡◌, ℕ, ◌<◌, ◌≤◌, true, false, List, [], ◌∷◌, ◌++◌, Option, Result, Ok, Err}
+use Rattle.std.specs.Prelude.{◌≡◌, ℕ, ◌<◌, ◌≤◌, true, false, List, [], ◌∷◌, ◌++◌, Option, Result}
+use Rattle.std.specs.Prelude.{Ok, Err}
 use Rattle.segment_store.specs.Contents.{Pages}
 use Rattle.pin_core.specs.declared.view.DeviceCall.TheVariants.{LaneSync}
 use Rattle.pin_core.specs.declared.view.FailedCalls.{FailedCalls}
@@ -21,7 +22,9 @@ use Rattle.backend_pass.specs.FrameFlushes.{frame_refusal}
 use Rattle.backend_pass.specs.Passes.{KeepsMark, PassState}
 use Rattle.checkpointer.specs.declared.ending.Checkpoint.{Checkpoint}
 use Rattle.checkpointer.specs.declared.ending.CheckpointError.{CheckpointError}
-use Rattle.checkpointer.specs.declared.ending.CheckpointError.TheVariants.{WriteFault, LogFault, LogDown, LogShort, SyncFault}
+use Rattle.checkpointer.specs.declared.ending.CheckpointError.TheVariants.{WriteFault, LogFault}
+use Rattle.checkpointer.specs.declared.ending.CheckpointError.TheVariants.{LogDown, LogShort}
+use Rattle.checkpointer.specs.declared.ending.CheckpointError.TheVariants.{SyncFault}
 use Rattle.checkpointer.specs.Marked.{HasNoneLeft, ListsDirty}
 use Rattle.checkpointer.specs.Stages.{FlushesPages, KeepsBackend, syncs_below}
 use Rattle.checkpointer.specs.Writes.{MarksAndWrites, WritesUpTo}

@@ -4,7 +4,8 @@ ghost use Rattle.frame_table.specs.Seats.{frames_of};
 ghost use Rattle.pin_core.specs.declared.view.View.{View};
 ghost use Rattle.pin_core.specs.State.{link};
 ghost use Rattle.backend_pass.specs.Managers.{Belongs};
-ghost use Rattle.checkpointer.specs.Marked.{AreInside, AreMarked, HasVisited, HasNoneToWrite, ListsDirty, NotesInOrder};
+ghost use Rattle.checkpointer.specs.Marked.{AreInside, AreMarked, HasVisited, HasNoneToWrite};
+ghost use Rattle.checkpointer.specs.Marked.{ListsDirty, NotesInOrder};
 ghost use Rattle.checkpointer.specs.Stages.{MarksFrames};
 
 use backend_pass::{Manager, MarkedFrame, Pass};

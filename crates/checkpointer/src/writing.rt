@@ -6,10 +6,12 @@ ghost use Rattle.pin_core.specs.State.{link};
 ghost use Rattle.backend_pass.specs.Locks.{HasLock};
 ghost use Rattle.backend_pass.specs.Managers.{Belongs};
 ghost use Rattle.backend_pass.specs.Reading.{NothingFails};
-ghost use Rattle.checkpointer.specs.Marked.{AreInside, AreMarked, HasVisited, HasNoneLeft, KeepsEachNote};
+ghost use Rattle.checkpointer.specs.Marked.{AreInside, AreMarked, HasVisited, HasNoneLeft};
+ghost use Rattle.checkpointer.specs.Marked.{KeepsEachNote};
 ghost use Rattle.checkpointer.specs.Refusals.{StopsWriting};
 ghost use Rattle.checkpointer.specs.Stages.{HasNoLock, WritesMarked, pages_by};
-ghost use Rattle.checkpointer.specs.Writes.{SyncsUntilPassed, SyncsWhileNeeded, WritesInOrder, WritesUpTo};
+ghost use Rattle.checkpointer.specs.Writes.{SyncsUntilPassed, SyncsWhileNeeded, WritesInOrder};
+ghost use Rattle.checkpointer.specs.Writes.{WritesUpTo};
 
 use backend_pass::{FlushError, Manager, Pass, SyncOnly, Synced};
 use log_device::LogDevice;

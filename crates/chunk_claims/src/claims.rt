@@ -5,7 +5,8 @@
 //! once doesn't. No contract excludes that one worker claims them all.
 ghost use Rattle.std.specs.Prelude.{◌≡◌, ℕ, ◌+◌, ◌-◌, ◌<◌, ◌≤◌, ◌^◌, [], IfOk, IfSome, IfNone};
 ghost use Rattle.grid.specs.Shape.{total};
-ghost use Rattle.chunk_claims.specs.Claims.{SitsAt, first_claimant, joined_claimants, less_a_part, sum_below, with_draw, with_one_part};
+ghost use Rattle.chunk_claims.specs.Claims.{SitsAt, first_claimant, joined_claimants, less_a_part};
+ghost use Rattle.chunk_claims.specs.Claims.{sum_below, with_draw, with_one_part};
 
 use crate::claimant::Claimant;
 use crate::plays::{Both, ClaimsLaw, Count, Draw, Part};

@@ -1,5 +1,7 @@
 //! The law of the table, and what each step tells.
-ghost use Rattle.chunk_claims.specs.Claims.{ClaimsHold, Draws, Counts, first_claimant, joined_claimants, less_a_part, spent_claimant, with_one_part};
+ghost use Rattle.chunk_claims.specs.Claims.{ClaimsHold, Draws, Counts, first_claimant};
+ghost use Rattle.chunk_claims.specs.Claims.{joined_claimants, less_a_part, spent_claimant};
+ghost use Rattle.chunk_claims.specs.Claims.{with_one_part};
 
 use crate::claimant::Claimant;
 use crate::claims::Work;

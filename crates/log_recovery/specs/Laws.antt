@@ -1,5 +1,6 @@
 -- What holds of the log that bytes are read as, and of redo after redo.
-use Rattle.std.specs.Prelude.{◌≡◌, ℕ, ◌+◌, ◌%◌, ◌<◌, ◌≤◌, ◌^◌, true, List, [], ◌∷◌, ◌++◌, drop, length, map, slice_get, Option, Some, is_some}
+use Rattle.std.specs.Prelude.{◌≡◌, ℕ, ◌+◌, ◌%◌, ◌<◌, ◌≤◌, ◌^◌, true, List, [], ◌∷◌, ◌++◌, drop}
+use Rattle.std.specs.Prelude.{length, map, slice_get, Option, Some, is_some}
 use mathlib.Core.Option.{some}
 use lib.ListN.{get_elem?}
 use Rattle.block_tag.specs.declared.tag.Tag.{Tag}
@@ -7,7 +8,9 @@ use Rattle.block_tag.specs.declared.catalogue.RelEntry.{RelEntry}
 use Rattle.block_tag.specs.Names.{names_block, packed_tag}
 use Rattle.block_tag.specs.Catalogue.{IsCatalogue}
 use Rattle.pin_core.specs.State.{Page}
-use Rattle.history_core.specs.Log.{image, Entry, Log, LogLaw, AreImages, AreValid, IsChange, AreChained, change_size, record_size, records, log_bytes, log_end, end_of, end_from, page_after}
+use Rattle.history_core.specs.Log.{image, Entry, Log, LogLaw, AreImages, AreValid, IsChange}
+use Rattle.history_core.specs.Log.{AreChained, change_size, record_size, records, log_bytes}
+use Rattle.history_core.specs.Log.{log_end, end_of, end_from, page_after}
 use Rattle.history_core.specs.State.{last_position}
 use Rattle.history_core.specs.Unentered.{IsEntered}
 use Rattle.segment_store.specs.Contents.{Marks, Pages}

@@ -1,10 +1,12 @@
 -- Records of a log's file that are well formed, and the log that a file's bytes are.
-use Rattle.std.specs.Prelude.{◌≡◌, ℕ, ◌-◌, ◌%◌, ◌<◌, ◌≤◌, ◌^◌, ◌+◌, List, [], ◌∷◌, ◌++◌, length, take, drop, slice_get, Some}
+use Rattle.std.specs.Prelude.{◌≡◌, ℕ, ◌-◌, ◌%◌, ◌<◌, ◌≤◌, ◌^◌, ◌+◌, List, [], ◌∷◌, ◌++◌, length}
+use Rattle.std.specs.Prelude.{take, drop, slice_get, Some}
 use Rattle.block_tag.specs.declared.tag.Tag.{Tag}
 use Rattle.block_tag.specs.declared.catalogue.RelEntry.{RelEntry}
 use Rattle.block_tag.specs.Names.{fork_number, packed_tag}
 use Rattle.page_layout.specs.Fields.{number_at}
-use Rattle.history_core.specs.Log.{Change, image, ranges, resize, Entry, Log, IsChange, IsImage, change_size, record_size, end_of}
+use Rattle.history_core.specs.Log.{Change, image, ranges, resize, Entry, Log, IsChange, IsImage}
+use Rattle.history_core.specs.Log.{change_size, record_size, end_of}
 use Rattle.history_core.specs.State.{last_position}
 
 -- which kind of record a change has

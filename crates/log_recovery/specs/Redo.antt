@@ -1,5 +1,6 @@
 -- Redo of a log's entries over lanes, and what a recovery leaves.
-use Rattle.std.specs.Prelude.{◌≡◌, ℕ, ◌<◌, ◌≤◌, ◌⊎◌, true, false, List, [], ◌∷◌, ◌++◌, length, map, get_or, nat_eq, slice_set, Option, Some, Result, IfSome, is_some}
+use Rattle.std.specs.Prelude.{◌≡◌, ℕ, ◌<◌, ◌≤◌, ◌⊎◌, true, false, List, [], ◌∷◌, ◌++◌, length, map}
+use Rattle.std.specs.Prelude.{get_or, nat_eq, slice_set, Option, Some, Result, IfSome, is_some}
 use Rattle.std.specs.List.{filter_map}
 use Rattle.std.specs.Set.{distinct_count}
 use Rattle.block_tag.specs.Catalogue.{IsCatalogue}
@@ -9,7 +10,8 @@ use Rattle.block_tag.specs.declared.tag.Tag.{Tag}
 use Rattle.log_device.specs.Faults.{Rose}
 use Rattle.segment_store.specs.Contents.{Marks, Pages, no_marks, AfterWrite}
 use Rattle.segment_store.specs.Lanes.{lane_at, mark_in, page_in}
-use Rattle.history_core.specs.Log.{AreImages, AreValid, Entry, Log, LogLaw, log_end, page_after, tag_in}
+use Rattle.history_core.specs.Log.{AreImages, AreValid, Entry, Log, LogLaw, log_end, page_after}
+use Rattle.history_core.specs.Log.{tag_in}
 use Rattle.history_core.specs.Unentered.{IsEntered}
 use Rattle.log_recovery.specs.Records.{HasBadHead, IsLogOf}
 use Rattle.log_recovery.specs.declared.recovering.Redone.{Redone}

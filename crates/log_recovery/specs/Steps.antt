@@ -1,5 +1,6 @@
 -- The steps of a recovery.
-use Rattle.std.specs.Prelude.{◌≡◌, ℕ, ◌+◌, ◌<◌, ◌≤◌, true, ◌||◌, List, [], ◌∷◌, ◌++◌, drop, get_or, length, map, nat_eq, Option, Some, None, IfSome, if◌then◌else◌}
+use Rattle.std.specs.Prelude.{◌≡◌, ℕ, ◌+◌, ◌<◌, ◌≤◌, true, ◌||◌, List, [], ◌∷◌, ◌++◌, drop, get_or}
+use Rattle.std.specs.Prelude.{length, map, nat_eq, Option, Some, None, IfSome, if◌then◌else◌}
 use Rattle.std.specs.BTreeSet as sorted
 use Rattle.std.specs.BTreeSet.{btree_set_len}
 use Rattle.std.specs.List.{list_any}
@@ -9,7 +10,8 @@ use Rattle.block_tag.specs.Names.{names_block, packed_tag}
 use Rattle.block_tag.specs.declared.catalogue.RelEntry.{RelEntry}
 use Rattle.block_tag.specs.declared.tag.Tag.{Tag}
 use Rattle.segment_store.specs.Contents.{Marks, Pages, no_marks}
-use Rattle.history_core.specs.Log.{AreImages, Entry, IsImage, Log, LogLaw, change_size, end_from, end_of, record_size}
+use Rattle.history_core.specs.Log.{AreImages, Entry, IsImage, Log, LogLaw, change_size, end_from}
+use Rattle.history_core.specs.Log.{end_of, record_size}
 use Rattle.history_core.specs.State.{last_position}
 use Rattle.segment_store.specs.Lanes.{HoldTheirs}
 use Rattle.log_recovery.specs.Records.{IsHead, IsLogOf, IsRecord, Reads, image_entry}

@@ -1,5 +1,6 @@
 //! The head of a log.
-ghost use Rattle.std.specs.Prelude.{◌≡◌, ◌≤◌, ◌⊎◌, ◌^◌, ℕ, IfErr, IfOk, IfSome, IsErrOf, None, OnOk, length};
+ghost use Rattle.std.specs.Prelude.{◌≡◌, ◌≤◌, ◌⊎◌, ◌^◌, ℕ, IfErr, IfOk, IfSome, IsErrOf, None};
+ghost use Rattle.std.specs.Prelude.{OnOk, length};
 ghost use Rattle.log_device.specs.Faults.{Rose};
 ghost use Rattle.log_recovery.specs.Records.{HasBadHead, IsHead};
 ghost use Rattle.log_recovery.specs.Steps.{Begins};

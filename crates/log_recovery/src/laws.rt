@@ -1,6 +1,9 @@
 //! What holds of the log that bytes are read as, whatever a crash left of them.
 ghost use Rattle.log_recovery.specs.Crash.{CrashesRecover, SurvivorsAreRead};
-ghost use Rattle.log_recovery.specs.Laws.{ArePartsOf, AreLeftRead, AreLogs, AreReadBack, AreReadOnce, AreReadSomehow, IsCompleted, IsOneLog, IsRedoneOnce, LogsAreLeft, LogsAreReadBack, PagesAreSettled};
+ghost use Rattle.log_recovery.specs.Laws.{ArePartsOf, AreLeftRead, AreLogs, AreReadBack};
+ghost use Rattle.log_recovery.specs.Laws.{AreReadOnce, AreReadSomehow, IsCompleted, IsOneLog};
+ghost use Rattle.log_recovery.specs.Laws.{IsRedoneOnce, LogsAreLeft, LogsAreReadBack};
+ghost use Rattle.log_recovery.specs.Laws.{PagesAreSettled};
 
 use segment_store::BlockLane;
 

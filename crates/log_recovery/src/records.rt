@@ -4,7 +4,8 @@
 //! with the bytes that the writer makes. So the bytes alone determine the entries, and that what
 //! was written is read back is a theorem. A record doesn't say which backend made it; an entry that
 //! is read has backend 0.
-ghost use Rattle.std.specs.Prelude.{◌≡◌, ◌+◌, ◌≤◌, ◌<◌, ◌^◌, ◌↔◌, ℕ, List, None, IfSome, IsTrue, drop, length, true};
+ghost use Rattle.std.specs.Prelude.{◌≡◌, ◌+◌, ◌≤◌, ◌<◌, ◌^◌, ◌↔◌, ℕ, List, None, IfSome, IsTrue};
+ghost use Rattle.std.specs.Prelude.{drop, length, true};
 ghost use Rattle.block_tag.specs.Names.{names_block, packed_tag};
 ghost use Rattle.page_layout.specs.Fields.{number_at};
 ghost use Rattle.history_core.specs.Log.{Entry, IsImage};

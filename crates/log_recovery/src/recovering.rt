@@ -3,12 +3,14 @@
 //! Recovery allocates a set of blocks and nothing else, to tell how many different blocks it wrote.
 //! A block enters the set before its write, so out of memory leaves the redo of the records before.
 //! All records are read into one buffer.
-ghost use Rattle.std.specs.Prelude.{◌≡◌, ◌≢◌, ◌<◌, ◌≤◌, ◌⊎◌, All, IfErr, IfOk, IfSome, IsErrOf, OnErr, OnOk, length, map};
+ghost use Rattle.std.specs.Prelude.{◌≡◌, ◌≢◌, ◌<◌, ◌≤◌, ◌⊎◌, All, IfErr, IfOk, IfSome, IsErrOf};
+ghost use Rattle.std.specs.Prelude.{OnErr, OnOk, length, map};
 ghost use Rattle.log_device.specs.Faults.{Rose};
 ghost use Rattle.segment_store.specs.Contents.{no_marks};
 ghost use Rattle.segment_store.specs.Lanes.{HoldTheirs};
 ghost use Rattle.log_recovery.specs.Records.{HasBadHead};
-ghost use Rattle.log_recovery.specs.Redo.{AnyRose, IsRecovered, LeavesPart, LeavesUnsynced, MarksNone, MarksOnly, NoneFell};
+ghost use Rattle.log_recovery.specs.Redo.{AnyRose, IsRecovered, LeavesPart, LeavesUnsynced};
+ghost use Rattle.log_recovery.specs.Redo.{MarksNone, MarksOnly, NoneFell};
 ghost use Rattle.log_recovery.specs.Steps.{HasRedone};
 
 use crate::error::RecoverError;

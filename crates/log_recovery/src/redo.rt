@@ -1,11 +1,14 @@
 //! Redo: the pages of records are written to their blocks.
-ghost use Rattle.std.specs.Prelude.{◌≡◌, ◌≢◌, ◌+◌, ◌<◌, ◌≤◌, ◌⊎◌, ◌^◌, [], IfErr, IfOk, IfSome, IsErrOf, None, OnErr, OnOk, is_some, length, map, true};
+ghost use Rattle.std.specs.Prelude.{◌≡◌, ◌≢◌, ◌+◌, ◌<◌, ◌≤◌, ◌⊎◌, ◌^◌, [], IfErr, IfOk, IfSome};
+ghost use Rattle.std.specs.Prelude.{IsErrOf, None, OnErr, OnOk, is_some, length, map, true};
 ghost use Rattle.block_tag.specs.Names.{names_block};
 ghost use Rattle.log_device.specs.Faults.{HasCause, Rose};
 ghost use Rattle.log_device.specs.declared.device.Failed.{Failed};
 ghost use Rattle.segment_store.specs.Lanes.{HoldTheirs};
-ghost use Rattle.log_recovery.specs.Redo.{AnyRose, LeavesFirst, MarksFirst, MarksNone, MarksOnly, NoneFell, WritesTo};
-ghost use Rattle.log_recovery.specs.Steps.{HasNoRecord, HaveRedone, IsNextImage, IsUpto, LeadIn, StepsOn};
+ghost use Rattle.log_recovery.specs.Redo.{AnyRose, LeavesFirst, MarksFirst, MarksNone, MarksOnly};
+ghost use Rattle.log_recovery.specs.Redo.{NoneFell, WritesTo};
+ghost use Rattle.log_recovery.specs.Steps.{HasNoRecord, HaveRedone, IsNextImage, IsUpto, LeadIn};
+ghost use Rattle.log_recovery.specs.Steps.{StepsOn};
 
 use crate::error::RecoverError;
 use crate::head::LAST_POSITION;

@@ -10,7 +10,8 @@ use Rattle.backend_pass.specs.FrameFlushes.{RefusesFrame}
 use Rattle.backend_pass.specs.Managers.{Belongs}
 use Rattle.backend_pass.specs.Passes.{KeepsCallers, KeepsMark, PassState, SamePass}
 use Rattle.page_jobs.specs.declared.ending.JobError.{JobError}
-use Rattle.page_jobs.specs.declared.ending.JobError.TheVariants.{WriteFault, LogFault, LogDown, LogShort}
+use Rattle.page_jobs.specs.declared.ending.JobError.TheVariants.{WriteFault, LogFault, LogDown}
+use Rattle.page_jobs.specs.declared.ending.JobError.TheVariants.{LogShort}
 
 -- what ends a job, by the refusal of a write
 abbrev pub fault_of_flush : FlushError → JobError

@@ -1,5 +1,6 @@
 -- The texts of chunks, and what a worker does with them at the window.
-use Rattle.std.specs.Prelude.{◌≡◌, ℕ, ◌+◌, ◌*◌, ◌<◌, ◌≤◌, List, [], length, Option, Result, Ok, Err, OnOk}
+use Rattle.std.specs.Prelude.{◌≡◌, ℕ, ◌+◌, ◌*◌, ◌<◌, ◌≤◌, List, [], length, Option, Result, Ok, Err}
+use Rattle.std.specs.Prelude.{OnOk}
 use Rattle.block_tag.specs.declared.tag.Fork.{Fork}
 use Rattle.page_layout.specs.Scan.{IsWithin}
 use Rattle.segment_store.specs.Contents.{Pages}

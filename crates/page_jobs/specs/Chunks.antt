@@ -1,5 +1,6 @@
 -- The blocks of a fork in chunks of eight.
-use Rattle.std.specs.Prelude.{◌≡◌, ℕ, ◌+◌, ◌*◌, ◌-◌, ◌/◌, ◌<◌, ◌≤◌, List, [], ◌∷◌, ◌++◌, length, min}
+use Rattle.std.specs.Prelude.{◌≡◌, ℕ, ◌+◌, ◌*◌, ◌-◌, ◌/◌, ◌<◌, ◌≤◌, List, [], ◌∷◌, ◌++◌, length}
+use Rattle.std.specs.Prelude.{min}
 use mathlib.Core.Option.{some}
 use lib.ListN.{get_elem?}
 use Rattle.grid.specs.Shape.{total}

@@ -13,9 +13,11 @@ use Rattle.page_jobs.specs.declared.ending.JobError.TheVariants.{OutFault}
 use Rattle.page_jobs.specs.declared.ending.Totals.{Totals}
 use Rattle.page_jobs.specs.declared.printing.Lines.{Lines}
 use Rattle.page_jobs.specs.Beside.{LastDid, StaysBeside}
-use Rattle.page_jobs.specs.Completeness.{IsDoneOrMemory, IsDoneShortOrMemory, NoDeviceFailsIn, NothingFailsIn, OutIsQuiet}
+use Rattle.page_jobs.specs.Completeness.{IsDoneOrMemory, IsDoneShortOrMemory, NoDeviceFailsIn}
+use Rattle.page_jobs.specs.Completeness.{NothingFailsIn, OutIsQuiet}
 use Rattle.page_jobs.specs.Ending.{as_done, totals_of_scan}
-use Rattle.page_jobs.specs.Jobs.{AllAtBase, EndsJob, IsOrigin, PutsTexts, ReadParts, ReadsAll, workers_in}
+use Rattle.page_jobs.specs.Jobs.{AllAtBase, EndsJob, IsOrigin, PutsTexts, ReadParts, ReadsAll}
+use Rattle.page_jobs.specs.Jobs.{workers_in}
 use Rattle.page_jobs.specs.Printed.{text_of_pages}
 use Rattle.page_jobs.specs.Relations.{MeetNothing}
 

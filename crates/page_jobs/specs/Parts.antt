@@ -1,5 +1,6 @@
 -- What a worker does with the blocks that it reads.
-use Rattle.std.specs.Prelude.{◌≡◌, ℕ, ◌<◌, ◌⊎◌, List, [], ◌∷◌, ◌++◌, length, Option, Some, Result, OnOk, IfErr}
+use Rattle.std.specs.Prelude.{◌≡◌, ℕ, ◌<◌, ◌⊎◌, List, [], ◌∷◌, ◌++◌, length, Option, Some, Result}
+use Rattle.std.specs.Prelude.{OnOk, IfErr}
 use Rattle.block_tag.specs.declared.tag.Fork.{Fork}
 use Rattle.block_tag.specs.Catalogue.{blocks_at}
 use Rattle.block_tag.specs.Names.{tag_of_parts}
@@ -16,7 +17,8 @@ use Rattle.page_jobs.specs.declared.ending.JobError.{JobError}
 use Rattle.page_jobs.specs.declared.ending.JobError.TheVariants.{Memory}
 use Rattle.page_jobs.specs.declared.printing.Lines.{Lines}
 use Rattle.page_jobs.specs.Printed.{BlockRead, reads_lines, reads_totals}
-use Rattle.page_jobs.specs.Reads.{EndsAtRead, IsKnown, IsWithinFront, Stays, calls_of_reads, fault_of_refusal}
+use Rattle.page_jobs.specs.Reads.{EndsAtRead, IsKnown, IsWithinFront, Stays, calls_of_reads}
+use Rattle.page_jobs.specs.Reads.{fault_of_refusal}
 
 -- this holds of what was read of each of these blocks, or of the first of them
 abbrev pub AllReads : (ℕ → BlockRead → Type 0) → List ℕ → List BlockRead → Type 0

@@ -1,5 +1,6 @@
 -- How a worker reads a block.
-use Rattle.std.specs.Prelude.{◌≡◌, ℕ, ◌≤◌, Bool, true, false, List, [], ◌∷◌, ◌++◌, Option, Some, None}
+use Rattle.std.specs.Prelude.{◌≡◌, ℕ, ◌≤◌, Bool, true, false, List, [], ◌∷◌, ◌++◌, Option, Some}
+use Rattle.std.specs.Prelude.{None}
 use Rattle.block_tag.specs.declared.tag.Fork.{Fork}
 use Rattle.block_tag.specs.declared.tag.Tag.{Tag}
 use Rattle.block_tag.specs.Names.{lane_number, packed_tag, tag_of_parts}
@@ -25,7 +26,8 @@ use Rattle.buffer_frames.specs.PageReads.{ReadsPage}
 use Rattle.backend_pass.specs.Passes.{KeepsCalls, KeepsLocks, KeepsMark, PassState, SamePass}
 use Rattle.backend_pass.specs.Reading.{ReadingRefused, met_read_refused}
 use Rattle.page_jobs.specs.declared.ending.JobError.{JobError}
-use Rattle.page_jobs.specs.declared.ending.JobError.TheVariants.{ReadFault, WriteFault, LogFault, LogDown, LogShort}
+use Rattle.page_jobs.specs.declared.ending.JobError.TheVariants.{ReadFault, WriteFault, LogFault}
+use Rattle.page_jobs.specs.declared.ending.JobError.TheVariants.{LogDown, LogShort}
 use Rattle.page_jobs.specs.declared.reading.PageRead.{PageRead}
 use Rattle.page_jobs.specs.declared.reading.PageRead.TheVariants.{Sound, Unsound}
 use Rattle.page_jobs.specs.Printed.{BlockRead, copied, unsound}

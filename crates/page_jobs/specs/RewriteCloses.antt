@@ -1,5 +1,6 @@
 -- What the devices hold when a manager is closed after a rewrite.
-use Rattle.std.specs.Prelude.{◌≡◌, ◌≢◌, ◌⊎◌, ℕ, ◌+◌, ◌*◌, ◌<◌, ◌≤◌, true, false, List, [], ◌++◌, length, Option, Some, None, is_some}
+use Rattle.std.specs.Prelude.{◌≡◌, ◌≢◌, ◌⊎◌, ℕ, ◌+◌, ◌*◌, ◌<◌, ◌≤◌, true, false, List, [], ◌++◌}
+use Rattle.std.specs.Prelude.{length, Option, Some, None, is_some}
 use mathlib.Core.Option.{some}
 use lib.ListN.{get_elem?}
 use Rattle.block_tag.specs.declared.tag.Fork.{Fork}
@@ -24,7 +25,8 @@ use Rattle.page_jobs.specs.Ending.{totals_of_rewrite}
 use Rattle.page_jobs.specs.Jobs.{IsOrigin, workers_in}
 use Rattle.page_jobs.specs.Parts.{blocks_in}
 use Rattle.page_jobs.specs.Rewrites.{Rule, rule_of}
-use Rattle.page_jobs.specs.RewriteEnds.{BeginsRewrite, HasEntry, HasRewrites, IsPageEntry, IsRewritten}
+use Rattle.page_jobs.specs.RewriteEnds.{BeginsRewrite, HasEntry, HasRewrites, IsPageEntry}
+use Rattle.page_jobs.specs.RewriteEnds.{IsRewritten}
 use Rattle.page_jobs.specs.RewriteJobs.{EndsRewrite, RewriteParts, RewritesFork}
 
 -- a pass failed to append no record

@@ -1,17 +1,20 @@
 -- What a rewrite of a relation makes of the log and of the lanes.
-use Rattle.std.specs.Prelude.{◌≡◌, ◌⊎◌, ℕ, ◌+◌, ◌*◌, ◌<◌, ◌≤◌, Bool, true, false, List, [], ◌∷◌, ◌++◌, nat_eq, Option, Some, unwrap_or, if◌then◌else◌}
+use Rattle.std.specs.Prelude.{◌≡◌, ◌⊎◌, ℕ, ◌+◌, ◌*◌, ◌<◌, ◌≤◌, Bool, true, false, List, [], ◌∷◌}
+use Rattle.std.specs.Prelude.{◌++◌, nat_eq, Option, Some, unwrap_or, if◌then◌else◌}
 use mathlib.Core.Option.{some}
 use lib.ListN.{get_elem?}
 use Rattle.grid.specs.Shape.{total}
 use Rattle.chunk_claims.specs.Claims.{sum_below}
 use Rattle.pin_core.specs.declared.view.Call.{Call}
 use Rattle.pin_core.specs.State.{Page, is_block}
-use Rattle.history_core.specs.Log.{Entry, IsEntryOf, Log, image, end_of, log_end, record_bytes, record_size, head_size, place_of, writes_in}
+use Rattle.history_core.specs.Log.{Entry, IsEntryOf, Log, image, end_of, log_end, record_bytes}
+use Rattle.history_core.specs.Log.{record_size, head_size, place_of, writes_in}
 use Rattle.history_core.specs.History.{IsHistory}
 use Rattle.history_core.specs.Laws.{Laws}
 use Rattle.history_core.specs.Promises.{AreStored}
 use Rattle.history_core.specs.State.{State, last_position, stored, failed}
-use Rattle.page_jobs.specs.Rewrites.{Outcome, unsound, kept, refused, changed, Rule, outcome_block, calls_for, is_ended}
+use Rattle.page_jobs.specs.Rewrites.{Outcome, unsound, kept, refused, changed, Rule, outcome_block}
+use Rattle.page_jobs.specs.Rewrites.{calls_for, is_ended}
 
 -- the page that a block had at the start
 abbrev pub page_at_start : (ℕ → Option Page) → ℕ → Page

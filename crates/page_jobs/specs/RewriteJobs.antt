@@ -11,7 +11,8 @@ use Rattle.page_jobs.specs.declared.ending.JobError.{JobError}
 use Rattle.page_jobs.specs.declared.ending.JobError.TheVariants.{Memory}
 use Rattle.page_jobs.specs.declared.ending.Totals.{Totals}
 use Rattle.page_jobs.specs.Beside.{LastIsRefused}
-use Rattle.page_jobs.specs.Chunks.{AreAllClaimed, AreFirstClaimed, Claimed, CoversChunks, blocks_in_all, items_in_all}
+use Rattle.page_jobs.specs.Chunks.{AreAllClaimed, AreFirstClaimed, Claimed, CoversChunks}
+use Rattle.page_jobs.specs.Chunks.{blocks_in_all, items_in_all}
 use Rattle.page_jobs.specs.Ending.{totals_of_rewrite}
 use Rattle.page_jobs.specs.Jobs.{workers_in}
 use Rattle.page_jobs.specs.Parts.{MeetsFault, blocks_in}

@@ -1,5 +1,6 @@
 -- What a survey of the lanes tells of the catalogue's blocks, and what it leaves of the lanes.
-use Rattle.std.specs.Prelude.{◌≡◌, ◌⊎◌, ℕ, ◌+◌, ◌<◌, ◌≤◌, true, List, get_or, length, slice_set, map, sum_by, Option, Some, IsSome, IsSomeAnd}
+use Rattle.std.specs.Prelude.{◌≡◌, ◌⊎◌, ℕ, ◌+◌, ◌<◌, ◌≤◌, true, List, get_or, length, slice_set}
+use Rattle.std.specs.Prelude.{map, sum_by, Option, Some, IsSome, IsSomeAnd}
 use Rattle.std.specs.Option.{ForSome}
 use Rattle.block_tag.specs.declared.catalogue.RelEntry.{RelEntry}
 use Rattle.block_tag.specs.declared.tag.Fork.{Fork}

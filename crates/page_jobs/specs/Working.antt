@@ -1,5 +1,6 @@
 -- What a worker does with the chunks that it claims, whatever the task.
-use Rattle.std.specs.Prelude.{◌≡◌, ℕ, ◌+◌, ◌<◌, ◌≤◌, ◌^◌, ◌⊎◌, List, [], ◌∷◌, ◌++◌, Result, Ok, Err, length, slice_index_or}
+use Rattle.std.specs.Prelude.{◌≡◌, ℕ, ◌+◌, ◌<◌, ◌≤◌, ◌^◌, ◌⊎◌, List, [], ◌∷◌, ◌++◌, Result, Ok, Err}
+use Rattle.std.specs.Prelude.{length, slice_index_or}
 use Rattle.grid.specs.Shape.{total}
 use Rattle.backend_pass.specs.Passes.{PassState}
 use Rattle.chunk_claims.specs.declared.claimant.Claimant.{Claimant}

@@ -3,11 +3,13 @@
 //! A worker keeps its seat until the job gives its pass back; only then do the claims tell that
 //! each chunk was claimed once. Totals are added before that, when only the number of workers
 //! bounds their sum: `add` takes up to 2^40 blocks, and no fork has more than 2^32.
-ghost use Rattle.std.specs.Prelude.{◌≡◌, ℕ, ◌<◌, ◌≤◌, ◌^◌, [], All, IfOk, OnErr, OnOk, map, vec_capacity, vec_len};
+ghost use Rattle.std.specs.Prelude.{◌≡◌, ℕ, ◌<◌, ◌≤◌, ◌^◌, [], All, IfOk, OnErr, OnOk, map};
+ghost use Rattle.std.specs.Prelude.{vec_capacity, vec_len};
 ghost use Rattle.grid.specs.Shape.{total};
 ghost use Rattle.chunk_claims.specs.Claims.{SitsAt};
 ghost use Rattle.page_jobs.specs.declared.working.Worker.{Worker};
-ghost use Rattle.page_jobs.specs.Dealt.{AreDealt, HasWorkedSeat, HaveJoined, IsDealing, total_drawn};
+ghost use Rattle.page_jobs.specs.Dealt.{AreDealt, HasWorkedSeat, HaveJoined, IsDealing};
+ghost use Rattle.page_jobs.specs.Dealt.{total_drawn};
 
 use crate::working::{JobTask, Worker};
 use atomic_table::Seat;

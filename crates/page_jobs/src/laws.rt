@@ -13,7 +13,8 @@ ghost use Rattle.history_core.specs.State.{State};
 ghost use Rattle.table_rule.specs.Shows.{devices};
 ghost use Rattle.page_jobs.specs.Rewrites.{Rule};
 ghost use Rattle.page_jobs.specs.RewriteCloses.{ClosesEither, ClosesFull, ClosesRewritten};
-ghost use Rattle.page_jobs.specs.RewriteEnds.{Finishes, HasRewrites, IsResult, LanesHoldEither, BackendCalls, Rewrites};
+ghost use Rattle.page_jobs.specs.RewriteEnds.{Finishes, HasRewrites, IsResult, LanesHoldEither};
+ghost use Rattle.page_jobs.specs.RewriteEnds.{BackendCalls, Rewrites};
 
 use backend_pass::Manager;
 use log_device::LogDevice;

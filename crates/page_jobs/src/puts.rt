@@ -4,7 +4,8 @@ ghost use Rattle.log_device.specs.Bytes.{Puts};
 ghost use Rattle.log_device.specs.Faults.{Rose};
 ghost use Rattle.text_window.specs.Texts.{is_output};
 ghost use Rattle.page_jobs.specs.declared.ending.JobError.TheVariants.{Memory, OutFault};
-ghost use Rattle.page_jobs.specs.Dealt.{AllDone, AnyEnds, EndsAsStopper, EndsFirst, PutsEnd, PutsNoEnd, TotalsAreInRange, job_totals};
+ghost use Rattle.page_jobs.specs.Dealt.{AllDone, AnyEnds, EndsAsStopper, EndsFirst, PutsEnd};
+ghost use Rattle.page_jobs.specs.Dealt.{PutsNoEnd, TotalsAreInRange, job_totals};
 ghost use Rattle.page_jobs.specs.Ending.{as_done, totals_of_scan};
 ghost use Rattle.page_jobs.specs.Printed.{totals_line};
 

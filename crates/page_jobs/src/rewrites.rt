@@ -4,7 +4,8 @@
 //! pin under the cleanup lock, once the page is read.
 ghost use Rattle.std.specs.Prelude.{◌≡◌, ◌≤◌, ◌⊎◌, ◌^◌, Ok, Err, IfErr, IfOk, OnOk, vec_len};
 ghost use Rattle.page_jobs.specs.Beside.{LastDid, StaysBeside};
-ghost use Rattle.page_jobs.specs.Completeness.{IsDoneFullOrMemory, IsDoneFullShortOrMemory, NoDeviceFailsIn, NothingFailsIn};
+ghost use Rattle.page_jobs.specs.Completeness.{IsDoneFullOrMemory, IsDoneFullShortOrMemory};
+ghost use Rattle.page_jobs.specs.Completeness.{NoDeviceFailsIn, NothingFailsIn};
 ghost use Rattle.page_jobs.specs.Dealt.{AllDone, EndsFirst};
 ghost use Rattle.page_jobs.specs.Ending.{totals_of_rewrite};
 ghost use Rattle.page_jobs.specs.Jobs.{HaveNoTokens, workers_in};

@@ -16,7 +16,8 @@ ghost use Rattle.backend_pass.specs.Managers.{Belongs};
 ghost use Rattle.page_layout.specs.Outcomes.{IsRewriteWithin, no_rewrite_totals};
 ghost use Rattle.frame_table.specs.Seats.{relations_of};
 ghost use Rattle.page_jobs.specs.Reads.{HasNoTokens, RefusesBlock};
-ghost use Rattle.page_jobs.specs.Rewriting.{CountsRewrites, LocksOne, RewritesBlock, RewritesHeld, RewritesLocked, fault_of_put};
+ghost use Rattle.page_jobs.specs.Rewriting.{CountsRewrites, LocksOne, RewritesBlock, RewritesHeld};
+ghost use Rattle.page_jobs.specs.Rewriting.{RewritesLocked, fault_of_put};
 
 use crate::ending::JobError;
 use crate::gate::Gate;

@@ -1,11 +1,13 @@
 //! A job from its passes to its workers' ends, whatever it does with the blocks.
-ghost use Rattle.std.specs.Prelude.{◌≡◌, ℕ, true, ◌+◌, ◌-◌, ◌<◌, ◌≤◌, ◌++◌, [], ◌∷◌, ◌^◌, Ok, IfErr, IfOk, OnErr, OnOk, map, vec_capacity, vec_len, All};
+ghost use Rattle.std.specs.Prelude.{◌≡◌, ℕ, true, ◌+◌, ◌-◌, ◌<◌, ◌≤◌, ◌++◌, [], ◌∷◌, ◌^◌, Ok};
+ghost use Rattle.std.specs.Prelude.{IfErr, IfOk, OnErr, OnOk, map, vec_capacity, vec_len, All};
 ghost use Rattle.chunk_claims.specs.Claims.{SitsAt, sum_below};
 ghost use Rattle.block_tag.specs.Names.{names_block, tag_of_parts};
 ghost use Rattle.page_jobs.specs.declared.working.Worker.{Worker};
 ghost use Rattle.page_jobs.specs.Beside.{EndsBeside};
 ghost use Rattle.page_jobs.specs.Chunks.{chunk_count};
-ghost use Rattle.page_jobs.specs.Dealt.{HasRun, HasWorkedSeat, HaveJoined, IsDealing, IsDealtOut, IsReady, total_drawn};
+ghost use Rattle.page_jobs.specs.Dealt.{HasRun, HasWorkedSeat, HaveJoined, IsDealing, IsDealtOut};
+ghost use Rattle.page_jobs.specs.Dealt.{IsReady, total_drawn};
 ghost use Rattle.page_jobs.specs.Jobs.{HaveNoTokens};
 ghost use Rattle.page_jobs.specs.Parts.{blocks_in};
 ghost use Rattle.page_jobs.specs.Reads.{HasNoTokens};

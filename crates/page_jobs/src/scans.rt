@@ -4,7 +4,8 @@
 //! line `PutsTexts` says that it is sound, and that it is the block's page at the opening if it was
 //! read at the log's base. If all passes are at the base at the end, the text is that of the pages
 //! at the opening. The totals' line is tied to what the passes read.
-ghost use Rattle.std.specs.Prelude.{◌≡◌, ℕ, ◌+◌, ◌-◌, ◌<◌, ◌≤◌, ◌⊎◌, List, [], Ok, IfErr, IfOk, OnOk, length, vec_len};
+ghost use Rattle.std.specs.Prelude.{◌≡◌, ℕ, ◌+◌, ◌-◌, ◌<◌, ◌≤◌, ◌⊎◌, List, [], Ok, IfErr, IfOk};
+ghost use Rattle.std.specs.Prelude.{OnOk, length, vec_len};
 ghost use mathlib.Core.Option.{some};
 ghost use lib.ListN.{get_elem?};
 ghost use Rattle.page_layout.specs.Dump.{dump_text};
@@ -17,9 +18,11 @@ ghost use Rattle.page_jobs.specs.declared.ending.JobError.TheVariants.{OutFault}
 ghost use Rattle.page_jobs.specs.declared.printing.Lines.TheVariants.{Dump, Scan};
 ghost use Rattle.page_jobs.specs.Beside.{LastDid, StaysBeside};
 ghost use Rattle.page_jobs.specs.ChunkTexts.{IsChunkText, job_of};
-ghost use Rattle.page_jobs.specs.Completeness.{IsDoneOrMemory, IsDoneShortOrMemory, NoDeviceFailsIn, NothingFailsIn, OutIsQuiet};
+ghost use Rattle.page_jobs.specs.Completeness.{IsDoneOrMemory, IsDoneShortOrMemory};
+ghost use Rattle.page_jobs.specs.Completeness.{NoDeviceFailsIn, NothingFailsIn, OutIsQuiet};
 ghost use Rattle.page_jobs.specs.Ending.{as_done, totals_of_scan};
-ghost use Rattle.page_jobs.specs.Jobs.{AllAtBase, EndsJob, HaveNoTokens, IsOrigin, PutsTexts, ReadParts, ReadsAll, workers_in};
+ghost use Rattle.page_jobs.specs.Jobs.{AllAtBase, EndsJob, HaveNoTokens, IsOrigin, PutsTexts};
+ghost use Rattle.page_jobs.specs.Jobs.{ReadParts, ReadsAll, workers_in};
 ghost use Rattle.page_jobs.specs.Listings.{IsListed};
 ghost use Rattle.page_jobs.specs.Parts.{blocks_in};
 ghost use Rattle.page_jobs.specs.Relations.{MeetNothing};

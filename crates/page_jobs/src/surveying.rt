@@ -1,12 +1,16 @@
 //! The survey of a relation's lanes: the largest log position of their pages, before a manager is
 //! started over them.
-ghost use Rattle.std.specs.Prelude.{◌≡◌, ◌+◌, ◌<◌, ◌≤◌, IfErr, IfOk, IfSome, IsSome, OnOk, false, length, map, sum_by, true};
+ghost use Rattle.std.specs.Prelude.{◌≡◌, ◌+◌, ◌<◌, ◌≤◌, IfErr, IfOk, IfSome, IsSome, OnOk, false};
+ghost use Rattle.std.specs.Prelude.{length, map, sum_by, true};
 ghost use Rattle.std.specs.Option.{ForSome};
 ghost use Rattle.block_tag.specs.Catalogue.{blocks_at};
 ghost use Rattle.page_layout.specs.Fields.{lsn_of};
 ghost use Rattle.page_layout.specs.Soundness.{is_sound_page};
 ghost use Rattle.segment_store.specs.Lanes.{lane_at};
-ghost use Rattle.page_jobs.specs.Survey.{AreOfBlock, AreOfFork, AreOfRelation, AreOnlyRead, FailsToRead, HaveTheirs, IsLargestLsn, IsListed, IsListedByName, RoseAt, Surveys, catalog_blocks, sum_of_forks};
+ghost use Rattle.page_jobs.specs.Survey.{AreOfBlock, AreOfFork, AreOfRelation, AreOnlyRead};
+ghost use Rattle.page_jobs.specs.Survey.{FailsToRead, HaveTheirs, IsLargestLsn, IsListed};
+ghost use Rattle.page_jobs.specs.Survey.{IsListedByName, RoseAt, Surveys, catalog_blocks};
+ghost use Rattle.page_jobs.specs.Survey.{sum_of_forks};
 
 use block_tag::{Catalog, Fork, RelNo, Tag};
 use page_layout::{Lsn, Page};

@@ -16,7 +16,8 @@ ghost use Rattle.page_jobs.specs.Parts.{blocks_in};
 ghost use Rattle.page_jobs.specs.Reads.{HasNoTokens};
 ghost use Rattle.chunk_claims.specs.Claims.{SitsAt};
 ghost use Rattle.page_jobs.specs.Chunks.{chunk_count, chunk_size};
-ghost use Rattle.page_jobs.specs.Working.{CanBegin, CanCount, ClaimsNothing, DoesUpTo, IsAtEnd, WorksChunk, WorksChunks};
+ghost use Rattle.page_jobs.specs.Working.{CanBegin, CanCount, ClaimsNothing, DoesUpTo, IsAtEnd};
+ghost use Rattle.page_jobs.specs.Working.{WorksChunk, WorksChunks};
 
 use crate::ending::JobError;
 use crate::gate::Gate;

@@ -1,7 +1,9 @@
 -- What a page that isn't skipped has, and the numbers by which its items are sorted.
-use Rattle.std.specs.Prelude.{◌≡◌, ℕ, suc, zero, ◌+◌, ◌-◌, ◌*◌, ◌%◌, ◌≤◌, ◌<◌, true, false, sum_by, slice_index, List, [], ◌∷◌, ◌++◌, if◌then◌else◌, length}
+use Rattle.std.specs.Prelude.{◌≡◌, ℕ, suc, zero, ◌+◌, ◌-◌, ◌*◌, ◌%◌, ◌≤◌, ◌<◌, true, false, sum_by}
+use Rattle.std.specs.Prelude.{slice_index, List, [], ◌∷◌, ◌++◌, if◌then◌else◌, length}
 use Rattle.page_layout.specs.Fields.{item_count}
-use Rattle.page_layout.specs.Rewritten.{is_normal, length_at, lower_of, new_offset, offset_at, places_of, room_at, room_of_items, special_of, upper_of}
+use Rattle.page_layout.specs.Rewritten.{is_normal, length_at, lower_of, new_offset, offset_at}
+use Rattle.page_layout.specs.Rewritten.{places_of, room_at, room_of_items, special_of, upper_of}
 
 -- a page that isn't skipped: its items stand between the line pointers and the end, and have room
 -- there when rounded up

@@ -1,7 +1,9 @@
 -- A page that is rewritten without its dead line pointers, its items put together at its end, as
 -- `PageRepairFragmentation` and `compactify_tuples` in PostgreSQL's `bufpage.c` do. Line pointers go by their place,
 -- from 0 on.
-use Rattle.std.specs.Prelude.{◌≡◌, ◌<◌, true, ℕ, suc, zero, ◌+◌, ◌-◌, ◌*◌, ◌/◌, ◌%◌, ◌^◌, ◌==◌, Bool, not, ◌&&◌, ◌||◌, nat_lt, nat_le, List, map, slice_index, length, if◌then◌else◌, sum_by}
+use Rattle.std.specs.Prelude.{◌≡◌, ◌<◌, true, ℕ, suc, zero, ◌+◌, ◌-◌, ◌*◌, ◌/◌, ◌%◌, ◌^◌, ◌==◌}
+use Rattle.std.specs.Prelude.{Bool, not, ◌&&◌, ◌||◌, nat_lt, nat_le, List, map, slice_index, length}
+use Rattle.std.specs.Prelude.{if◌then◌else◌, sum_by}
 use Rattle.std.specs.List.{list_any, range_with_len}
 use Rattle.std.specs.Int.{byte_at}
 use Rattle.std.specs.Str.{bytes_eq}

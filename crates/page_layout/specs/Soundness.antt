@@ -1,5 +1,6 @@
 -- Which pages are new, and which are sound.
-use Rattle.std.specs.Prelude.{◌≡◌, ℕ, Bool, true, false, length, not, ◌&&◌, ◌||◌, ◌==◌, ◌%◌, nat_lt, nat_le, List}
+use Rattle.std.specs.Prelude.{◌≡◌, ℕ, Bool, true, false, length, not, ◌&&◌, ◌||◌, ◌==◌, ◌%◌, nat_lt}
+use Rattle.std.specs.Prelude.{nat_le, List}
 use Rattle.std.specs.List.{list_all}
 use Rattle.page_layout.specs.declared.page.Header.{Header}
 use Rattle.page_layout.specs.Fields.{header_of}

@@ -1,6 +1,7 @@
 //! What holds of all pages and their totals. The functions do nothing: their contracts are the
 //! laws.
-ghost use Rattle.std.specs.Prelude.{◌≡◌, ◌≤◌, ◌<◌, ◌+◌, ◌^◌, ◌++◌, ℕ, List, false, length, slice_index};
+ghost use Rattle.std.specs.Prelude.{◌≡◌, ◌≤◌, ◌<◌, ◌+◌, ◌^◌, ◌++◌, ℕ, List, false, length};
+ghost use Rattle.std.specs.Prelude.{slice_index};
 ghost use Rattle.page_layout.specs.Dump.{dump_lines_from};
 ghost use Rattle.page_layout.specs.Fields.{lsn_of, with_lsn};
 ghost use Rattle.page_layout.specs.Outcomes.{rewrite_totals_of, sum_of_rewrite_totals};

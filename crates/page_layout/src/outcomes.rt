@@ -1,6 +1,8 @@
 //! The totals of a rewrite.
 ghost use Rattle.std.specs.Prelude.{◌≡◌, ◌≤◌, ◌<◌, ◌+◌, ◌*◌, ◌^◌, ◌++◌, ◌∷◌, [], List, ℕ, Some};
-ghost use Rattle.page_layout.specs.Outcomes.{IsRewriteWithin, sum_of_rewrite_totals, with_outcome, no_rewrite_totals, page_rewrite_of, rewrite_totals_of, rewrite_totals_text};
+ghost use Rattle.page_layout.specs.Outcomes.{IsRewriteWithin, sum_of_rewrite_totals, with_outcome};
+ghost use Rattle.page_layout.specs.Outcomes.{no_rewrite_totals, page_rewrite_of, rewrite_totals_of};
+ghost use Rattle.page_layout.specs.Outcomes.{rewrite_totals_text};
 
 use crate::rewrite::Rewrite;
 use std::fmt;

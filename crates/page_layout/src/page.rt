@@ -1,8 +1,11 @@
 //! A page, its header and its line pointers (`bufpage.h`).
-ghost use Rattle.std.specs.Prelude.{◌≡◌, ◌≤◌, ◌<◌, ◌-◌, ◌+◌, ◌*◌, ◌/◌, ◌^◌, ◌++◌, IfOk, length, drop, replicate, true};
+ghost use Rattle.std.specs.Prelude.{◌≡◌, ◌≤◌, ◌<◌, ◌-◌, ◌+◌, ◌*◌, ◌/◌, ◌^◌, ◌++◌, IfOk, length};
+ghost use Rattle.std.specs.Prelude.{drop, replicate, true};
 ghost use Rattle.byteorder.specs.Endian.{little_bytes};
-ghost use Rattle.page_layout.specs.Fields.{header_of, item_count, item_of, lsn_of, pointer_at, with_lsn};
-ghost use Rattle.page_layout.specs.Soundness.{IsUsedPage, is_new_page, is_sound_header, is_sound_page};
+ghost use Rattle.page_layout.specs.Fields.{header_of, item_count, item_of, lsn_of, pointer_at};
+ghost use Rattle.page_layout.specs.Fields.{with_lsn};
+ghost use Rattle.page_layout.specs.Soundness.{IsUsedPage, is_new_page, is_sound_header};
+ghost use Rattle.page_layout.specs.Soundness.{is_sound_page};
 
 use byteorder::{ByteOrder, LittleEndian};
 use std::alloc::{AllocError, Global};

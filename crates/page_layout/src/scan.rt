@@ -1,6 +1,7 @@
 //! The totals of a scan.
 ghost use Rattle.std.specs.Prelude.{◌≡◌, ◌≤◌, ◌<◌, ◌+◌, ◌*◌, ◌^◌, ◌++◌, ◌∷◌, [], List, ℕ, Some};
-ghost use Rattle.page_layout.specs.Scan.{IsWithin, counted, no_totals, sum_of_totals, totals_of, totals_text};
+ghost use Rattle.page_layout.specs.Scan.{IsWithin, counted, no_totals, sum_of_totals, totals_of};
+ghost use Rattle.page_layout.specs.Scan.{totals_text};
 ghost use Rattle.page_layout.specs.Summary.{summary_of};
 
 use crate::summary::{PageSummary, PointerCounts};

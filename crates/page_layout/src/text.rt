@@ -1,6 +1,7 @@
 //! What a scan prints of a page.
 ghost use Rattle.std.specs.Prelude.{◌≡◌, ◌≤◌, ◌+◌, ◌++◌, length, Some, OnOk, OnErr};
-ghost use Rattle.page_layout.specs.Text.{header_text, line_of, pointers_text, position_text, scan_line_of, summary_text, used_text};
+ghost use Rattle.page_layout.specs.Text.{header_text, line_of, pointers_text, position_text};
+ghost use Rattle.page_layout.specs.Text.{scan_line_of, summary_text, used_text};
 
 use crate::line::Line;
 use crate::page::{Header, Lsn, Memory, Page};

@@ -1,5 +1,7 @@
 -- What a run answers, and why.
-use Rattle.std.specs.Prelude.{◌≡◌, ◌≢◌, ◌<◌, ◌≤◌, ◌⊎◌, ℕ, ◌+◌, ◌-◌, ◌^◌, ◌==◌, false, true, List, [], ◌++◌, length, Option, Some, None, Result, Ok, Err, IfSome, IsSome, IsSomeAnd, option_map, unwrap_or, if◌then◌else◌, codes}
+use Rattle.std.specs.Prelude.{◌≡◌, ◌≢◌, ◌<◌, ◌≤◌, ◌⊎◌, ℕ, ◌+◌, ◌-◌, ◌^◌, ◌==◌, false, true, List}
+use Rattle.std.specs.Prelude.{[], ◌++◌, length, Option, Some, None, Result, Ok, Err, IfSome, IsSome}
+use Rattle.std.specs.Prelude.{IsSomeAnd, option_map, unwrap_or, if◌then◌else◌, codes}
 use Rattle.command_line.specs.declared.numbers.Options.{Options}
 use Rattle.log_device.specs.declared.device.Failed.{Failed}
 use Rattle.log_device.specs.Bytes.{GainsPrefix, Puts}
@@ -12,9 +14,13 @@ use Rattle.history_core.specs.Log.{record_size}
 use Rattle.history_core.specs.State.{last_position}
 use Rattle.log_recovery.specs.Records.{HasBadHead}
 use Rattle.relation_commands.specs.declared.error.ToolError.{ToolError}
-use Rattle.relation_commands.specs.declared.error.ToolError.TheVariants.{Usage, Crowded, Missing, ReadFault, WriteFault, LogFault, OutFault, Memory, OverLimit, BadLog}
+use Rattle.relation_commands.specs.declared.error.ToolError.TheVariants.{Usage, Crowded, Missing}
+use Rattle.relation_commands.specs.declared.error.ToolError.TheVariants.{ReadFault, WriteFault}
+use Rattle.relation_commands.specs.declared.error.ToolError.TheVariants.{LogFault, OutFault, Memory}
+use Rattle.relation_commands.specs.declared.error.ToolError.TheVariants.{OverLimit, BadLog}
 use Rattle.relation_commands.specs.declared.limits.PositionLimit.{PositionLimit}
-use Rattle.relation_commands.specs.declared.limits.PositionLimit.TheVariants.{OfPages, OfPage, OfLog}
+use Rattle.relation_commands.specs.declared.limits.PositionLimit.TheVariants.{OfPages, OfPage}
+use Rattle.relation_commands.specs.declared.limits.PositionLimit.TheVariants.{OfLog}
 use Rattle.relation_commands.specs.Limits.{PassesLimit, largest_lsn}
 use Rattle.relation_commands.specs.Listings.{NoneFails, text_of}
 use Rattle.relation_commands.specs.RecoverFiles.{ForLogOf, RecoversFiles}
@@ -25,7 +31,8 @@ use Rattle.relation_commands.specs.RewriteFiles.{HostFiles, RewritesFiles, pages
 use Rattle.relation_commands.specs.RewriteTexts.{rewrite_text}
 use Rattle.relation_commands.specs.Samples.{sample_text}
 use Rattle.sample_relation.specs.Relations.{sample_relation}
-use Rattle.relation_commands.specs.Status.{bad_log_text, crowded_text, error_line, limit_text, missing_text, status_of_error, tool_line, usage_text}
+use Rattle.relation_commands.specs.Status.{bad_log_text, crowded_text, error_line, limit_text}
+use Rattle.relation_commands.specs.Status.{missing_text, status_of_error, tool_line, usage_text}
 
 -- if the paths are known, nothing is there at the one that is asked for; a sample asks for none
 abbrev pub IsMissing : Option Paths → Option (List ℕ) → Type 0

@@ -6,7 +6,8 @@ use Rattle.page_jobs.specs.declared.ending.JobError.TheVariants as job
 use Rattle.page_jobs.specs.declared.ending.Totals.{Totals}
 use Rattle.page_layout.specs.declared.scan.ScanTotals.{ScanTotals}
 use Rattle.relation_commands.specs.declared.listing.ListingError.{ListingError}
-use Rattle.relation_commands.specs.declared.listing.ListingError.TheVariants.{ReadFault, OutFault, Memory}
+use Rattle.relation_commands.specs.declared.listing.ListingError.TheVariants.{ReadFault, OutFault}
+use Rattle.relation_commands.specs.declared.listing.ListingError.TheVariants.{Memory}
 
 -- what the end of a job means to a listing
 abbrev pub listing_error : JobError → ListingError

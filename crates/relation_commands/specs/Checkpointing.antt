@@ -1,5 +1,6 @@
 -- The checkpoint at the end of a rewrite.
-use Rattle.std.specs.Prelude.{◌≡◌, ◌⊎◌, ℕ, ◌+◌, ◌-◌, ◌<◌, ◌≤◌, true, List, length, Option, Result, Ok, IfErr, IfOk}
+use Rattle.std.specs.Prelude.{◌≡◌, ◌⊎◌, ℕ, ◌+◌, ◌-◌, ◌<◌, ◌≤◌, true, List, length, Option, Result}
+use Rattle.std.specs.Prelude.{Ok, IfErr, IfOk}
 use mathlib.Core.Option.{some}
 use lib.ListN.{get_elem?}
 use Rattle.block_tag.specs.declared.tag.Fork.{Fork}
@@ -29,9 +30,13 @@ use Rattle.page_jobs.specs.Jobs.{workers_in}
 use Rattle.page_jobs.specs.Relations.{MeetNothing}
 use Rattle.page_jobs.specs.RewriteCloses.{RewritesAlone}
 use Rattle.page_jobs.specs.RewriteJobs.{EndsRewrite, RewritesFork}
-use Rattle.relation_commands.specs.declared.limits.PositionLimit.TheVariants.{OfPages, OfPage, OfLog}
+use Rattle.relation_commands.specs.declared.limits.PositionLimit.TheVariants.{OfPages, OfPage}
+use Rattle.relation_commands.specs.declared.limits.PositionLimit.TheVariants.{OfLog}
 use Rattle.relation_commands.specs.declared.rewriting.RewriteError.{RewriteError}
-use Rattle.relation_commands.specs.declared.rewriting.RewriteError.TheVariants.{ReadFault, WriteFault, LogFault, OutFault, Memory, OverLimit}
+use Rattle.relation_commands.specs.declared.rewriting.RewriteError.TheVariants.{ReadFault}
+use Rattle.relation_commands.specs.declared.rewriting.RewriteError.TheVariants.{WriteFault}
+use Rattle.relation_commands.specs.declared.rewriting.RewriteError.TheVariants.{LogFault, OutFault}
+use Rattle.relation_commands.specs.declared.rewriting.RewriteError.TheVariants.{Memory, OverLimit}
 use Rattle.relation_commands.specs.Rewriting.{checkpoint_error, rewrite_error, rewrite_totals_in}
 use Rattle.relation_commands.specs.Rounds.{MakesRounds}
 

@@ -1,5 +1,6 @@
 -- The steps of a recovery of a host's relation: how redo over its lanes ends, and what it tells.
-use Rattle.std.specs.Prelude.{◌≡◌, ◌≢◌, ◌≤◌, ◌⊎◌, ℕ, List, Option, IfErr, IfOk, IfSome, IsErrOf, OnErr, OnOk, Result, length, map}
+use Rattle.std.specs.Prelude.{◌≡◌, ◌≢◌, ◌≤◌, ◌⊎◌, ℕ, List, Option, IfErr, IfOk, IfSome, IsErrOf}
+use Rattle.std.specs.Prelude.{OnErr, OnOk, Result, length, map}
 use Rattle.block_tag.specs.declared.catalogue.RelEntry.{RelEntry}
 use Rattle.log_device.specs.Faults.{Rose}
 use Rattle.segment_store.specs.Contents.{Marks, Pages}

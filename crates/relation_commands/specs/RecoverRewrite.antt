@@ -1,5 +1,6 @@
 -- What a recovery makes of what is left of a rewrite: of its log, and of the relation's pages.
-use Rattle.std.specs.Prelude.{◌≡◌, ℕ, ◌+◌, ◌-◌, ◌%◌, ◌^◌, ◌<◌, ◌≤◌, Bool, true, false, List, [], ◌∷◌, ◌++◌, length, Option, Some, unwrap_or}
+use Rattle.std.specs.Prelude.{◌≡◌, ℕ, ◌+◌, ◌-◌, ◌%◌, ◌^◌, ◌<◌, ◌≤◌, Bool, true, false, List, []}
+use Rattle.std.specs.Prelude.{◌∷◌, ◌++◌, length, Option, Some, unwrap_or}
 use mathlib.Core.Option.{some}
 use lib.ListN.{get_elem?}
 use Rattle.block_tag.specs.declared.catalogue.RelEntry.{RelEntry}
@@ -7,7 +8,8 @@ use Rattle.block_tag.specs.declared.tag.Fork.TheVariants.{Main}
 use Rattle.command_line.specs.RelationPath.{relation_number}
 use Rattle.log_device.specs.MemoryLog.{StoredLog}
 use Rattle.pin_core.specs.State.{Page}
-use Rattle.history_core.specs.Log.{Entry, IsEntryOf, Log, end_of, head_size, log_end, page_after, record_size, tag_in}
+use Rattle.history_core.specs.Log.{Entry, IsEntryOf, Log, end_of, head_size, log_end, page_after}
+use Rattle.history_core.specs.Log.{record_size, tag_in}
 use Rattle.history_core.specs.State.{last_position}
 use Rattle.history_core.specs.Unentered.{IsEntered}
 use Rattle.log_recovery.specs.Laws.{without_backends}

@@ -1,6 +1,8 @@
 -- The steps of a rewrite of a host's relation: the survey, the log, the rewrite, and what is
 -- printed.
-use Rattle.std.specs.Prelude.{◌≡◌, ◌≢◌, ◌⊎◌, ℕ, ◌+◌, ◌*◌, ◌%◌, ◌<◌, ◌≤◌, List, [], All, length, map, sum_by, Option, Some, None, IfSome, Result, Ok, Err, MatchResult, option_map}
+use Rattle.std.specs.Prelude.{◌≡◌, ◌≢◌, ◌⊎◌, ℕ, ◌+◌, ◌*◌, ◌%◌, ◌<◌, ◌≤◌, List, [], All, length, map}
+use Rattle.std.specs.Prelude.{sum_by, Option, Some, None, IfSome, Result, Ok, Err, MatchResult}
+use Rattle.std.specs.Prelude.{option_map}
 use Rattle.log_device.specs.Faults.{Rose}
 use Rattle.segment_store.specs.Contents.{Marks, Pages, no_marks}
 use Rattle.segment_store.specs.Lanes.{HasBlocks}
@@ -11,7 +13,10 @@ use Rattle.history_core.specs.Log.{record_size}
 use Rattle.history_core.specs.State.{last_position}
 use Rattle.relation_commands.specs.declared.limits.PositionLimit.TheVariants.{OfPages}
 use Rattle.relation_commands.specs.declared.rewriting.RewriteError.{RewriteError}
-use Rattle.relation_commands.specs.declared.rewriting.RewriteError.TheVariants.{ReadFault, WriteFault, LogFault, OutFault, Memory, OverLimit}
+use Rattle.relation_commands.specs.declared.rewriting.RewriteError.TheVariants.{ReadFault}
+use Rattle.relation_commands.specs.declared.rewriting.RewriteError.TheVariants.{WriteFault}
+use Rattle.relation_commands.specs.declared.rewriting.RewriteError.TheVariants.{LogFault, OutFault}
+use Rattle.relation_commands.specs.declared.rewriting.RewriteError.TheVariants.{Memory, OverLimit}
 use Rattle.relation_commands.specs.declared.starting.RelationFork.{RelationFork}
 use Rattle.relation_commands.specs.Answers.{ArePastLimit, CountsLater, FaultCounts, IsOverLimit}
 use Rattle.relation_commands.specs.Limits.{PassesLimit, largest_lsn, log_base}

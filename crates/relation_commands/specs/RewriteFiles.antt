@@ -1,5 +1,6 @@
 -- What a rewrite leaves of the paths and the logs of a host.
-use Rattle.std.specs.Prelude.{◌≡◌, ◌≢◌, ◌⊎◌, ℕ, ◌≤◌, ◌<◌, false, true, List, [], Option, Some, None, IfSome, IsSomeAnd, if◌then◌else◌, unwrap_or, length, ◌++◌}
+use Rattle.std.specs.Prelude.{◌≡◌, ◌≢◌, ◌⊎◌, ℕ, ◌≤◌, ◌<◌, false, true, List, [], Option, Some, None}
+use Rattle.std.specs.Prelude.{IfSome, IsSomeAnd, if◌then◌else◌, unwrap_or, length, ◌++◌}
 use Rattle.std.specs.Str.{bytes_eq}
 use Rattle.block_tag.specs.declared.tag.Fork.TheVariants.{Main}
 use Rattle.command_line.specs.RelationPath.{relation_number}

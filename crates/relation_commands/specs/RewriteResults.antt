@@ -1,5 +1,6 @@
 -- What a rewrite makes of the pages of a relation and of its log.
-use Rattle.std.specs.Prelude.{◌≡◌, ◌≢◌, ◌⊎◌, ℕ, ◌+◌, ◌*◌, ◌<◌, ◌≤◌, Bool, true, false, All, List, [], ◌++◌, length, map, if◌then◌else◌}
+use Rattle.std.specs.Prelude.{◌≡◌, ◌≢◌, ◌⊎◌, ℕ, ◌+◌, ◌*◌, ◌<◌, ◌≤◌, Bool, true, false, All, List}
+use Rattle.std.specs.Prelude.{[], ◌++◌, length, map, if◌then◌else◌}
 use mathlib.Core.Option.{some}
 use lib.ListN.{get_elem?}
 use Rattle.log_device.specs.MemoryLog.{StoredLog}
@@ -9,7 +10,8 @@ use Rattle.page_layout.specs.Positions.{DifferInPositions}
 use Rattle.page_layout.specs.Rewritten.{rewritten_page}
 use Rattle.page_layout.specs.Soundness.{is_sound_page}
 use Rattle.pin_core.specs.State.{Page}
-use Rattle.history_core.specs.Log.{Entry, IsEntryOf, Log, LogLaw, end_of, head_size, log_bytes, log_end, record_bytes, record_size}
+use Rattle.history_core.specs.Log.{Entry, IsEntryOf, Log, LogLaw, end_of, head_size, log_bytes}
+use Rattle.history_core.specs.Log.{log_end, record_bytes, record_size}
 use Rattle.history_core.specs.State.{last_position}
 use Rattle.page_jobs.specs.RewriteEnds.{HasEntry, IsPageEntry}
 use Rattle.page_jobs.specs.Rewrites.{Rule}

@@ -1,5 +1,7 @@
 -- What a rewrite leaves of the lanes and the log that it is given, and why it ends before its end.
-use Rattle.std.specs.Prelude.{◌≡◌, ◌≢◌, ◌<◌, ◌≤◌, ℕ, ◌+◌, Bool, true, false, All, List, [], length, map, sum_by, Option, Some, Result, IfErr, IfOk, OnOk, MatchResult, is_some}
+use Rattle.std.specs.Prelude.{◌≡◌, ◌≢◌, ◌<◌, ◌≤◌, ℕ, ◌+◌, Bool, true, false, All, List, [], length}
+use Rattle.std.specs.Prelude.{map, sum_by, Option, Some, Result, IfErr, IfOk, OnOk, MatchResult}
+use Rattle.std.specs.Prelude.{is_some}
 use Rattle.segment_store.specs.Contents.{Marks, Pages}
 use Rattle.segment_store.specs.Lanes.{HoldPages, mark_in, tag_at}
 use Rattle.segment_store.specs.Restored.{pages_in}
@@ -15,9 +17,13 @@ use Rattle.page_jobs.specs.declared.ending.JobError.{JobError}
 use Rattle.page_jobs.specs.declared.ending.JobError.TheVariants as job
 use Rattle.page_jobs.specs.declared.ending.Totals.{Totals}
 use Rattle.page_jobs.specs.Rewrites.{rule_of}
-use Rattle.relation_commands.specs.declared.limits.PositionLimit.TheVariants.{OfPages, OfPage, OfLog}
+use Rattle.relation_commands.specs.declared.limits.PositionLimit.TheVariants.{OfPages, OfPage}
+use Rattle.relation_commands.specs.declared.limits.PositionLimit.TheVariants.{OfLog}
 use Rattle.relation_commands.specs.declared.rewriting.RewriteError.{RewriteError}
-use Rattle.relation_commands.specs.declared.rewriting.RewriteError.TheVariants.{ReadFault, WriteFault, LogFault, OutFault, Memory, OverLimit}
+use Rattle.relation_commands.specs.declared.rewriting.RewriteError.TheVariants.{ReadFault}
+use Rattle.relation_commands.specs.declared.rewriting.RewriteError.TheVariants.{WriteFault}
+use Rattle.relation_commands.specs.declared.rewriting.RewriteError.TheVariants.{LogFault, OutFault}
+use Rattle.relation_commands.specs.declared.rewriting.RewriteError.TheVariants.{Memory, OverLimit}
 use Rattle.relation_commands.specs.declared.starting.RelationFork.{RelationFork}
 use Rattle.relation_commands.specs.Limits.{largest_lsn}
 use Rattle.relation_commands.specs.RewriteResults.{IsRewrittenFile, LeavesEither}

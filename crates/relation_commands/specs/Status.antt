@@ -14,10 +14,14 @@ use Rattle.relation_commands.specs.declared.listing.ListingError.TheVariants as 
 use Rattle.relation_commands.specs.declared.rewriting.RewriteError.{RewriteError}
 use Rattle.relation_commands.specs.declared.rewriting.RewriteError.TheVariants as rewrite
 use Rattle.relation_commands.specs.declared.limits.PositionLimit.{PositionLimit}
-use Rattle.relation_commands.specs.declared.limits.PositionLimit.TheVariants.{OfPages, OfPage, OfLog}
+use Rattle.relation_commands.specs.declared.limits.PositionLimit.TheVariants.{OfPages, OfPage}
+use Rattle.relation_commands.specs.declared.limits.PositionLimit.TheVariants.{OfLog}
 use Rattle.relation_commands.specs.declared.error.Crowding.{Crowding}
 use Rattle.relation_commands.specs.declared.error.ToolError.{ToolError}
-use Rattle.relation_commands.specs.declared.error.ToolError.TheVariants.{Usage, Crowded, Missing, ReadFault, WriteFault, LogFault, OutFault, Memory, OverLimit, BadLog}
+use Rattle.relation_commands.specs.declared.error.ToolError.TheVariants.{Usage, Crowded, Missing}
+use Rattle.relation_commands.specs.declared.error.ToolError.TheVariants.{ReadFault, WriteFault}
+use Rattle.relation_commands.specs.declared.error.ToolError.TheVariants.{LogFault, OutFault, Memory}
+use Rattle.relation_commands.specs.declared.error.ToolError.TheVariants.{OverLimit, BadLog}
 
 abbrev pub status_of_error : ToolError → ℕ
 status_of_error Usage = 1

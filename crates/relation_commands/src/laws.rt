@@ -1,6 +1,8 @@
 //! What recoveries make of what a rewrite, a crash and another recovery leave; what a log's bytes
 //! tell.
-ghost use Rattle.relation_commands.specs.RecoverRewrite.{BegunLogsAreEmpty, CompletesRecovery, KeepsFilesLeft, RecoversAgain, RecoversFilesLeft, RecoversRewrite};
+ghost use Rattle.relation_commands.specs.RecoverRewrite.{BegunLogsAreEmpty, CompletesRecovery};
+ghost use Rattle.relation_commands.specs.RecoverRewrite.{KeepsFilesLeft, RecoversAgain};
+ghost use Rattle.relation_commands.specs.RecoverRewrite.{RecoversFilesLeft, RecoversRewrite};
 ghost use Rattle.relation_commands.specs.ToldLogs.{LogsAreTold, RewrittenLogsAreTold};
 
 use page_layout::all_positions;

@@ -3,7 +3,8 @@
 //! A listing has a manager of its own. Its catalogue has one relation: tablespace and database 0,
 //! the number in PATH, and blocks in PATH's fork. It has a pass for each backend and one besides,
 //! and a log in memory that begins at 0 with room for its head alone.
-ghost use Rattle.std.specs.Prelude.{◌≡◌, ◌≤◌, ◌%◌, ◌^◌, List, Ok, IfOk, IfErr, OnOk, All, length, map, sum_by, vec_len};
+ghost use Rattle.std.specs.Prelude.{◌≡◌, ◌≤◌, ◌%◌, ◌^◌, List, Ok, IfOk, IfErr, OnOk, All, length};
+ghost use Rattle.std.specs.Prelude.{map, sum_by, vec_len};
 ghost use Rattle.log_device.specs.Bytes.{Puts};
 ghost use Rattle.segment_store.specs.Contents.{no_marks};
 ghost use Rattle.segment_store.specs.Lanes.{HasBlocks, HoldPages};
@@ -12,10 +13,12 @@ ghost use Rattle.command_line.specs.Numbers.{HasOptionsInRange};
 ghost use Rattle.frame_table.specs.Seats.{base_of, opened_of, relations_of};
 ghost use Rattle.page_jobs.specs.Beside.{LastDid, StaysBeside};
 ghost use Rattle.page_jobs.specs.Ending.{as_done};
-ghost use Rattle.page_jobs.specs.Jobs.{AllAtBase, EndsJob, HaveNoTokens, IsOrigin, ReadParts, workers_in};
+ghost use Rattle.page_jobs.specs.Jobs.{AllAtBase, EndsJob, HaveNoTokens, IsOrigin, ReadParts};
+ghost use Rattle.page_jobs.specs.Jobs.{workers_in};
 ghost use Rattle.page_jobs.specs.Relations.{IsCatalogOf, MeetNothing};
 ghost use Rattle.page_layout.specs.Scan.{totals_of};
-ghost use Rattle.relation_commands.specs.Causes.{HasListingCause, listing_end, listing_error, scan_totals_in};
+ghost use Rattle.relation_commands.specs.Causes.{HasListingCause, listing_end, listing_error};
+ghost use Rattle.relation_commands.specs.Causes.{scan_totals_in};
 ghost use Rattle.relation_commands.specs.Listings.{LeavesLanes, text_of};
 ghost use Rattle.relation_commands.specs.Rounds.{MakesRounds};
 ghost use Rattle.relation_commands.specs.Starting.{IsStarted};

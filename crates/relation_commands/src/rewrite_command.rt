@@ -3,7 +3,8 @@
 //! FILE is opened once the survey is done and the positions are tested, so neither refusal empties
 //! a file. The text is put after the files are given back, so an output fault leaves the relation
 //! rewritten.
-ghost use Rattle.std.specs.Prelude.{◌≡◌, ◌≢◌, ◌≤◌, ◌<◌, ◌*◌, ◌+◌, ◌%◌, ◌^◌, List, IfErr, IfOk, IfSome, MatchResult, OnOk, length, map, option_map, sum_by};
+ghost use Rattle.std.specs.Prelude.{◌≡◌, ◌≢◌, ◌≤◌, ◌<◌, ◌*◌, ◌+◌, ◌%◌, ◌^◌, List, IfErr, IfOk};
+ghost use Rattle.std.specs.Prelude.{IfSome, MatchResult, OnOk, length, map, option_map, sum_by};
 ghost use Rattle.std.specs.Option.{option_map_or};
 ghost use Rattle.command_line.specs.Numbers.{HasOptionsInRange};
 ghost use Rattle.log_device.specs.Bytes.{Puts};

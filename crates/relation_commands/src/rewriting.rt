@@ -1,5 +1,6 @@
 //! The blocks of a relation that is open are rewritten by the backends of a buffer manager.
-ghost use Rattle.std.specs.Prelude.{◌≡◌, ◌≤◌, ◌<◌, ◌*◌, ◌+◌, ◌-◌, ◌%◌, ◌^◌, All, IfErr, OnOk, length, map, sum_by, vec_len};
+ghost use Rattle.std.specs.Prelude.{◌≡◌, ◌≤◌, ◌<◌, ◌*◌, ◌+◌, ◌-◌, ◌%◌, ◌^◌, All, IfErr, OnOk};
+ghost use Rattle.std.specs.Prelude.{length, map, sum_by, vec_len};
 ghost use mathlib.Core.Option.{some};
 ghost use lib.ListN.{get_elem?};
 ghost use Rattle.segment_store.specs.Contents.{no_marks};
@@ -12,8 +13,10 @@ ghost use Rattle.backend_pass.specs.Managers.{Belongs};
 ghost use Rattle.backend_pass.specs.Passes.{KeepsCallers, PassState};
 ghost use Rattle.checkpointer.specs.Stages.{HasNoLock};
 ghost use Rattle.page_jobs.specs.Jobs.{HaveNoTokens};
-ghost use Rattle.relation_commands.specs.Checkpointing.{ChecksByLast, LastMeets, PassMeets, StoresAll, StoresRewrite, SweepsPast};
-ghost use Rattle.relation_commands.specs.Rewriting.{HasRewriteCause, LeavesRewritten, checkpoint_error, rewrite_totals_in};
+ghost use Rattle.relation_commands.specs.Checkpointing.{ChecksByLast, LastMeets, PassMeets};
+ghost use Rattle.relation_commands.specs.Checkpointing.{StoresAll, StoresRewrite, SweepsPast};
+ghost use Rattle.relation_commands.specs.Rewriting.{HasRewriteCause, LeavesRewritten};
+ghost use Rattle.relation_commands.specs.Rewriting.{checkpoint_error, rewrite_totals_in};
 ghost use Rattle.relation_commands.specs.Starting.{IsStarted, log_of};
 
 use crate::beside::Rounds;

@@ -4,7 +4,8 @@
 //! a rewrite with its checkpoint, and a second scan. Each has a log in memory with room for a
 //! record of each block in the rewrite. The plans of the lanes (`SampleLane`) name no call that
 //! fails, so a sample meets no fault but that of the output. Its lines are put at once.
-ghost use Rattle.std.specs.Prelude.{◌≡◌, ◌≢◌, ◌≤◌, ◌%◌, ◌^◌, List, IfErr, IfOk, OnOk, length, sum_by};
+ghost use Rattle.std.specs.Prelude.{◌≡◌, ◌≢◌, ◌≤◌, ◌%◌, ◌^◌, List, IfErr, IfOk, OnOk, length};
+ghost use Rattle.std.specs.Prelude.{sum_by};
 ghost use Rattle.command_line.specs.Numbers.{HasOptionsInRange};
 ghost use Rattle.log_device.specs.Bytes.{Puts};
 ghost use Rattle.page_layout.specs.Scan.{totals_of};
@@ -13,7 +14,8 @@ ghost use Rattle.relation_commands.specs.Crowded.{IsCrowded};
 ghost use Rattle.relation_commands.specs.RewriteCommand.{IsPutRefusal};
 ghost use Rattle.relation_commands.specs.Rewriting.{HavePages};
 ghost use Rattle.relation_commands.specs.Samples.{IsSampleRefusal, sample_text};
-ghost use Rattle.relation_commands.specs.SampleSteps.{AreTold, HaveAll, IsSampleRewritten, sample_lines, sample_totals_of};
+ghost use Rattle.relation_commands.specs.SampleSteps.{AreTold, HaveAll, IsSampleRewritten};
+ghost use Rattle.relation_commands.specs.SampleSteps.{sample_lines, sample_totals_of};
 ghost use Rattle.relation_commands.specs.Status.{status_of_error};
 ghost use Rattle.sample_relation.specs.Relations.{sample_relation};
 

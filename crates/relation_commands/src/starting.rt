@@ -1,5 +1,6 @@
 //! A buffer manager of the blocks of one relation's fork.
-ghost use Rattle.std.specs.Prelude.{◌≡◌, ◌≤◌, ◌+◌, ◌%◌, ◌^◌, [], ◌∷◌, All, IfErr, IfOk, length, map};
+ghost use Rattle.std.specs.Prelude.{◌≡◌, ◌≤◌, ◌+◌, ◌%◌, ◌^◌, [], ◌∷◌, All, IfErr, IfOk, length};
+ghost use Rattle.std.specs.Prelude.{map};
 ghost use Rattle.segment_store.specs.Contents.{no_marks};
 ghost use Rattle.segment_store.specs.Lanes.{HasBlocks};
 ghost use Rattle.table_rule.specs.Shows.{IsNewLog, devices};

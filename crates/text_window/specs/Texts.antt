@@ -1,5 +1,7 @@
 -- The texts of chunks: those that wait in a window, and those that were put.
-use Rattle.std.specs.Prelude.{◌≡◌, ℕ, zero, suc, ◌+◌, ◌-◌, ◌<◌, ◌≤◌, ◌^◌, Bool, true, false, MatchBool, List, [], ◌∷◌, ◌++◌, length, Option, Some, None, IfSome, IsSomeAnd, option_map, slice_index_or}
+use Rattle.std.specs.Prelude.{◌≡◌, ℕ, zero, suc, ◌+◌, ◌-◌, ◌<◌, ◌≤◌, ◌^◌, Bool, true, false}
+use Rattle.std.specs.Prelude.{MatchBool, List, [], ◌∷◌, ◌++◌, length, Option, Some, None, IfSome}
+use Rattle.std.specs.Prelude.{IsSomeAnd, option_map, slice_index_or}
 use Rattle.std.specs.Option.{option_or}
 use Rattle.log_device.specs.Bytes.{GainsPrefix}
 use Rattle.log_device.specs.Faults.{Rose}

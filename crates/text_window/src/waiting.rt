@@ -4,7 +4,8 @@
 //! was claimed and not delivered never waits, since its chunk is next and its slot is free. Those
 //! that wait hold no pin, latch or lock. `deliver` also answers `Later` for a chunk that was put
 //! before, or whose slot is full, which can't happen: a chunk is claimed once.
-ghost use Rattle.std.specs.Prelude.{◌≡◌, ◌<◌, ◌↔◌, ◌∷◌, ◌++◌, [], None, Some, true, false, drop, length, replicate, slice_index_or, slice_set, IfOk, IsTrue};
+ghost use Rattle.std.specs.Prelude.{◌≡◌, ◌<◌, ◌↔◌, ◌∷◌, ◌++◌, [], None, Some, true, false, drop};
+ghost use Rattle.std.specs.Prelude.{length, replicate, slice_index_or, slice_set, IfOk, IsTrue};
 
 use std::alloc::{AllocError, Global};
 use std::collections::VecDeque;

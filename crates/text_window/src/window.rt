@@ -3,12 +3,14 @@
 //! Output begins with the first chunk, and the window has two slots for each worker, so the memory
 //! that a job takes doesn't grow with the relation. If the reader of the output is slow, all
 //! workers wait for it. A text is one put, under the lock, and a failed put is never tried again.
-ghost use Rattle.std.specs.Prelude.{◌≡◌, ◌+◌, ◌<◌, ◌≤◌, ◌^◌, ◌≢◌, None, Some, true, is_some, max, replicate, IfErr, IfOk, MatchBool};
+ghost use Rattle.std.specs.Prelude.{◌≡◌, ◌+◌, ◌<◌, ◌≤◌, ◌^◌, ◌≢◌, None, Some, true, is_some, max};
+ghost use Rattle.std.specs.Prelude.{replicate, IfErr, IfOk, MatchBool};
 ghost use Rattle.log_device.specs.Faults.{Rose};
 ghost use Rattle.text_window.specs.declared.window.Delivery.TheVariants.{Delivered, Later, Stopped};
 ghost use Rattle.text_window.specs.declared.window.Stop.TheVariants.{Output};
 ghost use Rattle.text_window.specs.Shares.{KeepsParts};
-ghost use Rattle.text_window.specs.Texts.{HasFreeSlot, IsFinished, is_output, stopped_for, worker_of};
+ghost use Rattle.text_window.specs.Texts.{HasFreeSlot, IsFinished, is_output, stopped_for};
+ghost use Rattle.text_window.specs.Texts.{worker_of};
 
 use crate::naming::Naming;
 use crate::shares::Shares;

@@ -1,12 +1,18 @@
 //! The steps by which a page is rewritten: which pages are left alone, where each item is put
 //! (`compactify_tuples` in `bufpage.c`), and what is written.
-ghost use Rattle.std.specs.Prelude.{◌≡◌, ◌≤◌, ◌<◌, ◌+◌, ◌-◌, ◌*◌, ◌/◌, ◌%◌, ◌^◌, ◌++◌, ℕ, drop, take, length, false, true, slice_index, nat_le, nat_lt, ◌&&◌, if◌then◌else◌, not};
+ghost use Rattle.std.specs.Prelude.{◌≡◌, ◌≤◌, ◌<◌, ◌+◌, ◌-◌, ◌*◌, ◌/◌, ◌%◌, ◌^◌, ◌++◌, ℕ, drop};
+ghost use Rattle.std.specs.Prelude.{take, length, false, true, slice_index, nat_le, nat_lt, ◌&&◌};
+ghost use Rattle.std.specs.Prelude.{if◌then◌else◌, not};
 ghost use Rattle.std.specs.List.{list_any, range_with_len};
 ghost use Rattle.std.specs.Int.{byte_at};
 ghost use Rattle.byteorder.specs.Endian.{little_bytes};
 ghost use Rattle.page_layout.specs.Compact.{AreNewOffsets, AreSortedKeys, IsCompactable, keys_of};
 ghost use Rattle.page_layout.specs.Fields.{item_count};
-ghost use Rattle.page_layout.specs.Rewritten.{is_normal, is_outside, is_skipped, item_byte, length_at, new_offset, new_pointer, new_upper, offset_at, places_of, pointers_left, rewritten_page, room_at, room_of_items, special_of, state_at, stays, upper_of};
+ghost use Rattle.page_layout.specs.Rewritten.{is_normal, is_outside, is_skipped, item_byte};
+ghost use Rattle.page_layout.specs.Rewritten.{length_at, new_offset, new_pointer, new_upper};
+ghost use Rattle.page_layout.specs.Rewritten.{offset_at, places_of, pointers_left, rewritten_page};
+ghost use Rattle.page_layout.specs.Rewritten.{room_at, room_of_items, special_of, state_at, stays};
+ghost use Rattle.page_layout.specs.Rewritten.{upper_of};
 ghost use Rattle.page_layout.specs.Soundness.{is_new_page, is_sound_page};
 
 use super::{Item, Page};
