@@ -44,7 +44,8 @@ ring_after_next ring = record ring { current = (ring.current + 1) % length ring.
 
 -- the current place has the frame
 abbrev pub ring_after_keep : ℕ → RingState → RingState
-ring_after_keep frame ring = record ring { places = slice_set ring.places ring.current (Some frame) }
+ring_after_keep frame ring =
+    record ring { places = slice_set ring.places ring.current (Some frame) }
 
 -- the ring is for bulk reads, and the frame stands at its current place
 pub record Rejects (ring : RingState) (frame : ℕ) : Type 0 where

@@ -41,7 +41,9 @@ torn_of_passes (p ∷ ps) = p.view.torn ++ torn_of_passes ps
 
 -- One of them failed to append the record of the change
 abbrev pub PassTore : List PassState → Change → Type 0
-PassTore ps c = (i k : ℕ) × (p : PassState) × (x : TornRecord) × (get_elem? ps i ≡ some p) × (get_elem? p.view.torn k ≡ some x) × IsOfPage c x.tag x.page
+PassTore ps c =
+    (i k : ℕ) × (p : PassState) × (x : TornRecord) × (get_elem? ps i ≡ some p)
+    × (get_elem? p.view.torn k ≡ some x) × IsOfPage c x.tag x.page
 
 -- the faults that they met, in all
 abbrev pub met_by_passes : List PassState → FailedCalls
@@ -56,7 +58,8 @@ joined_views v (p ∷ ps) = joined_views (joined_view v p.view) ps
 -- a pass of the free list that takes in those of passes, one after the other
 abbrev pub joined_queues : QueueState → List PassState → QueueState
 joined_queues q [] = q
-joined_queues q (p ∷ ps) = joined_queues (record q { known = joined_parts q.known p.queue.known }) ps
+joined_queues q (p ∷ ps) =
+    joined_queues (record q { known = joined_parts q.known p.queue.known }) ps
 
 -- how often the passes took a frame from the free list, and how often they pushed it there
 abbrev pub takes : ℕ → List PassState → ℕ
@@ -121,19 +124,24 @@ pub record NothingPut (s : State) (ps : List PassState) : Type 0 where
 module _ {L G : Type 0} where
   -- The lanes and the log are given back in a state that has the law, and the passes' calls are one
   -- history of the log
-  pub record ClosesAll (d : Devices L G) (o : Opening L G) (ps : List PassState) (lanes : List L) (log : G) : Type 0 where
+  pub record ClosesAll (d : Devices L G) (o : Opening L G) (ps : List PassState) (lanes : List L)
+      (log : G) : Type 0 where
     pub state : State
     pub laws : Laws state
     pub opened : KeepsOpening d o state
     -- the first view is those of the passes joined, and holds nothing; all others are emptied
     pub first : get_elem? state.pool.core.views 0 ≡ some (joined_views (first_in ps) (others_in ps))
     pub free : HoldsNothing (joined_views (first_in ps) (others_in ps))
-    pub others : (i : ℕ) (u : View) → i ≢ 0 → get_elem? state.pool.core.views i ≡ some u → u ≡ emptied_view
+    pub others : (i : ℕ) (u : View) → i ≢ 0 → get_elem? state.pool.core.views i ≡ some u
+        → u ≡ emptied_view
     pub counted : length lanes ≡ o.config.lanes
-    pub lane : (q : ℕ) (l : L) → get_elem? lanes q ≡ some l → IsLane d o.catalog.value state.lanes q l (state.lane q)
+    pub lane : (q : ℕ) (l : L) → get_elem? lanes q ≡ some l
+        → IsLane d o.catalog.value state.lanes q l (state.lane q)
     -- if a block isn't in a lane's list of unsynced blocks, the lane was synced after the last of
     -- the block's entries that it has
-    pub covered : (q word : ℕ) (l : L) (tag : Tag) → get_elem? lanes q ≡ some l → IsPlaced o.catalog.value state.lanes q word tag → d.unsynced l tag ≡ false → synced_upto state word ≡ stored_upto state word
+    pub covered : (q word : ℕ) (l : L) (tag : Tag) → get_elem? lanes q ≡ some l
+        → IsPlaced o.catalog.value state.lanes q word tag → d.unsynced l tag ≡ false
+        → synced_upto state word ≡ stored_upto state word
     -- the end of the log at the failure, if the log is down
     pub mark : Option ℕ
     pub device : IsLog d log mark state.device
@@ -141,16 +149,25 @@ module _ {L G : Type 0} where
     pub bytes : mark ≡ None → state.device.bytes ≡ log_bytes state.names state.log
     -- if the log is down, what follows its bytes begins a record that one of the passes failed to
     -- append
-    pub torn : (some : laws.rest.behind.rest ≢ []) → mark ≢ None → PassTore ps (laws.rest.behind.begins some).entry.change
+    pub torn : (some : laws.rest.behind.rest ≢ []) → mark ≢ None
+        → PassTore ps (laws.rest.behind.begins some).entry.change
     pub history : IsHistory state.known state.origin state.opened_sizes state.log
         (calls_in_order ps)
     pub each : EachPass (ClosesPass state) ps
     -- faults were met exactly when a device's count of them rose
-    pub reads_rose : 0 < (met_by_passes ps).reads → (q : ℕ) × (q < state.lanes) × HasRisen (state.lane q).read_faults_at_start (state.lane q).read_faults
-    pub writes_rose : 0 < (met_by_passes ps).writes → (q : ℕ) × (q < state.lanes) × HasRisen (state.lane q).write_faults_at_start (state.lane q).write_faults
+    pub reads_rose : 0 < (met_by_passes ps).reads
+        → (q : ℕ) × (q < state.lanes)
+        × HasRisen (state.lane q).read_faults_at_start (state.lane q).read_faults
+    pub writes_rose : 0 < (met_by_passes ps).writes
+        → (q : ℕ) × (q < state.lanes)
+        × HasRisen (state.lane q).write_faults_at_start (state.lane q).write_faults
     pub logs_rose : 0 < (met_by_passes ps).logs → HasRisen state.log_faults state.device.faults
-    pub reads_met : (q : ℕ) → q < state.lanes → (state.lane q).read_faults_at_start < (state.lane q).read_faults → 0 < (met_by_passes ps).reads
-    pub writes_met : (q : ℕ) → q < state.lanes → (state.lane q).write_faults_at_start < (state.lane q).write_faults → 0 < (met_by_passes ps).writes
+    pub reads_met : (q : ℕ) → q < state.lanes
+        → (state.lane q).read_faults_at_start < (state.lane q).read_faults
+        → 0 < (met_by_passes ps).reads
+    pub writes_met : (q : ℕ) → q < state.lanes
+        → (state.lane q).write_faults_at_start < (state.lane q).write_faults
+        → 0 < (met_by_passes ps).writes
     pub logs_met : state.log_faults < state.device.faults → 0 < (met_by_passes ps).logs
     -- if a block's last write failed, a fault of writing was met
     pub failed_met : (tag : ℕ) → failed state tag ≡ true → 0 < (met_by_passes ps).writes

@@ -61,7 +61,8 @@ shown_unflushed (LogShort lsn end) s = s
 -- Each sound page that the block's lane can have held as the table was opened has its position at
 -- `end` or before it
 abbrev pub WasWithin : {L G : Type 0} → (L → Option Pages) → FrameTable L G → Tag → ℕ → Type 0
-WasWithin contents t tag end = (page : Page) → is_sound_page page ≡ true → WasAtOpening contents t tag page → lsn_of page ≤ end
+WasWithin contents t tag end =
+    (page : Page) → is_sound_page page ≡ true → WasAtOpening contents t tag page → lsn_of page ≤ end
 
 module _ {L G : Type 0} (contents : L → Option Pages) (t : FrameTable L G) where
   -- In this call the page of a frame was not written, for this reason

@@ -27,7 +27,8 @@ ShowsHint n tag held ring v w seen = Within (λ a b. SeesHint n tag held ring a 
 
 -- What a read has stored of hints, by its answer. A refusal has stored none, unless the block had a
 -- frame and its page didn't come
-abbrev pub StoresHints : ℕ → Tag → HintSeen → List HintStore → List HintStore → Result Pinned ReadError → Type 0
+abbrev pub StoresHints : ℕ → Tag → HintSeen → List HintStore → List HintStore
+    → Result Pinned ReadError → Type 0
 StoresHints n tag seen old new (Ok pinned) = LeavesHint n tag pinned.frame seen old new
 StoresHints n tag seen old new (Err (ReadFault failed)) = (f : ℕ) × LeavesHint n tag f seen old new
 StoresHints n tag seen old new (Err (Unsound failed)) = (f : ℕ) × LeavesHint n tag f seen old new

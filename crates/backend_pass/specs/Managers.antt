@@ -28,7 +28,8 @@ use Rattle.backend_pass.specs.Passes.{PassState}
 module _ {L G : Type 0} where
   -- The manager was opened with these numbers, relations and devices, over a log that begins at
   -- `base`
-  pub record OpenedWith (config : Config) (catalog : List RelEntry) (lanes : Vec L) (log : G) (base : ℕ) (m : Manager L G) : Type 0 where
+  pub record OpenedWith (config : Config) (catalog : List RelEntry) (lanes : Vec L) (log : G)
+      (base : ℕ) (m : Manager L G) : Type 0 where
     pub config_is : m.table.table.shared.key.config ≡ config
     pub catalog_is : m.table.table.shared.key.catalog.value ≡ catalog
     pub lanes_are : m.table.table.shared.key.lanes.value ≡ lanes
@@ -45,12 +46,15 @@ module _ {L G : Type 0} where
     pub queue : IsFreeList m.table m.sweep p.queue
     -- its tokens are of frames of the pool, which have blocks of the relations
     pub inside : (f : ℕ) (h : HeldFrame) → held_at p.tokens f ≡ Some h → f < frames_of m.table
-    pub blocks : (f : ℕ) (h : HeldFrame) → held_at p.tokens f ≡ Some h → is_block (relations_of m.table) h.tag ≡ true
+    pub blocks : (f : ℕ) (h : HeldFrame) → held_at p.tokens f ≡ Some h
+        → is_block (relations_of m.table) h.tag ≡ true
     -- no two of its tokens are of one block
-    pub alone : (f g : ℕ) (h k : HeldFrame) → held_at p.tokens f ≡ Some h → held_at p.tokens g ≡ Some k → h.tag ≡ k.tag → f ≡ g
+    pub alone : (f g : ℕ) (h k : HeldFrame) → held_at p.tokens f ≡ Some h
+        → held_at p.tokens g ≡ Some k → h.tag ≡ k.tag → f ≡ g
     -- the blocks of its tokens were sound as the table was opened, if the lanes' contents then are
     -- known
-    pub sound : (f : ℕ) (h : HeldFrame) → held_at p.tokens f ≡ Some h → (tag : Tag) → packed_tag tag ≡ h.tag → names_block tag ≡ true → WasSoundAtOpening contents m.table tag
+    pub sound : (f : ℕ) (h : HeldFrame) → held_at p.tokens f ≡ Some h → (tag : Tag)
+        → packed_tag tag ≡ h.tag → names_block tag ≡ true → WasSoundAtOpening contents m.table tag
     -- its front is the largest place of what it has read and put, and before that where the log
     -- begins
     pub front : IsFront (base_of m.table) p.view.calls p.view.front
@@ -58,13 +62,16 @@ module _ {L G : Type 0} where
     pub seen : base_of m.table ≤ p.view.end_seen
 
   -- The pass number i of a manager's `passes`, which has done nothing yet
-  pub record IsNewPass (contents : L → Option Pages) (m : Manager L G) (passes i : ℕ) (p : PassState) : Type 0 where
+  pub record IsNewPass (contents : L → Option Pages) (m : Manager L G) (passes i : ℕ)
+      (p : PassState) : Type 0 where
     pub belongs : Belongs contents m p
     pub tokens : p.tokens ≡ no_tokens
     pub census : p.census ≡ new_census (frames_of m.table)
     pub hint : p.hint ≡ Unused
     -- its view is that of a new backend, but for the next number that it gives
-    pub view : p.view ≡ record (new_view i (base_of m.table) (frames_of m.table) 128 (lanes_in m.table)) { next = p.view.next }
+    pub view : p.view
+        ≡ record (new_view i (base_of m.table) (frames_of m.table) 128
+        (lanes_in m.table)) { next = p.view.next }
     -- the first one has given the numbers of all others
     pub next : i ≡ 0 → p.view.next ≡ passes
     -- it pushed no frame on the free list, and took none. Each other has one part of it, and the
@@ -75,7 +82,8 @@ module _ {L G : Type 0} where
     pub part : i ≢ 0 → p.queue.known.parts ≡ 1
 
   -- These are all passes of a new manager, in the order of their numbers
-  pub record AreNewPasses (contents : L → Option Pages) (m : Manager L G) (passes : ℕ) (ps : List PassState) : Type 0 where
+  pub record AreNewPasses (contents : L → Option Pages) (m : Manager L G) (passes : ℕ)
+      (ps : List PassState) : Type 0 where
     pub counted : length ps ≡ passes
     pub each : (i : ℕ) (p : PassState) → get_elem? ps i ≡ some p → IsNewPass contents m passes i p
 

@@ -47,7 +47,8 @@ use Rattle.backend_pass.specs.Passes.{NoDeviceFails, PassState}
 -- token too many
 abbrev pub refused_at_once : List RelEntry → Tokens → Tag → Option ReadError
 refused_at_once relations tokens tag =
-    if nat_lt tag.block (blocks_at relations tag.rel.0 tag.fork) then (if nat_eq (count_of tokens) 8 then Some PinsFull else None)
+    if nat_lt tag.block (blocks_at relations tag.rel.0 tag.fork)
+    then (if nat_eq (count_of tokens) 8 then Some PinsFull else None)
     else Some (PastEnd tag.block (blocks_at relations tag.rel.0 tag.fork))
 
 -- what an answer refuses at once
@@ -130,7 +131,8 @@ module _ {L G : Type 0} (contents : L → Option Pages) (t : FrameTable L G) whe
   pub record NothingFails (p q : PassState) : Type 0 where
     -- no sound page that a lane can have held as the table was opened had a position past the end
     -- of the log that the pass had seen
-    pub within : (other : Tag) → names_block other ≡ true → has_block (relations_of t) other ≡ true → WasWithin contents t other p.view.end_seen
+    pub within : (other : Tag) → names_block other ≡ true → has_block (relations_of t) other ≡ true
+        → WasWithin contents t other p.view.end_seen
     pub devices : NoDeviceFails p q
 
   -- By a pass that has these tokens, and saw this of the block's hint; the choice's state was c,
@@ -175,7 +177,8 @@ module _ {L G : Type 0} (contents : L → Option Pages) (t : FrameTable L G) whe
   ReadingRefused tag p q PinsFull = ⊥
   ReadingRefused tag p q (NoUnpinned frames) = LacksFrame p q (victim.NoUnpinned frames)
   ReadingRefused tag p q (ReadFault failed) = failed ≡ tag
-  ReadingRefused tag p q (WriteFault failed) = LacksFrame p q (victim.Flush (flush.WriteFault failed))
+  ReadingRefused tag p q (WriteFault failed) =
+      LacksFrame p q (victim.Flush (flush.WriteFault failed))
   ReadingRefused tag p q LogFault = LacksFrame p q (victim.Flush (flush.Log log.LogFault))
   ReadingRefused tag p q (LogDown at) = LacksFrame p q (victim.Flush (flush.Log (log.LogDown at)))
   ReadingRefused tag p q (LogShort lsn end) = LacksFrame p q

@@ -50,14 +50,19 @@ impl Pass {
         ensures tagged { IsTagged pinned.tag pinned.frame self.new }
 
         // It is refused for the pass's other tokens exactly when there are any.
-        ensures local { local_pins (why_of result) ≡ refused_tokens (tokens_of (held_at self.old.tokens pinned.frame)) }
+        ensures local { local_pins (why_of result)
+            ≡ refused_tokens (tokens_of (held_at self.old.tokens pinned.frame)) }
 
         ensures token { IfOk result (λ taken. taken.pinned ≡ pinned) }
-        ensures lock { IfOk result (λ _. ChangesLock lock.Exclusive pinned.frame self.old self.new) }
-        ensures granted { IfOk result (λ _. GrantsCleanup self.old.view.number pinned.frame self.old.view self.new.view) }
+        ensures lock { IfOk result
+            (λ _. ChangesLock lock.Exclusive pinned.frame self.old self.new) }
+        ensures granted { IfOk result
+            (λ _. GrantsCleanup self.old.view.number pinned.frame self.old.view self.new.view) }
         ensures back { IfErr result (λ refused. refused.pinned ≡ pinned) }
         ensures kept { IfErr result (λ _. KeepsLocks self.old self.new) }
-        ensures cause { IfErr result (λ refused. RefusesCleanup self.old.view.number pinned.frame self.old.view self.new.view refused.why) }
+        ensures cause { IfErr result
+            (λ refused. RefusesCleanup self.old.view.number pinned.frame self.old.view
+            self.new.view refused.why) }
     {
         let tokens = self.held.tokens(pinned.frame);
         let number = self.number;
@@ -90,13 +95,16 @@ impl Pass {
         ensures devices { KeepsDevices self.old self.new }
         ensures others { (g : ℕ) → g ≢ pinned.frame → link self.new.view g ≡ link self.old.view g }
         ensures tagged { IsTagged pinned.tag pinned.frame self.new }
-        ensures local { tried_local_pins (why_of result) ≡ refused_tokens (tokens_of (held_at self.old.tokens pinned.frame)) }
+        ensures local { tried_local_pins (why_of result)
+            ≡ refused_tokens (tokens_of (held_at self.old.tokens pinned.frame)) }
         ensures token { IfOk result (λ taken. taken.pinned ≡ pinned) }
-        ensures lock { IfOk result (λ _. ChangesLock lock.Exclusive pinned.frame self.old self.new) }
+        ensures lock { IfOk result
+            (λ _. ChangesLock lock.Exclusive pinned.frame self.old self.new) }
         ensures granted { IfOk result (λ _. GrantsTry pinned.frame self.old.view self.new.view) }
         ensures back { IfErr result (λ refused. refused.pinned ≡ pinned) }
         ensures kept { IfErr result (λ _. KeepsLocks self.old self.new) }
-        ensures cause { IfErr result (λ refused. RefusesTry pinned.frame self.old.view self.new.view refused.why) }
+        ensures cause { IfErr result
+            (λ refused. RefusesTry pinned.frame self.old.view self.new.view refused.why) }
     {
         let tokens = self.held.tokens(pinned.frame);
         let mut seat = take_seat::<L, G>(&mut self.seat);

@@ -111,12 +111,18 @@ fn flush_seated<L: BlockLane, G: LogDevice, R: Wait>(
     ensures badge { SameBadge badge.old badge.new }
     ensures rests { OnlyTokens held.now (view_in badge.new.views) }
     ensures works { WorksAt frame (view_in badge.old.views) (view_in badge.new.views) }
-    ensures notes { KeepsNotes (link (view_in badge.old.views) frame) (link (view_in badge.new.views) frame) }
+    ensures notes { KeepsNotes (link (view_in badge.old.views) frame)
+        (link (view_in badge.new.views) frame) }
     ensures unlocked { (link (view_in badge.new.views) frame).content ≡ Unlocked }
-    ensures answer { FlushAnswer L.contents table.now (lane_number tag (lanes_in table.now)) tag frame (view_in badge.old.views) (view_in badge.new.views) result }
-    ensures met { (view_in badge.new.views).met ≡ met_flushing result (view_in badge.old.views).met }
-    ensures ended { IfErr result (λ _. EndedInError frame (view_in badge.old.views) (view_in badge.new.views)) }
-    ensures written { IfOk result (λ flushed. flushed ≡ Written → EndedWritten frame (view_in badge.old.views) (view_in badge.new.views)) }
+    ensures answer { FlushAnswer L.contents table.now (lane_number tag (lanes_in table.now)) tag
+        frame (view_in badge.old.views) (view_in badge.new.views) result }
+    ensures met { (view_in badge.new.views).met
+        ≡ met_flushing result (view_in badge.old.views).met }
+    ensures ended { IfErr result
+        (λ _. EndedInError frame (view_in badge.old.views) (view_in badge.new.views)) }
+    ensures written { IfOk result
+        (λ flushed. flushed ≡ Written
+        → EndedWritten frame (view_in badge.old.views) (view_in badge.new.views)) }
 {
     let mut seat = take_seat::<L, G>(badge);
     let answer = buffer_frames::flush_frame(table, rt, &mut seat, held, frame, tag, page);
@@ -160,15 +166,21 @@ impl Pass {
         ensures calls { KeepsCalls self.old self.new }
         ensures mark { KeepsMark self.old self.new }
         ensures locks { KeepsLocks self.old self.new }
-        ensures others { (g : ℕ) → g ≢ pinned.now.frame → link self.new.view g ≡ link self.old.view g }
-        ensures notes { KeepsNotes (link self.old.view pinned.now.frame) (link self.new.view pinned.now.frame) }
+        ensures others { (g : ℕ) → g ≢ pinned.now.frame
+            → link self.new.view g ≡ link self.old.view g }
+        ensures notes { KeepsNotes (link self.old.view pinned.now.frame)
+            (link self.new.view pinned.now.frame) }
 
         // The page went to its lane after the log was flushed up to it, or the frame was clean; or
         // this is why not, and which devices were called.
-        ensures answer { FlushAnswer L.contents manager.now.table (lane_number pinned.now.tag (lanes_in manager.now.table)) pinned.now.tag pinned.now.frame self.old.view self.new.view (page_answer result) }
+        ensures answer { FlushAnswer L.contents manager.now.table
+            (lane_number pinned.now.tag (lanes_in manager.now.table)) pinned.now.tag
+            pinned.now.frame self.old.view self.new.view (page_answer result) }
         ensures met { self.new.view.met ≡ met_flushing (page_answer result) self.old.view.met }
-        ensures ended { IfErr result (λ _. EndedInError pinned.now.frame self.old.view self.new.view) }
-        ensures written { IfOk result (λ wrote. wrote ≡ true → EndedWritten pinned.now.frame self.old.view self.new.view) }
+        ensures ended { IfErr result
+            (λ _. EndedInError pinned.now.frame self.old.view self.new.view) }
+        ensures written { IfOk result
+            (λ wrote. wrote ≡ true → EndedWritten pinned.now.frame self.old.view self.new.view) }
 
         // It is done if no device fails and the log isn't down, unless the page is past the log's
         // end.
@@ -176,7 +188,9 @@ impl Pass {
 
         // So it is done if no device fails, the log isn't down, and no page has a position past the
         // end that was seen.
-        ensures complete { WasWithin L.contents manager.now.table pinned.now.tag self.old.view.end_seen → self.new.view.saw_down ≡ false → self.new.view.met ≡ self.old.view.met → IsOk result }
+        ensures complete { WasWithin L.contents manager.now.table pinned.now.tag
+            self.old.view.end_seen → self.new.view.saw_down ≡ false
+            → self.new.view.met ≡ self.old.view.met → IsOk result }
     {
         let frame = pinned.frame;
         let tag = pinned.tag;

@@ -106,11 +106,14 @@ impl Pass {
         ensures devices { KeepsDevices self.old self.new }
         ensures token { IfOk result (λ taken. taken.pinned ≡ pinned) }
         ensures lock { IfOk result (λ _. ChangesLock lock.Shared pinned.frame self.old self.new) }
-        ensures did { IfOk result (λ _. LocksAtOnce kinds.share pinned.frame self.old.view self.new.view) }
+        ensures did { IfOk result
+            (λ _. LocksAtOnce kinds.share pinned.frame self.old.view self.new.view) }
         ensures back { IfErr result (λ refused. refused.pinned ≡ pinned) }
         ensures kept { IfErr result (λ _. KeepsLocks self.old self.new) }
         ensures others { (g : ℕ) → g ≢ pinned.frame → link self.new.view g ≡ link self.old.view g }
-        ensures cause { IfErr result (λ refused. RefusesLock ShowsExclusive pinned.frame self.old.view self.new.view refused.why) }
+        ensures cause { IfErr result
+            (λ refused. RefusesLock ShowsExclusive pinned.frame self.old.view
+            self.new.view refused.why) }
     {
         let mut seat = take_seat::<L, G>(&mut self.seat);
         let answer = try_share(&manager.table, &mut seat, pinned.frame);
@@ -140,12 +143,16 @@ impl Pass {
         ensures mark { KeepsMark self.old self.new }
         ensures devices { KeepsDevices self.old self.new }
         ensures token { IfOk result (λ taken. taken.pinned ≡ pinned) }
-        ensures lock { IfOk result (λ _. ChangesLock lock.Exclusive pinned.frame self.old self.new) }
-        ensures did { IfOk result (λ _. LocksAtOnce kinds.exclude pinned.frame self.old.view self.new.view) }
+        ensures lock { IfOk result
+            (λ _. ChangesLock lock.Exclusive pinned.frame self.old self.new) }
+        ensures did { IfOk result
+            (λ _. LocksAtOnce kinds.exclude pinned.frame self.old.view self.new.view) }
         ensures back { IfErr result (λ refused. refused.pinned ≡ pinned) }
         ensures kept { IfErr result (λ _. KeepsLocks self.old self.new) }
         ensures others { (g : ℕ) → g ≢ pinned.frame → link self.new.view g ≡ link self.old.view g }
-        ensures cause { IfErr result (λ refused. RefusesLock ShowsLock pinned.frame self.old.view self.new.view refused.why) }
+        ensures cause { IfErr result
+            (λ refused. RefusesLock ShowsLock pinned.frame self.old.view
+            self.new.view refused.why) }
     {
         let mut seat = take_seat::<L, G>(&mut self.seat);
         let answer = try_exclusive(&manager.table, &mut seat, pinned.frame);
@@ -175,7 +182,8 @@ impl Pass {
         ensures devices { KeepsDevices self.old self.new }
         ensures token { result ≡ shared.pinned }
         ensures lock { ChangesLock lock.Unlocked shared.pinned.frame self.old self.new }
-        ensures did { (was : ℕ) × Did (pages kinds.unshare) shared.pinned.frame self.old.view self.new.view was }
+        ensures did { (was : ℕ)
+            × Did (pages kinds.unshare) shared.pinned.frame self.old.view self.new.view was }
     {
         let Shared { pinned } = shared;
         let mut seat = take_seat::<L, G>(&mut self.seat);
@@ -204,7 +212,8 @@ impl Pass {
         ensures down { self.new.view.saw_down ≡ self.old.view.saw_down }
         ensures token { result ≡ exclusive.pinned }
         ensures lock { ChangesLock lock.Unlocked exclusive.pinned.frame self.old self.new }
-        ensures did { (was : ℕ) × Did (pages kinds.unexclude) exclusive.pinned.frame self.old.view self.new.view was }
+        ensures did { (was : ℕ)
+            × Did (pages kinds.unexclude) exclusive.pinned.frame self.old.view self.new.view was }
     {
         let Exclusive { pinned } = exclusive;
         let mut seat = take_seat::<L, G>(&mut self.seat);

@@ -74,7 +74,8 @@ impl<L: BlockLane, G: LogDevice> Manager<L, G> {
         requires devices { AreLanes (devices L.BlockLane G.LogDevice) catalog lanes.items }
         requires log { IsNewLog (devices L.BlockLane G.LogDevice) base log }
         ensures fits { IfOk result (λ _. start_refusal config (length lanes.items) ≡ None) }
-        ensures refused { IfErr result (λ r. r.why ≡ unwrap_or (start_refusal config (length lanes.items)) why.Memory) }
+        ensures refused { IfErr result
+            (λ r. r.why ≡ unwrap_or (start_refusal config (length lanes.items)) why.Memory) }
         ensures back { IfErr result (λ r. (r.lanes.items ≡ lanes.items) × (r.log ≡ log)) }
         ensures opened { IfOk result (λ m. OpenedWith config catalog lanes log base m.0) }
         ensures passes { IfOk result (λ m. AreNewPasses L.contents m.0 config.passes m.1.items) }
@@ -125,7 +126,8 @@ impl<L: BlockLane, G: LogDevice> Manager<L, G> {
     /// log.
     pub fn close(self, mut passes: Vec<Pass>) -> (Vec<L>, G)
         requires { AreAll self passes.items }
-        ensures { ClosesAll (devices L.BlockLane G.LogDevice) self.table.table.shared.key passes.items result.0.items result.1 }
+        ensures { ClosesAll (devices L.BlockLane G.LogDevice) self.table.table.shared.key
+            passes.items result.0.items result.1 }
     {
         let place = place_of_first(&passes);
         let (mut seat, mut queue) = passes.remove(place).leave();

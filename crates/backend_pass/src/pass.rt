@@ -120,7 +120,8 @@ impl Pass {
     )
         requires belongs { Belongs L.contents manager.now self.old }
         requires pinned { IsPinnedFor pinned.tag pinned.frame self.old.tokens }
-        requires unlocked { tokens_of (held_at self.old.tokens pinned.frame) ≡ 1 → HasLock Unlocked pinned.frame self.old }
+        requires unlocked { tokens_of (held_at self.old.tokens pinned.frame) ≡ 1
+            → HasLock Unlocked pinned.frame self.old }
         ensures belongs { Belongs L.contents manager.now self.new }
         ensures same { SamePass self.old self.new }
         ensures sought { KeepsSought self.old self.new }
@@ -134,12 +135,14 @@ impl Pass {
 
         // With the last token the pin is given up, by one step after loads of the state word, and
         // the backend is woken that waits for its own pin to be the only one.
-        ensures unpins { tokens_of (held_at self.old.tokens pinned.frame) ≡ 1 → Woken pinned.frame self.old.view self.new.view }
+        ensures unpins { tokens_of (held_at self.old.tokens pinned.frame) ≡ 1
+            → Woken pinned.frame self.old.view self.new.view }
 
         // What the pass has at other frames is untouched, and all of it if another token of the
         // frame is left.
         ensures others { (g : ℕ) → g ≢ pinned.frame → link self.new.view g ≡ link self.old.view g }
-        ensures left { tokens_of (held_at self.old.tokens pinned.frame) ≢ 1 → self.new.view ≡ self.old.view }
+        ensures left { tokens_of (held_at self.old.tokens pinned.frame) ≢ 1
+            → self.new.view ≡ self.old.view }
     {
         let Pinned {
             frame,

@@ -28,7 +28,8 @@ impl<L: BlockLane, G: LogDevice> Manager<L, G> {
     /// catalogue lacks the relation.
     pub fn blocks(&self, rel: RelNo, fork: Fork) -> u32
         ensures count { result ≡ blocks_at (relations_of self.now.table) rel.0 fork }
-        ensures named { (block : ℕ) → block < result → names_block (tag_of_parts rel.0 fork block) ≡ true }
+        ensures named { (block : ℕ) → block < result
+            → names_block (tag_of_parts rel.0 fork block) ≡ true }
     {
         self.table.blocks(&Tag {
             rel,

@@ -68,10 +68,12 @@ fn put_seated<L: BlockLane, G: LogDevice, R: Wait>(
     ensures puts { PutsAt frame (view_in badge.old.views) (view_in badge.new.views) }
     ensures right { (link (view_in badge.new.views) frame).content ≡ content.Exclusive }
     ensures marked { (view_in badge.new.views).dirtied_or_synced ≡ true }
-    ensures answer { PutAnswer (relations_of table.now) frame tag page.old (view_in badge.old.views) (view_in badge.new.views) result }
+    ensures answer { PutAnswer (relations_of table.now) frame tag page.old (view_in badge.old.views)
+        (view_in badge.new.views) result }
     ensures calls { Made (put_calls result) (view_in badge.old.views) (view_in badge.new.views) }
     ensures met { (view_in badge.new.views).met ≡ met_put result (view_in badge.old.views).met }
-    ensures torn { AddsTorn (packed_tag tag) page.old result (view_in badge.old.views).torn (view_in badge.new.views).torn }
+    ensures torn { AddsTorn (packed_tag tag) page.old result (view_in badge.old.views).torn
+        (view_in badge.new.views).torn }
 {
     let mut seat = take_seat::<L, G>(badge);
     let answer = put_locked(table, rt, &mut seat, held, frame, tag, page);
@@ -106,7 +108,8 @@ impl Pass {
         page: &Page,
     ) -> Result<Lsn, PutError>
         requires belongs { Belongs L.contents manager.now self.old }
-        requires pinned { IsPinnedFor exclusive.old.pinned.tag exclusive.old.pinned.frame self.old.tokens }
+        requires pinned { IsPinnedFor exclusive.old.pinned.tag exclusive.old.pinned.frame
+            self.old.tokens }
         requires locked { HasLock content.Exclusive exclusive.old.pinned.frame self.old }
         requires sound { is_sound_page page.now ≡ true }
         requires used { is_new_page page.now ≡ false }
@@ -117,15 +120,18 @@ impl Pass {
         ensures tokens { self.new.tokens ≡ self.old.tokens }
         ensures census { self.new.census ≡ self.old.census }
         ensures locks { KeepsLocks self.old self.new }
-        ensures others { (g : ℕ) → g ≢ exclusive.old.pinned.frame → link self.new.view g ≡ link self.old.view g }
+        ensures others { (g : ℕ) → g ≢ exclusive.old.pinned.frame
+            → link self.new.view g ≡ link self.old.view g }
         ensures marked { self.new.view.dirtied_or_synced ≡ true }
 
         // The page is the frame's, and stands in the log at the position answered, past all that
         // the pass has read and put; or this is why not.
-        ensures answer { PutAnswer (relations_of manager.now.table) exclusive.old.pinned.frame exclusive.old.pinned.tag page.now self.old.view self.new.view result }
+        ensures answer { PutAnswer (relations_of manager.now.table) exclusive.old.pinned.frame
+            exclusive.old.pinned.tag page.now self.old.view self.new.view result }
         ensures devices { Made (put_calls result) self.old.view self.new.view }
         ensures met { self.new.view.met ≡ met_put result self.old.view.met }
-        ensures torn { AddsTorn (packed_tag exclusive.old.pinned.tag) page.now result self.old.view.torn self.new.view.torn }
+        ensures torn { AddsTorn (packed_tag exclusive.old.pinned.tag) page.now result
+            self.old.view.torn self.new.view.torn }
         ensures refused { IfErr result (λ _. KeepsCalls self.old self.new) }
         ensures place_loads { self.new.view.place_loads ≡ self.old.view.place_loads }
 

@@ -128,7 +128,8 @@ fn read_seated<L: BlockLane, G: LogDevice, R: Wait>(
         (view_in badge.old.views) (view_in badge.new.views) result }
     ensures census { CensusRead (frames_of manager.now.table) backend.old.census
         backend.new.census result }
-    ensures met { (view_in badge.new.views).met ≡ met_read_block result (view_in badge.old.views).met }
+    ensures met { (view_in badge.new.views).met
+        ≡ met_read_block result (view_in badge.old.views).met }
     ensures calls { ReadCalls L.contents manager.now.table tag.now held.now (is_some ring.old)
         backend.new.lookups.hint (choice_of backend.old ring.old)
         (choice_of backend.new ring.new) (lane_number tag.now (lanes_in manager.now.table))
@@ -196,13 +197,16 @@ impl Pass {
         ensures mark { KeepsMark self.old self.new }
         ensures locks { KeepsLocks self.old self.new }
         ensures ring { ring_shape ring.new ≡ ring_shape ring.old }
-        ensures answer { ReadsBlock L.contents manager.now.table tag.now ring.old ring.new self.old self.new result }
-        ensures census { ReadingCensus (frames_of manager.now.table) self.old.census self.new.census result }
+        ensures answer { ReadsBlock L.contents manager.now.table tag.now ring.old ring.new self.old
+            self.new result }
+        ensures census { ReadingCensus (frames_of manager.now.table) self.old.census
+            self.new.census result }
         ensures met { self.new.view.met ≡ met_reading result self.old.view.met }
         ensures turns { TakesTurns self.new.hint self.old.view.turns self.new.view.turns }
         ensures hints { StoresHints (frames_of manager.now.table) tag.now self.new.hint
             self.old.view.hints self.new.view.hints result }
-        ensures back { IfOk result (λ pinned. tokens_less pinned.frame self.new.tokens ≡ self.old.tokens) }
+        ensures back { IfOk result
+            (λ pinned. tokens_less pinned.frame self.new.tokens ≡ self.old.tokens) }
     {
         match read_seated(
             manager,
@@ -246,13 +250,15 @@ impl Pass {
         ensures mark { KeepsMark self.old self.new }
         ensures locks { KeepsLocks self.old self.new }
         ensures ring { ring_shape ring.new ≡ ring_shape ring.old }
-        ensures census { ReadingCensus (frames_of manager.now.table) self.old.census self.new.census result }
+        ensures census { ReadingCensus (frames_of manager.now.table) self.old.census
+            self.new.census result }
         ensures met { self.new.view.met ≡ met_reading result self.old.view.met }
 
         // A block past the end and one token too many are refused, in this order, before anything
         // is looked at, and nothing else is refused so. The pass, but for its hint, and the ring
         // are as they were.
-        ensures exact { at_once_of result ≡ refused_at_once (relations_of manager.now.table) self.old.tokens tag }
+        ensures exact { at_once_of result
+            ≡ refused_at_once (relations_of manager.now.table) self.old.tokens tag }
         ensures at_once { (why : ReadError)
             → refused_at_once (relations_of manager.now.table) self.old.tokens tag ≡ Some why
             → (self.new ≡ record self.old { hint = Unused }) × (ring.new ≡ ring.old) }
@@ -295,11 +301,14 @@ impl Pass {
 
         // If no page had a position past the log end that the pass had seen, the last of these
         // doesn't happen.
-        ensures complete { refused_at_once (relations_of manager.now.table) self.old.tokens tag ≡ None → NothingFails L.contents manager.now.table self.old self.new → IsReadUnsoundOrAllPinned result }
+        ensures complete { refused_at_once (relations_of manager.now.table) self.old.tokens tag
+            ≡ None → NothingFails L.contents manager.now.table self.old self.new
+            → IsReadUnsoundOrAllPinned result }
 
         // It is called unsound only if it was unsound as the table was opened, as far as that is
         // known.
-        ensures unsound { (failed : Tag) → result ≡ Err (Unsound failed) → (failed ≡ tag) × WasUnsoundAtOpening L.contents manager.now.table tag }
+        ensures unsound { (failed : Tag) → result ≡ Err (Unsound failed)
+            → (failed ≡ tag) × WasUnsoundAtOpening L.contents manager.now.table tag }
 
         ensures tag { IfOk result (λ pinned. pinned.tag ≡ tag) }
         ensures pinned { IfOk result (λ pinned. IsPinnedFor tag pinned.frame self.new.tokens) }
@@ -308,8 +317,11 @@ impl Pass {
         ensures refused { IfErr result (λ _. self.new.tokens ≡ self.old.tokens) }
 
         // The token may be given back at once, which leaves the tokens of before.
-        ensures back { IfOk result (λ pinned. tokens_less pinned.frame self.new.tokens ≡ self.old.tokens) }
-        ensures last { IfOk result (λ pinned. tokens_of (held_at self.new.tokens pinned.frame) ≡ 1 → (link self.new.view pinned.frame).content ≡ Unlocked) }
+        ensures back { IfOk result
+            (λ pinned. tokens_less pinned.frame self.new.tokens ≡ self.old.tokens) }
+        ensures last { IfOk result
+            (λ pinned. tokens_of (held_at self.new.tokens pinned.frame) ≡ 1
+            → (link self.new.view pinned.frame).content ≡ Unlocked) }
     {
         self.backend.lookups.hint = HintSeen::Unused;
         let blocks = manager.table.blocks(&tag);

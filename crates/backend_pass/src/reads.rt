@@ -43,9 +43,12 @@ impl Pass {
         ensures mark { KeepsMark self.old self.new }
         ensures devices { KeepsDevices self.old self.new }
         ensures locks { KeepsLocks self.old self.new }
-        ensures others { (g : ℕ) → g ≢ pinned.now.frame → link self.new.view g ≡ link self.old.view g }
-        ensures reads { ReadsPage L.contents manager.now.table pinned.now.tag page.new result self.old.view self.new.view }
-        ensures did { ReadsUnder (link self.old.view pinned.now.frame).content pinned.now.frame page.new result self.old.view self.new.view }
+        ensures others { (g : ℕ) → g ≢ pinned.now.frame
+            → link self.new.view g ≡ link self.old.view g }
+        ensures reads { ReadsPage L.contents manager.now.table pinned.now.tag page.new result
+            self.old.view self.new.view }
+        ensures did { ReadsUnder (link self.old.view pinned.now.frame).content pinned.now.frame
+            page.new result self.old.view self.new.view }
     {
         let frame = pinned.frame;
         let tag = pinned.tag;
@@ -77,8 +80,10 @@ impl Pass {
         ensures mark { KeepsMark self.old self.new }
         ensures devices { KeepsDevices self.old self.new }
         ensures locks { KeepsLocks self.old self.new }
-        ensures others { (g : ℕ) → g ≢ pinned.now.frame → link self.new.view g ≡ link self.old.view g }
-        ensures reads { ReadsPage L.contents manager.now.table pinned.now.tag page.new result self.old.view self.new.view }
+        ensures others { (g : ℕ) → g ≢ pinned.now.frame
+            → link self.new.view g ≡ link self.old.view g }
+        ensures reads { ReadsPage L.contents manager.now.table pinned.now.tag page.new result
+            self.old.view self.new.view }
         ensures did { SharesToRead pinned.now.frame page.new result self.old.view self.new.view }
     {
         let frame = pinned.frame;
@@ -101,7 +106,8 @@ impl Pass {
         page: &mut Page,
     ) -> Lsn
         requires belongs { Belongs L.contents manager.now self.old }
-        requires pinned { IsPinnedFor shared.now.pinned.tag shared.now.pinned.frame self.old.tokens }
+        requires pinned { IsPinnedFor shared.now.pinned.tag shared.now.pinned.frame
+            self.old.tokens }
         requires locked { HasLock lock.Shared shared.now.pinned.frame self.old }
         ensures belongs { Belongs L.contents manager.now self.new }
         ensures same { SamePass self.old self.new }
@@ -111,9 +117,12 @@ impl Pass {
         ensures mark { KeepsMark self.old self.new }
         ensures devices { KeepsDevices self.old self.new }
         ensures locks { KeepsLocks self.old self.new }
-        ensures others { (g : ℕ) → g ≢ shared.now.pinned.frame → link self.new.view g ≡ link self.old.view g }
-        ensures reads { ReadsPage L.contents manager.now.table shared.now.pinned.tag page.new result self.old.view self.new.view }
-        ensures did { ReadsUnder lock.Shared shared.now.pinned.frame page.new result self.old.view self.new.view }
+        ensures others { (g : ℕ) → g ≢ shared.now.pinned.frame
+            → link self.new.view g ≡ link self.old.view g }
+        ensures reads { ReadsPage L.contents manager.now.table shared.now.pinned.tag page.new result
+            self.old.view self.new.view }
+        ensures did { ReadsUnder lock.Shared shared.now.pinned.frame page.new result self.old.view
+            self.new.view }
     {
         self.read_locked(manager, rt, &shared.pinned, page)
     }
@@ -128,7 +137,8 @@ impl Pass {
         page: &mut Page,
     ) -> Lsn
         requires belongs { Belongs L.contents manager.now self.old }
-        requires pinned { IsPinnedFor exclusive.now.pinned.tag exclusive.now.pinned.frame self.old.tokens }
+        requires pinned { IsPinnedFor exclusive.now.pinned.tag exclusive.now.pinned.frame
+            self.old.tokens }
         requires locked { HasLock lock.Exclusive exclusive.now.pinned.frame self.old }
         ensures belongs { Belongs L.contents manager.now self.new }
         ensures same { SamePass self.old self.new }
@@ -138,9 +148,12 @@ impl Pass {
         ensures mark { KeepsMark self.old self.new }
         ensures devices { KeepsDevices self.old self.new }
         ensures locks { KeepsLocks self.old self.new }
-        ensures others { (g : ℕ) → g ≢ exclusive.now.pinned.frame → link self.new.view g ≡ link self.old.view g }
-        ensures reads { ReadsPage L.contents manager.now.table exclusive.now.pinned.tag page.new result self.old.view self.new.view }
-        ensures did { ReadsUnder lock.Exclusive exclusive.now.pinned.frame page.new result self.old.view self.new.view }
+        ensures others { (g : ℕ) → g ≢ exclusive.now.pinned.frame
+            → link self.new.view g ≡ link self.old.view g }
+        ensures reads { ReadsPage L.contents manager.now.table exclusive.now.pinned.tag page.new
+            result self.old.view self.new.view }
+        ensures did { ReadsUnder lock.Exclusive exclusive.now.pinned.frame page.new result
+            self.old.view self.new.view }
     {
         self.read_locked(manager, rt, &exclusive.pinned, page)
     }

@@ -84,15 +84,18 @@ impl Pass {
         memory: PassMemory,
         base: u64,
     ) -> Pass
-        requires first { (self.old.table ≡ manager.now.table.table.shared.table_id) × (self.old.id ≡ 0) }
-        requires next { (self.old.view.next ≡ number) × (number ≢ 0) × (number < manager.now.table.table.shared.key.config.passes) }
+        requires first { (self.old.table ≡ manager.now.table.table.shared.table_id)
+            × (self.old.id ≡ 0) }
+        requires next { (self.old.view.next ≡ number) × (number ≢ 0)
+            × (number < manager.now.table.table.shared.key.config.passes) }
         requires base { base ≡ base_of manager.now.table }
         requires queue { IsOfSweep manager.now.sweep self.old.queue }
         requires parts { 1 < self.old.queue.known.parts }
         ensures first { self.new ≡ record self.old { view = kept_view self.old.view; queue = record self.old.queue { known = kept_part self.old.queue.known } } }
         ensures table { result.table ≡ self.old.table }
         ensures view { result.view ≡ split_view base self.old.view }
-        ensures queue { result.queue ≡ record self.old.queue { known = new_part self.old.queue.known } }
+        ensures queue { result.queue
+            ≡ record self.old.queue { known = new_part self.old.queue.known } }
         ensures fresh { (result.tokens ≡ [])
             × (result.census ≡ memory.census) × (result.hint ≡ Unused) }
     {
@@ -115,12 +118,15 @@ pub(crate) fn seat_passes<L: BlockLane, G: LogDevice>(
     count: u32,
     base: u64,
 ) -> Vec<Pass>
-    requires seat { Fits manager.now.table seat × (seat.id ≡ 0) × (seat.me ≡ (starting manager.now.table.table.shared.key, [])) }
+    requires seat { Fits manager.now.table seat × (seat.id ≡ 0)
+        × (seat.me ≡ (starting manager.now.table.table.shared.key, [])) }
     requires base { base ≡ base_of manager.now.table }
-    requires count { (1 ≤ count) × (count ≤ all_parts) × (count ≡ manager.now.table.table.shared.key.config.passes) }
+    requires count { (1 ≤ count) × (count ≤ all_parts)
+        × (count ≡ manager.now.table.table.shared.key.config.passes) }
     requires queue { IsFreeList manager.now.table manager.now.sweep queue }
     requires known { queue.known ≡ queue_view all_parts (frames_of manager.now.table) [] [] }
-    requires memories { (vec_len memories ≡ count) × AreForFrames (frames_of manager.now.table) memories.items }
+    requires memories { (vec_len memories ≡ count)
+        × AreForFrames (frames_of manager.now.table) memories.items }
     requires room { (passes.items ≡ []) × (count ≤ vec_capacity passes) }
     ensures { AreNewPasses L.contents manager.now count result.items }
 {

@@ -117,13 +117,15 @@ impl Pass {
         // The frame was passed over exactly for the word that was looked at. Else it was written
         // after the log was flushed up to its page, or was clean; or this is why not, and which
         // devices were called.
-        ensures syncs { SyncsFrame L.contents manager.now.table only frame self.old.view self.new.view (frame_answer result) }
+        ensures syncs { SyncsFrame L.contents manager.now.table only frame self.old.view
+            self.new.view (frame_answer result) }
         ensures met { self.new.view.met ≡ met_flushing (frame_answer result) self.old.view.met }
         ensures ended { EndsSync frame self.old.view self.new.view (frame_answer result) }
 
         // A frame without BM_CHECKPOINT_NEEDED is none that the pass's checkpoint has still to
         // write.
-        ensures not_left_to_write { result ≡ Ok Skipped → only ≡ Needed → (link self.new.view frame).left_to_write ≡ false }
+        ensures not_left_to_write { result ≡ Ok Skipped → only ≡ Needed
+            → (link self.new.view frame).left_to_write ≡ false }
 
         // It is done if no device fails and the log isn't down, unless the page is past the log's
         // end.
@@ -131,7 +133,8 @@ impl Pass {
 
         // So it is done if no device fails, the log isn't down, and no page has a position past the
         // end that was seen.
-        ensures complete { NothingFails L.contents manager.now.table self.old self.new → IsOk result }
+        ensures complete { NothingFails L.contents manager.now.table self.old self.new
+            → IsOk result }
     {
         let mut seat = take_seat::<L, G>(&mut self.seat);
         let frames_answer = sync_one(
@@ -170,7 +173,8 @@ impl Pass {
         requires belongs { Belongs L.contents manager.now self.old }
         ensures belongs { Belongs L.contents manager.now self.new }
         ensures callers { KeepsCallers self.old self.new }
-        ensures new { self.new ≡ record self.old { view = view_of begin_checkpoint result self.old.view } }
+        ensures new { self.new
+            ≡ record self.old { view = view_of begin_checkpoint result self.old.view } }
         ensures unmarked { (f : ℕ) → link self.new.view f ≡ unmarked (link self.old.view f) }
         ensures seen { (self.old.view.end_seen ≤ result) × (result ≤ self.new.view.end_seen) }
         ensures did { DidWord begin_checkpoint self.old.view self.new.view result }
@@ -199,8 +203,12 @@ impl Pass {
         ensures touches { Touches frame self.old.view self.new.view }
         ensures visited { (link self.new.view frame).visited ≡ true }
         ensures clean { IfNone result (SeesNotDirty frame self.old.view self.new.view) }
-        ensures not_left_to_write { IfNone result ((link self.old.view frame).left_to_write ≡ false → (link self.new.view frame).left_to_write ≡ false) }
-        ensures needed { IfSome result (λ _. Within (λ a b. (word : ℕ) × Did (pages kinds.need_checkpoint) frame a b word) self.old.view self.new.view) }
+        ensures not_left_to_write { IfNone result
+            ((link self.old.view frame).left_to_write ≡ false
+            → (link self.new.view frame).left_to_write ≡ false) }
+        ensures needed { IfSome result
+            (λ _. Within (λ a b. (word : ℕ) × Did (pages kinds.need_checkpoint) frame a b word)
+            self.old.view self.new.view) }
 
         // The tag is the one that the frame had under the header that was locked for it.
         ensures noted { IfSome result (λ tag. NotesBlock frame tag self.old.view self.new.view) }
@@ -223,16 +231,21 @@ impl Pass {
         ensures belongs { Belongs L.contents manager.now self.new }
         ensures same { SamePass self.old self.new }
         ensures callers { KeepsCallers self.old self.new }
-        ensures flushed { MatchResult result (λ _. lsn ≤ self.new.view.flushed) (λ _. self.new.view.flushed < lsn) }
-        ensures view { IfOk result (λ _. (by : FlushedBy) × (self.new.view ≡ as_looked (flushed_view by self.old.view) self.new.view)) }
-        ensures left { IfErr result (λ why. self.new.view ≡ as_looked (unflushed_view why self.old.view) self.new.view) }
+        ensures flushed { MatchResult result (λ _. lsn ≤ self.new.view.flushed)
+            (λ _. self.new.view.flushed < lsn) }
+        ensures view { IfOk result
+            (λ _. (by : FlushedBy)
+            × (self.new.view ≡ as_looked (flushed_view by self.old.view) self.new.view)) }
+        ensures left { IfErr result
+            (λ why. self.new.view ≡ as_looked (unflushed_view why self.old.view) self.new.view) }
         ensures did { IfOk result (λ _. Flushed lsn self.old.view self.new.view) }
         ensures seen { IfErr result (λ why. FlushSeesEnd why self.old.view self.new.view) }
         ensures cause { IfErr result (FlushRefused lsn self.old.view self.new.view) }
 
         // It is done if the log isn't down, no call fails, and the log ends at the position or past
         // it.
-        ensures complete { lsn ≤ self.old.view.end_seen → self.new.view.saw_down ≡ false → IsOk result }
+        ensures complete { lsn ≤ self.old.view.end_seen → self.new.view.saw_down ≡ false
+            → IsOk result }
     {
         let mut seat = take_seat::<L, G>(&mut self.seat);
         let answer = flush_to(&manager.table, rt, &mut seat, lsn);
@@ -256,7 +269,8 @@ impl Pass {
         ensures same { SamePass self.old self.new }
         ensures callers { KeepsCallers self.old self.new }
         ensures view { work_of self.new.view ≡ synced_work lane (is_ok result) self.old.view }
-        ensures swept { IfOk result (λ _. swept_by self.old.view ≤ (lane_hold self.new.view lane).swept) }
+        ensures swept { IfOk result
+            (λ _. swept_by self.old.view ≤ (lane_hold self.new.view lane).swept) }
         ensures wide { length self.old.view.links ≡ frames_of manager.now.table }
         ensures left { LeavesLane (lanes_in manager.now.table) lane self.new.view }
     {

@@ -31,7 +31,10 @@ module _ {L G : Type 0} (contents : L → Option Pages) (t : FrameTable L G) whe
   -- of them, while the view pinned what it pinned in `start` at each look
   pub data LookedInOrder (hand : ℕ) (start v : View) : List Synced → View → Type 0 where
     none : LookedInOrder hand start v [] v
-    next : {u w : View} (came : List Synced) (synced : Synced) → LookedInOrder hand start v came u → SamePins start u → SyncsFrame contents t NotRecentlyUsed ((hand + length came) % frames_of t) u w (Ok synced) → LookedInOrder hand start v (came ++ synced ∷ []) w
+    next : {u w : View} (came : List Synced) (synced : Synced) → LookedInOrder hand start v came u
+        → SamePins start u
+        → SyncsFrame contents t NotRecentlyUsed ((hand + length came) % frames_of t) u w (Ok synced)
+        → LookedInOrder hand start v (came ++ synced ∷ []) w
 
   -- The round ended: it had looked at all frames, or had written 100 pages
   pub record EndsRound (hand : ℕ) (start v w : View) (round : Round) : Type 0 where
@@ -50,7 +53,8 @@ module _ {L G : Type 0} (contents : L → Option Pages) (t : FrameTable L G) whe
     pub looks : LookedInOrder hand start v came before
     pub left : (length came < frames_of t) × (pages_written_for_all came < 100)
     pub pins : SamePins start before
-    pub refused : SyncsFrame contents t NotRecentlyUsed ((hand + length came) % frames_of t) before w (Err (frame_refusal why))
+    pub refused : SyncsFrame contents t NotRecentlyUsed ((hand + length came) % frames_of t) before
+        w (Err (frame_refusal why))
     pub ended : EndedInError ((hand + length came) % frames_of t) before w
 
   abbrev pub RoundEnds : ℕ → View → View → View → Result Round FlushError → Type 0

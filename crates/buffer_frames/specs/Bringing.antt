@@ -36,7 +36,8 @@ pub data PutsBack (f : ℕ) (q r : QueueState) : Type 0 where
 
 -- A victim was given up and put back, and another backend's frame f, which the map gave, was pinned
 -- then, for a ring or not
-pub record PinsOther (tag : Tag) (ring : Bool) (victim f : ℕ) (v : View) (q : QueueState) (w : View) (r : QueueState) : Type 0 where
+pub record PinsOther (tag : Tag) (ring : Bool) (victim f : ℕ) (v : View) (q : QueueState) (w : View)
+    (r : QueueState) : Type 0 where
   pub entries : List MapEntry
   pub searched : View
   pub did : WentAndCame entries entries (partition_number tag) v searched
@@ -48,8 +49,10 @@ pub record PinsOther (tag : Tag) (ring : Bool) (victim f : ℕ) (v : View) (q : 
 
 -- The map was searched once more: it gave none, and then the block was brought into the victim; or
 -- it gave another backend's frame
-pub data Brings (tag : Tag) (ring : Bool) (victim f : ℕ) (v : View) (q : QueueState) (w : View) (r : QueueState) : Type 0 where
-  enters : {u : View} → f ≡ victim → SeesNone tag v u → OnlyRises u w → r ≡ q → Brings tag ring victim f v q w r
+pub data Brings (tag : Tag) (ring : Bool) (victim f : ℕ) (v : View) (q : QueueState) (w : View)
+    (r : QueueState) : Type 0 where
+  enters : {u : View} → f ≡ victim → SeesNone tag v u → OnlyRises u w → r ≡ q
+      → Brings tag ring victim f v q w r
   pins_other : PinsOther tag ring victim f v q w r → Brings tag ring victim f v q w r
 
 -- Under the latch of the tag's partition the block was brought into a frame, f, which is pinned for
@@ -73,7 +76,8 @@ module _ {L G : Type 0} (contents : L → Option Pages) (t : FrameTable L G) whe
   -- Victims were chosen and given up, then one was chosen and lost its tag, and the block was
   -- brought into it; or another backend's frame, which has the block, was pinned
   pub record PinsAndStores (tag : Tag) (held : Tokens) (ring : Bool) (f : ℕ)
-      (last : List DeviceCall) (v : View) (c : ChoiceState) (w : View) (d : ChoiceState) : Type 0 where
+      (last : List DeviceCall) (v : View) (c : ChoiceState) (w : View)
+      (d : ChoiceState) : Type 0 where
     pub start : View
     pub by : ChoiceState
     pub tries : GivesVictimsUp contents t v c start by

@@ -135,7 +135,8 @@ pub record CopiesAnd (Work : Page → View → View → Type 0) (f : ℕ) (v w :
 -- The ring gave the frame f up. It is for bulk reads, the frame came from its current place, and
 -- the log would have to be flushed for the frame's page, as that was copied in this call and the
 -- flushed position loaded. The place is empty then
-pub record RejectsVictim (f : ℕ) (from_ring : Bool) (before after : Option RingState) (v w : View) : Type 0 where
+pub record RejectsVictim (f : ℕ) (from_ring : Bool) (before after : Option RingState)
+    (v w : View) : Type 0 where
   pub came : from_ring ≡ true
   pub ring : RingState
   pub was : before ≡ Some ring
@@ -150,10 +151,12 @@ pub record RejectsVictim (f : ℕ) (from_ring : Bool) (before after : Option Rin
 -- The ring keeps a dirty frame f: there is no ring, or the frame didn't come from its current
 -- place; or the ring isn't for bulk reads; or the log needn't be flushed for the frame's page, as
 -- that was copied in this call and the flushed position loaded
-pub data IsNotRejected (f : ℕ) (from_ring : Bool) (ring : Option RingState) (v w : View) : Type 0 where
+pub data IsNotRejected (f : ℕ) (from_ring : Bool) (ring : Option RingState)
+    (v w : View) : Type 0 where
   no_ring : ring ≡ None → IsNotRejected f from_ring ring v w
   elsewhere : from_ring ≡ false → IsNotRejected f from_ring ring v w
-  other_kind : (r : RingState) → ring ≡ Some r → r.kind ≢ BulkRead → IsNotRejected f from_ring ring v w
+  other_kind : (r : RingState) → ring ≡ Some r → r.kind ≢ BulkRead
+      → IsNotRejected f from_ring ring v w
   covered : (page : Page) (flushed : ℕ) → Within (Copies f page) v w
       → Within (λ a b. DidWord load_flushed a b flushed) v w → lsn_of page ≤ flushed
       → IsNotRejected f from_ring ring v w
@@ -177,7 +180,9 @@ module _ {L G : Type 0} (contents : L → Option Pages) (t : FrameTable L G) whe
   -- is known; or the log is down, and that was seen. The end that is named was seen, and isn't
   -- before one that was seen at first
   abbrev pub LogShows : FlushLog → Tag → Page → View → View → Type 0
-  LogShows (LogShort lsn end) tag page v w = (lsn ≡ lsn_of page) × (end < lsn) × (v.end_seen ≤ end) × (end ≤ w.end_seen) × WasAtOpening contents t tag page
+  LogShows (LogShort lsn end) tag page v w =
+      (lsn ≡ lsn_of page) × (end < lsn) × (v.end_seen ≤ end) × (end ≤ w.end_seen)
+      × WasAtOpening contents t tag page
   LogShows (LogDown at) tag page v w = (v.end_seen ≤ at) × (at ≤ w.end_seen) × (w.saw_down ≡ true)
   LogShows LogFault tag page v w = w.saw_down ≡ true
 
@@ -191,13 +196,16 @@ module _ {L G : Type 0} (contents : L → Option Pages) (t : FrameTable L G) whe
   abbrev pub WriteAnswer : ℕ → Tag → Page → View → View → Result Unit FrameFlushError → Type 0
   WriteAnswer q tag page v w (Ok done) = WentToLane true q (packed_tag tag) page v w
   WriteAnswer q tag page v w (Err (Log why)) = LogRefuses why tag page v w
-  WriteAnswer q tag page v w (Err (WriteFault failed)) = (failed ≡ tag) × WentToLane false q (packed_tag tag) page v w
+  WriteAnswer q tag page v w (Err (WriteFault failed)) =
+      (failed ≡ tag) × WentToLane false q (packed_tag tag) page v w
 
   -- what came of a flush of the frame f
   abbrev pub FlushAnswer : ℕ → Tag → ℕ → View → View → Result FlushedPage FrameFlushError → Type 0
-  FlushAnswer q tag f v w (Ok flush.Written) = CopiesAnd (λ page a b. WriteAnswer q tag page a b (Ok tt)) f v w
+  FlushAnswer q tag f v w (Ok flush.Written) =
+      CopiesAnd (λ page a b. WriteAnswer q tag page a b (Ok tt)) f v w
   FlushAnswer q tag f v w (Ok flush.Clean) = FindsClean f v w
-  FlushAnswer q tag f v w (Err why) = CopiesAnd (λ page a b. WriteAnswer q tag page a b (Err why)) f v w
+  FlushAnswer q tag f v w (Err why) =
+      CopiesAnd (λ page a b. WriteAnswer q tag page a b (Err why)) f v w
 
   -- A dirty victim was flushed, with this answer: its content lock was shared, the ring didn't
   -- reject the frame, and no device was called before the flush

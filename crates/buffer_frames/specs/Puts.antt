@@ -27,7 +27,8 @@ use Rattle.buffer_frames.specs.Working.{met_log}
 -- What a put keeps of a view: what calls keep, but its mark, what it read and put, its front, and
 -- the records that it failed to append
 abbrev pub kept_by_puts : View → View
-kept_by_puts v = record (kept_by_calls v) { calls = []; front = 0; dirtied_or_synced = false; torn = [] }
+kept_by_puts v =
+    record (kept_by_calls v) { calls = []; front = 0; dirtied_or_synced = false; torn = [] }
 
 -- Such work at the frame f: the view has at other frames, and at the partitions, what it had
 pub record PutsAt (f : ℕ) (v w : View) : Type 0 where
@@ -48,7 +49,8 @@ pub record AppliesImage (f : ℕ) (page : Page) (v w : View) : Type 0 where
   pub came : ReturnsBy (Some kinds.overwrite_logged) f out w found
 
 -- The frame was marked dirty, then the page was inserted, and then it became the frame's page
-pub record PutsPage (relations : List RelEntry) (f : ℕ) (tag : Tag) (page : Page) (lsn : ℕ) (v w : View) : Type 0 where
+pub record PutsPage (relations : List RelEntry) (f : ℕ) (tag : Tag) (page : Page) (lsn : ℕ)
+    (v w : View) : Type 0 where
   pub marked : View
   pub entered : View
   pub marks : Tried (pages kinds.mark_dirty) f v marked true
@@ -57,7 +59,8 @@ pub record PutsPage (relations : List RelEntry) (f : ℕ) (tag : Tag) (page : Pa
 
 -- The page was put, with its position, which is the view's front from then on: one write more is
 -- among its calls
-pub record DidPut (relations : List RelEntry) (f : ℕ) (tag : Tag) (page : Page) (lsn : ℕ) (v w : View) : Type 0 where
+pub record DidPut (relations : List RelEntry) (f : ℕ) (tag : Tag) (page : Page) (lsn : ℕ)
+    (v w : View) : Type 0 where
   pub work : PutsPage relations f tag (with_lsn lsn page) lsn v w
   pub calls : w.calls
       ≡ v.calls ++ Write v.number (packed_tag tag) (with_lsn lsn page) lsn image_record ∷ []
@@ -72,7 +75,8 @@ RefusalShows LogFault w = w.saw_down ≡ true
 
 -- The frame was marked dirty, and then the page was not inserted, for this reason. What was read
 -- and put is as it was, and so is what the frame has but for the mark
-pub record PutRefused (relations : List RelEntry) (f : ℕ) (tag : Tag) (page : Page) (why : InsertError) (v w : View) : Type 0 where
+pub record PutRefused (relations : List RelEntry) (f : ℕ) (tag : Tag) (page : Page)
+    (why : InsertError) (v w : View) : Type 0 where
   pub marked : View
   pub marks : Tried (pages kinds.mark_dirty) f v marked true
   pub refused : InsertRefused relations f tag page marked w why

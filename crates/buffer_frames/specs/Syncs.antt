@@ -100,7 +100,9 @@ pub data PinsUnder (f word : ℕ) (v w : View) : Type 0 where
 
 -- no two frames are pinned for one block
 abbrev pub AreAlone : Tokens → Type 0
-AreAlone t = (f g : ℕ) (h k : HeldFrame) → held_at t f ≡ Some h → held_at t g ≡ Some k → h.tag ≡ k.tag → f ≡ g
+AreAlone t =
+    (f g : ℕ) (h k : HeldFrame) → held_at t f ≡ Some h → held_at t g ≡ Some k → h.tag ≡ k.tag
+    → f ≡ g
 
 -- what a dirty frame's state word shows, too
 pub record IsDirty (w : StateWord) : Type 0 where
@@ -140,7 +142,8 @@ pub data ShowsTag (l : Link) : Type 0 where
 module _ {L G : Type 0} (contents : L → Option Pages) (t : FrameTable L G) where
   -- The page of the frame f, which was pinned for a block of the relations, went to the block's
   -- lane, or this is why not
-  pub record WritesBlock (f : ℕ) (v w : View) (r : Result FlushedPage FrameFlushError) : Type 0 where
+  pub record WritesBlock (f : ℕ) (v w : View)
+      (r : Result FlushedPage FrameFlushError) : Type 0 where
     pub tag : Tag
     pub loads : Within (LoadsTag f tag) v w
     pub named : names_block tag ≡ true
@@ -155,17 +158,24 @@ module _ {L G : Type 0} (contents : L → Option Pages) (t : FrameTable L G) whe
   PinnedAnswer f v w (Err why) = WritesBlock f v w (Err why)
 
   -- what came of the frame f, whose state word was `word` at the look that led to the view `looked`
-  abbrev pub SyncAnswer : SyncOnly → ℕ → ℕ → View → View → View → Result Synced FrameFlushError → Type 0
-  SyncAnswer only word f v looked w (Ok Skipped) = (passes_over only (fields word) ≡ true) × Made [] v w
+  abbrev pub SyncAnswer : SyncOnly → ℕ → ℕ → View → View → View → Result Synced FrameFlushError
+      → Type 0
+  SyncAnswer only word f v looked w (Ok Skipped) =
+      (passes_over only (fields word) ≡ true) × Made [] v w
   SyncAnswer only word f v looked w (Ok Clean) = (passes_over only (fields word) ≡ false)
       × (((fields word).dirty ≡ false) ⊎ (PinsUnder f word looked w × SeesClean f looked w))
       × Made [] v w
-  SyncAnswer only word f v looked w (Ok Written) = (passes_over only (fields word) ≡ false) × PinsUnder f word looked w × WritesBlock f v w (Ok flush.Written)
-  SyncAnswer only word f v looked w (Err why) = (passes_over only (fields word) ≡ false) × PinsUnder f word looked w × WritesBlock f v w (Err why)
+  SyncAnswer only word f v looked w (Ok Written) =
+      (passes_over only (fields word) ≡ false) × PinsUnder f word looked w
+      × WritesBlock f v w (Ok flush.Written)
+  SyncAnswer only word f v looked w (Err why) =
+      (passes_over only (fields word) ≡ false) × PinsUnder f word looked w
+      × WritesBlock f v w (Err why)
 
   -- The state word of the frame f was looked at under its header, and by that the frame was passed
   -- over or written (`SyncOneBuffer`)
-  pub record SyncsFrame (only : SyncOnly) (f : ℕ) (v w : View) (r : Result Synced FrameFlushError) : Type 0 where
+  pub record SyncsFrame (only : SyncOnly) (f : ℕ) (v w : View)
+      (r : Result Synced FrameFlushError) : Type 0 where
     pub word : ℕ
     pub looked : View
     pub looks : LooksUnderHeader f word v looked
@@ -183,7 +193,8 @@ module _ {L G : Type 0} (contents : L → Option Pages) (t : FrameTable L G) whe
     pub ended : EndsSync f v w r
 
   -- What a frame that was looked at, and written or passed over, makes of the view
-  pub record SyncsOne (only : SyncOnly) (f : ℕ) (v w : View) (r : Result Synced FrameFlushError) : Type 0 where
+  pub record SyncsOne (only : SyncOnly) (f : ℕ) (v w : View)
+      (r : Result Synced FrameFlushError) : Type 0 where
     pub works : WorksAt f v w
     pub notes : KeepsNotes (link v f) (link w f)
     pub lock : (link w f).content ≡ (link v f).content

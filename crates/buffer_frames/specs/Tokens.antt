@@ -42,12 +42,16 @@ tokens_with f tag t = t ++ record { frame = f; tag = tag; tokens = 1 } ∷ []
 -- the tokens with one more of a frame that is pinned
 abbrev pub tokens_more : ℕ → Tokens → Tokens
 tokens_more f [] = []
-tokens_more f (h ∷ hs) = if nat_eq f h.frame then record h { tokens = h.tokens + 1 } ∷ hs else h ∷ tokens_more f hs
+tokens_more f (h ∷ hs) =
+    if nat_eq f h.frame then record h { tokens = h.tokens + 1 } ∷ hs else h ∷ tokens_more f hs
 
 -- the tokens with one less of a frame: with its last token the pin goes
 abbrev pub tokens_less : ℕ → Tokens → Tokens
 tokens_less f [] = []
-tokens_less f (h ∷ hs) = if nat_eq f h.frame then (if nat_eq h.tokens 1 then hs else record h { tokens = h.tokens - 1 } ∷ hs) else h ∷ tokens_less f hs
+tokens_less f (h ∷ hs) =
+    if nat_eq f h.frame
+    then (if nat_eq h.tokens 1 then hs else record h { tokens = h.tokens - 1 } ∷ hs)
+    else h ∷ tokens_less f hs
 
 -- no frame is pinned for the block
 abbrev pub IsNew : Tag → Tokens → Type 0

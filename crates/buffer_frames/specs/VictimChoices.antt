@@ -102,7 +102,8 @@ module _ {L G : Type 0} (contents : L → Option Pages) (t : FrameTable L G) whe
 
   -- A victim was chosen, the frame f, and is without a tag: it had none; or its page was clean or
   -- was written, and then its tag was erased
-  pub data InvalidatesVictim (f : ℕ) (v : View) (c : ChoiceState) (w : View) (d : ChoiceState) : Type 0 where
+  pub data InvalidatesVictim (f : ℕ) (v : View) (c : ChoiceState) (w : View)
+      (d : ChoiceState) : Type 0 where
     untagged : {u : View} (from_ring : Bool) → ChoosesVictim (frames_of t) f from_ring v c u d
         → Did (pins kinds.load_tag) f u w (tag_word None) → InvalidatesVictim f v c w d
     emptied : {u : View} → ChoosesAndFlushes f v c u d (Ok Clean) → Within (ClearsTag f) u w
@@ -111,9 +112,12 @@ module _ {L G : Type 0} (contents : L → Option Pages) (t : FrameTable L G) whe
 
   -- A victim was chosen, the frame f, and was given up: its page was spared; or it was in use as it
   -- was to lose its tag, or to get the block's
-  pub data GivesVictimUp (f : ℕ) (v : View) (c : ChoiceState) (w : View) (d : ChoiceState) : Type 0 where
-    spared : {u : View} → ChoosesAndFlushes f v c u d (Ok Spared) → Woken f u w → GivesVictimUp f v c w d
-    in_use : {u : View} → ChoosesAndFlushes f v c u d (Ok Clean) → UnpinsVictim (FindsInUse IsDirtied f) f u w
+  pub data GivesVictimUp (f : ℕ) (v : View) (c : ChoiceState) (w : View)
+      (d : ChoiceState) : Type 0 where
+    spared : {u : View} → ChoosesAndFlushes f v c u d (Ok Spared) → Woken f u w
+        → GivesVictimUp f v c w d
+    in_use : {u : View} → ChoosesAndFlushes f v c u d (Ok Clean)
+        → UnpinsVictim (FindsInUse IsDirtied f) f u w
         → GivesVictimUp f v c w d
     taken : {u : View} → InvalidatesVictim f v c u d → UnpinsVictim (FindsInUse IsAssigned f) f u w
         → GivesVictimUp f v c w d
@@ -122,12 +126,14 @@ module _ {L G : Type 0} (contents : L → Option Pages) (t : FrameTable L G) whe
   -- given up
   pub data GivesVictimsUp (v : View) (c : ChoiceState) : View → ChoiceState → Type 0 where
     none_tried : GivesVictimsUp v c v c
-    one_more : {u w : View} {b d : ChoiceState} (f : ℕ) → GivesVictimsUp v c u b → GivesVictimUp f u b w d
+    one_more : {u w : View} {b d : ChoiceState} (f : ℕ) → GivesVictimsUp v c u b
+        → GivesVictimUp f u b w d
         → GivesVictimsUp v c w d
 
   -- After victims that were given up no frame was chosen: a census found each of them pinned, and
   -- has a word of each that shows it. The view pinned just what it pinned at `entry`
-  pub record FindsAllPinned (entry v : View) (c : ChoiceState) (w : View) (d : ChoiceState) : Type 0 where
+  pub record FindsAllPinned (entry v : View) (c : ChoiceState) (w : View)
+      (d : ChoiceState) : Type 0 where
     pub start : View
     pub by : ChoiceState
     pub tries : GivesVictimsUp v c start by

@@ -38,7 +38,8 @@ module _ {L G : Type 0} (contents : L → Option Pages) (t : FrameTable L G) whe
   -- what came of all tries to free a frame and bring the tag's block there
   abbrev pub ClaimAnswer : Tag → Tokens → Bool → View → ChoiceState → View → ChoiceState
       → Result Pin VictimError → Type 0
-  ClaimAnswer tag held ring v c w d (Ok pin) = PinsAndStores contents t tag held ring pin.frame [] v c w d
+  ClaimAnswer tag held ring v c w d (Ok pin) =
+      PinsAndStores contents t tag held ring pin.frame [] v c w d
   ClaimAnswer tag held ring v c w d (Err why) = VictimRefused v v c w d why
 
 -- a frame of n is pinned for the tag, or the callers' pins are as they were

@@ -40,7 +40,8 @@ pub record Within (Work : View → View → Type 0) (v w : View) : Type 0 where
 
 -- A read or a write of the frame f, by the right to it, ended so, and the view notes the state word
 -- that this stored (`TerminateBufferIO`)
-pub record EndsWork (right : Io) (end : IoEnd) (f : ℕ) (stored : StateWord) (v w : View) : Type 0 where
+pub record EndsWork (right : Io) (end : IoEnd) (f : ℕ) (stored : StateWord)
+    (v w : View) : Type 0 where
   pub had : (link v f).io ≡ right
   pub ends : EndsIo end f v w
   pub notes : w.last_ended ≡ Some stored

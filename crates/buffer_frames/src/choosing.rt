@@ -53,7 +53,8 @@ pub(crate) fn choose<L: BlockLane, G: LogDevice, R: Wait>(
     ensures ring { ring_shape ring.new ≡ ring_shape ring.old }
     ensures inside { IfOk result (λ chosen. chosen.pin.frame < frames_of table.now) }
     ensures pinned { IfOk result (λ chosen. HasVictim chosen.pin.frame _held.now seat.new.me.0) }
-    ensures place { IfOk result (λ chosen. chosen.from_ring ≡ true → frame_at_place ring.new ≡ Some chosen.pin.frame) }
+    ensures place { IfOk result
+        (λ chosen. chosen.from_ring ≡ true → frame_at_place ring.new ≡ Some chosen.pin.frame) }
     ensures no_census { IfOk result (λ _. census.new ≡ new_census (frames_of table.now)) }
     ensures rests { IfErr result (λ _. LinksRest _held.now seat.new.me.0) }
     ensures frames { IfErr result (λ why. why.frames ≡ frames_of table.now) }

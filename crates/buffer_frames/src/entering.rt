@@ -60,7 +60,8 @@ fn store_latched<L: BlockLane, G: LogDevice, R: Wait>(
     ensures keeps { Keeps outside_of (Some (partition_number tag)) table.now seat.old seat.new }
     ensures stored { OnTrue result (Pins (packed_tag tag) frame _held.now seat.new.me.0) }
     ensures refused { OnFalse result (HasVictim frame _held.now seat.new.me.0) }
-    ensures in_use { OnFalse result (Within (FindsInUse IsAssigned frame) seat.old.me.0 seat.new.me.0) }
+    ensures in_use { OnFalse result
+        (Within (FindsInUse IsAssigned frame) seat.old.me.0 seat.new.me.0) }
 {
     let word = table.lock_header(rt, seat, frame);
     if pins(word) != 1 || has(word, Flag::TagValid) {
@@ -87,7 +88,8 @@ pub(crate) fn give_up<L: BlockLane, G: LogDevice, R: Wait>(
     ensures keeps { SameBut outside_of seat.old seat.new }
     ensures stands { Stands table.now seat.new }
     ensures partitions { seat.new.me.0.partitions ≡ seat.old.me.0.partitions }
-    ensures remembers { (tag f : ℕ) → RemembersNoOther tag (link seat.old.me.0 f) → RemembersNoOther tag (link seat.new.me.0 f) }
+    ensures remembers { (tag f : ℕ) → RemembersNoOther tag (link seat.old.me.0 f)
+        → RemembersNoOther tag (link seat.new.me.0 f) }
     ensures rests { LinksRest _held.now seat.new.me.0 }
     ensures did { Woken victim.frame seat.old.me.0 seat.new.me.0 }
 {

@@ -48,7 +48,8 @@ fn erase_latched<L: BlockLane, G: LogDevice, R: Wait>(
     ensures untaken { OnFalse result (seat.new.me.0.cleared ≡ seat.old.me.0.cleared) }
     ensures victim { HasVictim frame _held.now seat.new.me.0 }
     ensures emptied { OnTrue result (Within (ClearsTag frame) seat.old.me.0 seat.new.me.0) }
-    ensures in_use { OnFalse result (Within (FindsInUse IsDirtied frame) seat.old.me.0 seat.new.me.0) }
+    ensures in_use { OnFalse result
+        (Within (FindsInUse IsDirtied frame) seat.old.me.0 seat.new.me.0) }
 {
     let word = table.lock_header(rt, seat, frame);
     if pins(word) != 1 || has(word, Flag::Dirty) {
@@ -87,7 +88,8 @@ pub(crate) fn erase<L: BlockLane, G: LogDevice, R: Wait>(
     ensures turns { seat.new.me.0.turns ≡ seat.old.me.0.turns + 1 }
     ensures hints { seat.new.me.0.hints ≡ seat.old.me.0.hints }
     ensures emptied { OnTrue result (Within (ClearsTag frame) seat.old.me.0 seat.new.me.0) }
-    ensures in_use { OnFalse result (Within (FindsInUse IsDirtied frame) seat.old.me.0 seat.new.me.0) }
+    ensures in_use { OnFalse result
+        (Within (FindsInUse IsDirtied frame) seat.old.me.0 seat.new.me.0) }
 {
     let partition = tag.partition();
     take_counted(table, rt, seat, partition, turns);

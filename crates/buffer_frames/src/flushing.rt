@@ -119,7 +119,8 @@ fn write_lane<L: BlockLane, G: LogDevice, R: Wait>(
     ensures role { (link seat.new.me.0 frame).role ≡ (link seat.old.me.0 frame).role }
     ensures notes { KeepsNotes (link seat.old.me.0 frame) (link seat.new.me.0 frame) }
     ensures done { OnTrue result ((link seat.new.me.0 frame).last_write ≡ Done) }
-    ensures calls { CallsLane result (lane_number tag (lanes_in table.now)) (packed_tag tag) page.now seat.old.me.0 seat.new.me.0 }
+    ensures calls { CallsLane result (lane_number tag (lanes_in table.now)) (packed_tag tag)
+        page.now seat.old.me.0 seat.new.me.0 }
     ensures met { seat.new.me.0.met ≡ met_lane_write result seat.old.me.0.met }
 {
     let lane = lane_of(&tag, table.lanes());
@@ -154,7 +155,8 @@ fn write_logged<L: BlockLane, G: LogDevice, R: Wait>(
     ensures role { (link seat.new.me.0 frame).role ≡ (link seat.old.me.0 frame).role }
     ensures notes { KeepsNotes (link seat.old.me.0 frame) (link seat.new.me.0 frame) }
     ensures done { IfOk result (λ _. (link seat.new.me.0 frame).last_write ≡ Done) }
-    ensures answer { WriteAnswer L.contents table.now (lane_number tag (lanes_in table.now)) tag page.now seat.old.me.0 seat.new.me.0 result }
+    ensures answer { WriteAnswer L.contents table.now (lane_number tag (lanes_in table.now)) tag
+        page.now seat.old.me.0 seat.new.me.0 result }
     ensures met { seat.new.me.0.met ≡ met_flushing result seat.old.me.0.met }
 {
     if let Err(why) = flush_to(table, rt, seat, page.lsn()) {
@@ -190,7 +192,9 @@ fn write_out<L: BlockLane, G: LogDevice, R: Wait>(
     ensures shares { IsSharing Quiet (packed_tag tag) (link seat.new.me.0 right.frame) }
     ensures role { (link seat.new.me.0 right.frame).role ≡ (link seat.old.me.0 right.frame).role }
     ensures notes { KeepsNotes (link seat.old.me.0 right.frame) (link seat.new.me.0 right.frame) }
-    ensures answer { CopiesAnd (λ p v w. WriteAnswer L.contents table.now (lane_number tag (lanes_in table.now)) tag p v w result) right.frame seat.old.me.0 seat.new.me.0 }
+    ensures answer { CopiesAnd
+        (λ p v w. WriteAnswer L.contents table.now (lane_number tag (lanes_in table.now)) tag p v w
+        result) right.frame seat.old.me.0 seat.new.me.0 }
     ensures met { seat.new.me.0.met ≡ met_flushing result seat.old.me.0.met }
     ensures ended { IfErr result (λ _. EndedInError right.frame seat.old.me.0 seat.new.me.0) }
     ensures written { IfOk result (λ _. EndedWritten right.frame seat.old.me.0 seat.new.me.0) }
@@ -234,10 +238,12 @@ fn flush_shared<L: BlockLane, G: LogDevice, R: Wait>(
     ensures role { (link seat.new.me.0 frame).role ≡ (link seat.old.me.0 frame).role }
     ensures notes { KeepsNotes (link seat.old.me.0 frame) (link seat.new.me.0 frame) }
     ensures seen { (link seat.new.me.0 frame).seen_valid ≡ true }
-    ensures answer { FlushAnswer L.contents table.now (lane_number tag (lanes_in table.now)) tag frame seat.old.me.0 seat.new.me.0 result }
+    ensures answer { FlushAnswer L.contents table.now (lane_number tag (lanes_in table.now)) tag
+        frame seat.old.me.0 seat.new.me.0 result }
     ensures met { seat.new.me.0.met ≡ met_flushing result seat.old.me.0.met }
     ensures ended { IfErr result (λ _. EndedInError frame seat.old.me.0 seat.new.me.0) }
-    ensures written { IfOk result (λ flushed. flushed ≡ Written → EndedWritten frame seat.old.me.0 seat.new.me.0) }
+    ensures written { IfOk result
+        (λ flushed. flushed ≡ Written → EndedWritten frame seat.old.me.0 seat.new.me.0) }
 {
     let Some(right) = start_io(table, rt, seat, frame, Direction::Output) else {
         unshare(table, seat, frame);
@@ -276,10 +282,12 @@ pub fn flush_pinned<L: BlockLane, G: LogDevice, R: Wait>(
     ensures role { (link seat.new.me.0 frame).role ≡ (link seat.old.me.0 frame).role }
     ensures notes { KeepsNotes (link seat.old.me.0 frame) (link seat.new.me.0 frame) }
     ensures seen { (link seat.new.me.0 frame).seen_valid ≡ true }
-    ensures answer { FlushAnswer L.contents table.now (lane_number tag (lanes_in table.now)) tag frame seat.old.me.0 seat.new.me.0 result }
+    ensures answer { FlushAnswer L.contents table.now (lane_number tag (lanes_in table.now)) tag
+        frame seat.old.me.0 seat.new.me.0 result }
     ensures met { seat.new.me.0.met ≡ met_flushing result seat.old.me.0.met }
     ensures ended { IfErr result (λ _. EndedInError frame seat.old.me.0 seat.new.me.0) }
-    ensures written { IfOk result (λ flushed. flushed ≡ Written → EndedWritten frame seat.old.me.0 seat.new.me.0) }
+    ensures written { IfOk result
+        (λ flushed. flushed ≡ Written → EndedWritten frame seat.old.me.0 seat.new.me.0) }
 {
     share(table, rt, seat, frame);
     flush_shared(table, rt, seat, held, frame, tag, page)
@@ -310,10 +318,12 @@ pub fn flush_frame<L: BlockLane, G: LogDevice, R: Wait>(
     ensures notes { KeepsNotes (link seat.old.me.0 frame) (link seat.new.me.0 frame) }
     ensures rests { LinksRest held.now seat.new.me.0 }
     ensures unlocked { (link seat.new.me.0 frame).content ≡ Unlocked }
-    ensures answer { FlushAnswer L.contents table.now (lane_number tag (lanes_in table.now)) tag frame seat.old.me.0 seat.new.me.0 result }
+    ensures answer { FlushAnswer L.contents table.now (lane_number tag (lanes_in table.now)) tag
+        frame seat.old.me.0 seat.new.me.0 result }
     ensures met { seat.new.me.0.met ≡ met_flushing result seat.old.me.0.met }
     ensures ended { IfErr result (λ _. EndedInError frame seat.old.me.0 seat.new.me.0) }
-    ensures written { IfOk result (λ flushed. flushed ≡ Written → EndedWritten frame seat.old.me.0 seat.new.me.0) }
+    ensures written { IfOk result
+        (λ flushed. flushed ≡ Written → EndedWritten frame seat.old.me.0 seat.new.me.0) }
 {
     flush_pinned(table, rt, seat, held, frame, tag, page)
 }
@@ -341,9 +351,11 @@ fn is_rejected<L: BlockLane, G: LogDevice, R: Wait>(
     ensures role { (link seat.new.me.0 frame).role ≡ (link seat.old.me.0 frame).role }
     ensures calls { Made [] seat.old.me.0 seat.new.me.0 }
     ensures met { seat.new.me.0.met ≡ seat.old.me.0.met }
-    ensures rejected { OnTrue result (RejectsVictim frame from_ring ring.old ring.new seat.old.me.0 seat.new.me.0) }
+    ensures rejected { OnTrue result
+        (RejectsVictim frame from_ring ring.old ring.new seat.old.me.0 seat.new.me.0) }
     ensures ring { OnFalse result (ring.new ≡ ring.old) }
-    ensures keeps { OnFalse result (IsNotRejected frame from_ring ring.old seat.old.me.0 seat.new.me.0) }
+    ensures keeps { OnFalse result
+        (IsNotRejected frame from_ring ring.old seat.old.me.0 seat.new.me.0) }
 {
     let Some(ring) = ring else {
         return false;
@@ -386,7 +398,8 @@ pub fn flush_victim<L: BlockLane, G: LogDevice, R: Wait>(
     ensures works { WorksAt frame seat.old.me.0 seat.new.me.0 }
     ensures victim { HasVictim frame held.now seat.new.me.0 }
     ensures remembered { (link seat.new.me.0 frame).tag ≡ Some (packed_tag tag) }
-    ensures answer { VictimAnswer L.contents table.now (lane_number tag (lanes_in table.now)) tag frame from_ring ring.old ring.new seat.old.me.0 seat.new.me.0 result }
+    ensures answer { VictimAnswer L.contents table.now (lane_number tag (lanes_in table.now)) tag
+        frame from_ring ring.old ring.new seat.old.me.0 seat.new.me.0 result }
     ensures calls { Calls IsFlushCall seat.old.me.0 seat.new.me.0 }
     ensures met { seat.new.me.0.met ≡ met_flushing result seat.old.me.0.met }
     ensures ended { IfErr result (λ _. EndedInError frame seat.old.me.0 seat.new.me.0) }

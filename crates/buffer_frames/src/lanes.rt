@@ -30,7 +30,8 @@ pub fn sync_lane<L: BlockLane, G: LogDevice, R: Wait>(
     ensures rises { OnlyRises seat.old.me.0 seat.new.me.0 }
     ensures partitions { seat.new.me.0.partitions ≡ seat.old.me.0.partitions }
     ensures view { work_of seat.new.me.0 ≡ synced_work lane (is_ok result) seat.old.me.0 }
-    ensures swept { IfOk result (λ _. swept_by seat.old.me.0 ≤ (lane_hold seat.new.me.0 lane).swept) }
+    ensures swept { IfOk result
+        (λ _. swept_by seat.old.me.0 ≤ (lane_hold seat.new.me.0 lane).swept) }
     ensures wide { length seat.old.me.0.links ≡ frames_of table.now }
     ensures left { LeavesLane (lanes_in table.now) lane seat.new.me.0 }
 {

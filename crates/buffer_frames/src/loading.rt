@@ -66,7 +66,9 @@ fn read_lane<L: BlockLane, G: LogDevice, R: Wait>(
     ensures works { WorksAt frame seat.old.me.0 seat.new.me.0 }
     ensures reads { IsReading (packed_tag tag) (link seat.new.me.0 frame) }
     ensures given { OnTrue result ((link seat.new.me.0 frame).read ≡ Some page.new) }
-    ensures calls { Made (LaneRead (lane_number tag (lanes_in table.now)) (packed_tag tag) result ∷ []) seat.old.me.0 seat.new.me.0 }
+    ensures calls { Made
+        (LaneRead (lane_number tag (lanes_in table.now)) (packed_tag tag) result ∷ []) seat.old.me.0
+        seat.new.me.0 }
     ensures met { seat.new.me.0.met ≡ met_lane_read result seat.old.me.0.met }
 {
     let lane = lane_of(&tag, table.lanes());
@@ -150,10 +152,13 @@ fn read_in<L: BlockLane, G: LogDevice, R: Wait>(
     ensures works { WorksAt right.frame seat.old.me.0 seat.new.me.0 }
     ensures read { IsRead (packed_tag tag) (link seat.new.me.0 right.frame) }
     ensures seen { IfOk result (λ _. (link seat.new.me.0 right.frame).seen_valid ≡ true) }
-    ensures calls { Made (reading_calls (lane_number tag (lanes_in table.now)) (packed_tag tag) result) seat.old.me.0 seat.new.me.0 }
+    ensures calls { Made
+        (reading_calls (lane_number tag (lanes_in table.now)) (packed_tag tag) result) seat.old.me.0
+        seat.new.me.0 }
     ensures met { seat.new.me.0.met ≡ met_loading result seat.old.me.0.met }
     ensures shows { LoadShows L.contents table.now tag result }
-    ensures unread { IfErr result (λ why. EndsUnread why tag right.frame seat.old.me.0 seat.new.me.0) }
+    ensures unread { IfErr result
+        (λ why. EndsUnread why tag right.frame seat.old.me.0 seat.new.me.0) }
 {
     let frame = right.frame();
     if !read_lane(table, rt, seat, frame, tag, page) {
@@ -196,10 +201,13 @@ pub fn load<L: BlockLane, G: LogDevice, R: Wait>(
     ensures works { WorksAt frame seat.old.me.0 seat.new.me.0 }
     ensures pinned { Pins (packed_tag tag.now) frame held.now seat.new.me.0 }
     ensures seen { IfOk result (λ _. (link seat.new.me.0 frame).seen_valid ≡ true) }
-    ensures calls { Made (loading_calls (lane_number tag.now (lanes_in table.now)) (packed_tag tag.now) result) seat.old.me.0 seat.new.me.0 }
+    ensures calls { Made
+        (loading_calls (lane_number tag.now (lanes_in table.now)) (packed_tag tag.now) result)
+        seat.old.me.0 seat.new.me.0 }
     ensures met { seat.new.me.0.met ≡ met_loading result seat.old.me.0.met }
     ensures shows { LoadShows L.contents table.now tag.now result }
-    ensures unread { IfErr result (λ why. EndsUnread why tag.now frame seat.old.me.0 seat.new.me.0) }
+    ensures unread { IfErr result
+        (λ why. EndsUnread why tag.now frame seat.old.me.0 seat.new.me.0) }
 {
     if has(table.look(seat, frame), Flag::Valid) {
         return Ok(Loaded::Hit);

@@ -54,7 +54,8 @@ pub(crate) fn pin_found<L: BlockLane, G: LogDevice, R: Wait>(
     ensures keeps { Keeps outside_of (Some (partition_number tag.now)) table.now seat.old seat.new }
     ensures frame { result.frame ≡ frame }
     ensures pinned { Pins (packed_tag tag.now) frame _held.now seat.new.me.0 }
-    ensures did { Tried (pins (kinds.pin_mapped (packed_tag tag.now) ring)) frame seat.old.me.0 seat.new.me.0 true }
+    ensures did { Tried (pins (kinds.pin_mapped (packed_tag tag.now) ring)) frame seat.old.me.0
+        seat.new.me.0 true }
 {
     table.pin(rt, seat, *tag, frame, ring)
 }
@@ -80,7 +81,8 @@ pub(crate) fn pin_mapped<L: BlockLane, G: LogDevice, R: Wait>(
     ensures pinned { IfSome result (λ p. Pins (packed_tag tag.now) p.frame held.now seat.new.me.0) }
     ensures rests { IfNone result (LinksRest held.now seat.new.me.0) }
     ensures lacks { IfNone result (Lacks seat.new.me.0 (packed_tag tag.now)) }
-    ensures did { MatchOption result (SeesNone tag.now seat.old.me.0 seat.new.me.0) (λ p. SeesAndPins tag.now p.frame ring seat.old.me.0 seat.new.me.0) }
+    ensures did { MatchOption result (SeesNone tag.now seat.old.me.0 seat.new.me.0)
+        (λ p. SeesAndPins tag.now p.frame ring seat.old.me.0 seat.new.me.0) }
 {
     let frame = find(table, seat, tag)?;
     Some(pin_found(table, rt, seat, held, tag, frame, ring))

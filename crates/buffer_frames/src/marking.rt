@@ -42,8 +42,12 @@ pub fn need_checkpoint<L: BlockLane, G: LogDevice, R: Wait>(
     ensures lock { (link seat.new.me.0 frame).content ≡ (link seat.old.me.0 frame).content }
     ensures visited { (link seat.new.me.0 frame).visited ≡ true }
     ensures clean { IfNone result (SeesNotDirty frame seat.old.me.0 seat.new.me.0) }
-    ensures not_left_to_write { IfNone result ((link seat.old.me.0 frame).left_to_write ≡ false → (link seat.new.me.0 frame).left_to_write ≡ false) }
-    ensures needed { IfSome result (λ _. Within (λ a b. (word : ℕ) × Did (pages kinds.need_checkpoint) frame a b word) seat.old.me.0 seat.new.me.0) }
+    ensures not_left_to_write { IfNone result
+        ((link seat.old.me.0 frame).left_to_write ≡ false
+        → (link seat.new.me.0 frame).left_to_write ≡ false) }
+    ensures needed { IfSome result
+        (λ _. Within (λ a b. (word : ℕ) × Did (pages kinds.need_checkpoint) frame a b word)
+        seat.old.me.0 seat.new.me.0) }
     ensures noted { IfSome result (λ tag. NotesBlock frame tag seat.old.me.0 seat.new.me.0) }
     ensures named { IfSome result (λ tag. names_block tag ≡ true) }
     ensures listed { IfSome result (λ tag. has_block (relations_of table.now) tag ≡ true) }

@@ -36,8 +36,10 @@ pub fn read_copy<L: BlockLane, G: LogDevice, R: Wait>(
     ensures only { OnlyReads seat.old.me.0 seat.new.me.0 }
     ensures link { link seat.new.me.0 frame ≡ copied_link page.new (link seat.old.me.0 frame) }
     ensures others { (g : ℕ) → g ≢ frame → link seat.new.me.0 g ≡ link seat.old.me.0 g }
-    ensures reads { ReadsPage L.contents table.now _tag page.new result seat.old.me.0 seat.new.me.0 }
-    ensures did { ReadsUnder (link seat.old.me.0 frame).content frame page.new result seat.old.me.0 seat.new.me.0 }
+    ensures reads { ReadsPage L.contents table.now _tag page.new result seat.old.me.0
+        seat.new.me.0 }
+    ensures did { ReadsUnder (link seat.old.me.0 frame).content frame page.new result seat.old.me.0
+        seat.new.me.0 }
 {
     copy_out(table, rt, seat, frame, page);
     table.load_log_end(seat, EndLoad::Read(frame))
@@ -60,7 +62,8 @@ pub fn share_to_read<L: BlockLane, G: LogDevice, R: Wait>(
     ensures only { OnlyReads seat.old.me.0 seat.new.me.0 }
     ensures link { link seat.new.me.0 frame ≡ unshared_link (link seat.old.me.0 frame) }
     ensures others { (g : ℕ) → g ≢ frame → link seat.new.me.0 g ≡ link seat.old.me.0 g }
-    ensures reads { ReadsPage L.contents table.now _tag page.new result seat.old.me.0 seat.new.me.0 }
+    ensures reads { ReadsPage L.contents table.now _tag page.new result seat.old.me.0
+        seat.new.me.0 }
     ensures did { SharesToRead frame page.new result seat.old.me.0 seat.new.me.0 }
 {
     share(table, rt, seat, frame);

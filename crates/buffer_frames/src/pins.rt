@@ -55,7 +55,8 @@ fn place_at(pins: &[HeldPin], frame: u32) -> Option<usize>
 
 /// The index of the pin of a block.
 fn place_of(pins: &[HeldPin], tag: &Tag) -> Option<usize>
-    ensures found { IfSome result (λ place. (place < length pins.now) × IsOf tag.now place pins.now) }
+    ensures found { IfSome result
+        (λ place. (place < length pins.now) × IsOf tag.now place pins.now) }
     ensures missing { IfNone result (AreOfOthers tag.now pins.now) }
 {
     for place in 0..pins.len() {
@@ -155,8 +156,11 @@ impl HeldPins {
     pub fn take_token(&mut self, frame: u32) -> Option<Pin>
         requires pinned { held_at self.old frame ≢ None }
         ensures tokens { self.new ≡ tokens_less frame self.old }
-        ensures last { IfSome result (λ pin. (pin.frame ≡ frame) × (tokens_of (held_at self.old frame) ≡ 1) × (held_at self.new frame ≡ None)) }
-        ensures others { IfNone result ((1 < tokens_of (held_at self.old frame)) × (held_at self.new frame ≢ None)) }
+        ensures last { IfSome result
+            (λ pin. (pin.frame ≡ frame) × (tokens_of (held_at self.old frame) ≡ 1)
+            × (held_at self.new frame ≡ None)) }
+        ensures others { IfNone result
+            ((1 < tokens_of (held_at self.old frame)) × (held_at self.new frame ≢ None)) }
     {
         let Some(place) = place_at(&self.pins, frame) else {
             unreachable!()

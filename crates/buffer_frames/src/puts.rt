@@ -78,7 +78,8 @@ pub fn put_locked<L: BlockLane, G: LogDevice, R: Wait>(
     ensures rests { LinksRest _held.now seat.new.me.0 }
     ensures right { (link seat.new.me.0 frame).content ≡ content.Exclusive }
     ensures marked { seat.new.me.0.dirtied_or_synced ≡ true }
-    ensures answer { PutAnswer (relations_of table.now) frame tag page.old seat.old.me.0 seat.new.me.0 result }
+    ensures answer { PutAnswer (relations_of table.now) frame tag page.old seat.old.me.0
+        seat.new.me.0 result }
     ensures calls { Made (put_calls result) seat.old.me.0 seat.new.me.0 }
     ensures met { seat.new.me.0.met ≡ met_put result seat.old.me.0.met }
     ensures torn { AddsTorn (packed_tag tag) page.old result seat.old.me.0.torn seat.new.me.0.torn }

@@ -68,7 +68,8 @@ fn pin_block<L: BlockLane, G: LogDevice, R: Wait>(
     ensures keeps { Keeps kept_by_block_reads None table.now seat.old seat.new }
     ensures own { KeepsOwn table.now sweep.now backend.old backend.new seat.new.me.0 }
     ensures ring { ring_shape ring.new ≡ ring_shape ring.old }
-    ensures pinned { PinsOrRests (frames_of table.now) (packed_tag tag.now) held.now seat.new.me.0 result }
+    ensures pinned { PinsOrRests (frames_of table.now) (packed_tag tag.now) held.now
+        seat.new.me.0 result }
     ensures census { CensusPinned (frames_of table.now) backend.old.census
         backend.new.census result }
     ensures met { seat.new.me.0.met ≡ met_claimed result seat.old.me.0.met }
@@ -119,7 +120,8 @@ pub fn read_block<L: BlockLane, G: LogDevice, R: Wait>(
     ensures keeps { Keeps kept_by_block_reads None table.now seat.old seat.new }
     ensures own { KeepsOwn table.now sweep.now backend.old backend.new seat.new.me.0 }
     ensures ring { ring_shape ring.new ≡ ring_shape ring.old }
-    ensures answer { ReadAnswer L.contents table.now tag.now held.now seat.old.me.0 seat.new.me.0 result }
+    ensures answer { ReadAnswer L.contents table.now tag.now held.now seat.old.me.0
+        seat.new.me.0 result }
     ensures census { CensusRead (frames_of table.now) backend.old.census backend.new.census result }
     ensures met { seat.new.me.0.met ≡ met_read_block result seat.old.me.0.met }
     ensures calls { ReadCalls L.contents table.now tag.now held.now (is_some ring.old)

@@ -92,10 +92,12 @@ fn look_under<L: BlockLane, G: LogDevice, R: Wait>(
     ensures seat { SameSeat seat.old seat.new }
     ensures touches { Touches frame seat.old.me.0 seat.new.me.0 }
     ensures marks { SameMarks seat.old.me.0 seat.new.me.0 }
-    ensures locked { Looked (locked_link result (link seat.old.me.0 frame)) (link seat.new.me.0 frame) }
+    ensures locked { Looked (locked_link result (link seat.old.me.0 frame))
+        (link seat.new.me.0 frame) }
     ensures word { IsWordOf (link seat.old.me.0 frame) (fields result) }
     ensures looks { LooksUnderHeader frame result seat.old.me.0 seat.new.me.0 }
-    ensures not_left_to_write { (fields result).checkpoint_needed ≡ false → (link seat.new.me.0 frame).left_to_write ≡ false }
+    ensures not_left_to_write { (fields result).checkpoint_needed ≡ false
+        → (link seat.new.me.0 frame).left_to_write ≡ false }
 {
     table.lock_header(rt, seat, frame);
     // To lock a header is no load: this one is what the frame is passed over for, or written.

@@ -33,7 +33,8 @@ pub(crate) fn tag_shown<L: BlockLane, G: LogDevice>(
     ensures named { names_block result ≡ true }
     ensures listed { has_block (relations_of table.now) result ≡ true }
     ensures read { link seat.new.me.0 frame ≡ read_link (Some result) (link seat.old.me.0 frame) }
-    ensures remembered { (link seat.old.me.0 frame).role ≢ Absent → (link seat.new.me.0 frame).tag ≡ Some (packed_tag result) }
+    ensures remembered { (link seat.old.me.0 frame).role ≢ Absent
+        → (link seat.new.me.0 frame).tag ≡ Some (packed_tag result) }
     ensures did { Did (pins kinds.load_tag) frame seat.old.me.0 seat.new.me.0 (packed_tag result) }
     ensures same { (tag : ℕ) → (link seat.old.me.0 frame).tag ≡ Some tag → tag ≡ packed_tag result }
 {

@@ -72,7 +72,8 @@ fn tag_of_victim<L: BlockLane, G: LogDevice>(
     ensures victim { HasVictim frame _held.now seat.new.me.0 }
     ensures tag { IfSome result (λ tag. names_block tag ≡ true) }
     ensures block { IfSome result (λ tag. has_block (relations_of table.now) tag ≡ true) }
-    ensures remembered { IfSome result (λ tag. (link seat.new.me.0 frame).tag ≡ Some (packed_tag tag)) }
+    ensures remembered { IfSome result
+        (λ tag. (link seat.new.me.0 frame).tag ≡ Some (packed_tag tag)) }
     ensures did { Did (pins kinds.load_tag) frame seat.old.me.0 seat.new.me.0 (tag_word result) }
 {
     table.load_tag(seat, frame)
@@ -180,7 +181,8 @@ pub(crate) fn bring_in<L: BlockLane, G: LogDevice, R: Wait>(
     ensures own { KeepsOwn table.now sweep.now backend.old backend.new seat.new.me.0 }
     ensures unpushed { IfErr result (λ _. PushesNone backend.old.queue backend.new.queue) }
     ensures ring { ring_shape ring.new ≡ ring_shape ring.old }
-    ensures pinned { PinsOrRests (frames_of table.now) (packed_tag tag) held.now seat.new.me.0 result }
+    ensures pinned { PinsOrRests (frames_of table.now) (packed_tag tag) held.now
+        seat.new.me.0 result }
     ensures answer { ClaimAnswer L.contents table.now tag held.now (is_some ring.old)
         seat.old.me.0 (choice_of backend.old ring.old)
         seat.new.me.0 (choice_of backend.new ring.new) result }

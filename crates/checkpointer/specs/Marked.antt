@@ -21,7 +21,8 @@ HasVisited frames v = (f : ℕ) → f < frames → (link v f).visited ≡ true
 
 -- the view's checkpoint has visited each of this many frames, and has none of them left to write
 abbrev pub HasNoneLeft : ℕ → View → Type 0
-HasNoneLeft frames v = (f : ℕ) → f < frames → ((link v f).visited ≡ true) × ((link v f).left_to_write ≡ false)
+HasNoneLeft frames v =
+    (f : ℕ) → f < frames → ((link v f).visited ≡ true) × ((link v f).left_to_write ≡ false)
 
 -- The frame stands in the list
 pub record IsMarked (marked : List MarkedFrame) (f : ℕ) : Type 0 where

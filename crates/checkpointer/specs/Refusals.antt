@@ -113,12 +113,16 @@ module _ {L G : Type 0} (contents : L → Option Pages) (m : Manager L G) where
 
   -- Why a checkpoint stopped that had begun at `upto`
   pub data Stops (upto : ℕ) (v w : View) (why : CheckpointError) : Type 0 where
-    at_frame : (cause : FlushError) → why ≡ refusal_of_flush cause → StopsAtFrame upto v w cause → Stops upto v w why
-    at_log : (cause : FlushLog) → why ≡ refusal_of_log cause → StopsAtLog upto v w cause → Stops upto v w why
-    at_lane : (lane : ℕ) → why ≡ SyncFault lane → lane < lanes_in m.table → StopsAtLane upto v w lane → Stops upto v w why
+    at_frame : (cause : FlushError) → why ≡ refusal_of_flush cause → StopsAtFrame upto v w cause
+        → Stops upto v w why
+    at_log : (cause : FlushLog) → why ≡ refusal_of_log cause → StopsAtLog upto v w cause
+        → Stops upto v w why
+    at_lane : (lane : ℕ) → why ≡ SyncFault lane → lane < lanes_in m.table
+        → StopsAtLane upto v w lane → Stops upto v w why
 
   -- The checkpoint stopped at the frame f, whose page was not written, after this work
-  pub record StopsWriting (Work : View → Type 0) (f : ℕ) (p q : PassState) (why : FlushError) : Type 0 where
+  pub record StopsWriting (Work : View → Type 0) (f : ℕ) (p q : PassState)
+      (why : FlushError) : Type 0 where
     pub keeps : KeepsBackend contents m p q
     pub before : View
     pub since : OnlyRises p.view before

@@ -35,10 +35,13 @@ pub fn checkpoint<L: BlockLane, G: LogDevice, R: Wait>(
 
     // If it completes, it wrote the frames that it noted as dirty and no other, in the order of
     // their tags, and what was logged up to its beginning is stored.
-    ensures completes { IfOk result (λ done. Completes L.contents manager.now.table done pass.old.view pass.new.view) }
+    ensures completes { IfOk result
+        (λ done. Completes L.contents manager.now.table done pass.old.view pass.new.view) }
 
     // If it stops, this is why, how far it came in that order, and which devices were called.
-    ensures stops { IfErr result (λ why. (upto : ℕ) × Begins upto pass.old.view pass.new.view × Stops L.contents manager.now upto pass.old.view pass.new.view why) }
+    ensures stops { IfErr result
+        (λ why. (upto : ℕ) × Begins upto pass.old.view pass.new.view
+        × Stops L.contents manager.now upto pass.old.view pass.new.view why) }
     ensures met { pass.new.view.met ≡ met_checkpointing result pass.old.view.met }
 
     // It completes if no device fails and the log isn't down, unless a page is past the log's end.

@@ -26,8 +26,10 @@ fn mark_frame<L: BlockLane, G: LogDevice, R: Wait>(
     ensures marks { MarksFrames L.contents manager.now pass.old pass.new }
     ensures visited { (link pass.new.view frame).visited ≡ true }
     ensures others { (g : ℕ) → g ≢ frame → link pass.new.view g ≡ link pass.old.view g }
-    ensures marked { AreMarked pass.old.marked pass.old.view → AreMarked pass.new.marked pass.new.view }
-    ensures inside { AreInside (frames_of manager.now.table) pass.old.marked → AreInside (frames_of manager.now.table) pass.new.marked }
+    ensures marked { AreMarked pass.old.marked pass.old.view
+        → AreMarked pass.new.marked pass.new.view }
+    ensures inside { AreInside (frames_of manager.now.table) pass.old.marked
+        → AreInside (frames_of manager.now.table) pass.new.marked }
     ensures room { length pass.new.marked ≤ frame + 1 }
     ensures notes { (v : View) → NotesInOrder v frame pass.old.view pass.old.marked
         → NotesInOrder v (frame + 1) pass.new.view pass.new.marked }
@@ -55,7 +57,8 @@ pub(crate) fn mark_frames<L: BlockLane, G: LogDevice, R: Wait>(
     ensures visited { HasVisited (frames_of manager.now.table) pass.new.view }
     ensures marked { AreMarked pass.new.marked pass.new.view }
     ensures inside { AreInside (frames_of manager.now.table) pass.new.marked }
-    ensures lists { ListsDirty (frames_of manager.now.table) pass.new.marked pass.old.view pass.new.view }
+    ensures lists { ListsDirty (frames_of manager.now.table) pass.new.marked pass.old.view
+        pass.new.view }
 {
     for frame in 0..manager.frames() {
         mark_frame(manager, rt, pass, frame);

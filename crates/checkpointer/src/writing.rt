@@ -40,11 +40,13 @@ fn write_frame<L: BlockLane, G: LogDevice, R: Wait>(
     requires belongs { Belongs L.contents manager.now pass.old }
     requires inside { frame < frames_of manager.now.table }
     requires unlocked { HasLock Unlocked frame pass.old }
-    ensures writes { IfOk result (λ written. WritesMarked L.contents manager.now written pass.old pass.new) }
+    ensures writes { IfOk result
+        (λ written. WritesMarked L.contents manager.now written pass.old pass.new) }
     ensures not_left_to_write { OnOk result ((link pass.new.view frame).left_to_write ≡ false) }
     ensures notes { OnOk result (KeepsEachNote pass.old.view pass.new.view) }
     ensures marked { pass.new.marked ≡ pass.old.marked }
-    ensures passed { OnOk result (SyncsUntilPassed L.contents manager.now.table frame pass.old.view pass.new.view) }
+    ensures passed { OnOk result
+        (SyncsUntilPassed L.contents manager.now.table frame pass.old.view pass.new.view) }
     ensures stops { IfErr result (StopsWriting L.contents manager.now
         (SyncsWhileNeeded L.contents manager.now.table frame pass.old.view) frame pass.old pass.new) }
     ensures complete { NothingFails L.contents manager.now.table pass.old pass.new → IsOk result }
@@ -75,7 +77,8 @@ pub(crate) fn write_marked<L: BlockLane, G: LogDevice, R: Wait>(
     requires visited { HasVisited (frames_of manager.now.table) pass.old.view }
     requires marked { AreMarked pass.old.marked pass.old.view }
     requires inside { AreInside (frames_of manager.now.table) pass.old.marked }
-    ensures writes { IfOk result (λ written. WritesMarked L.contents manager.now written pass.old pass.new) }
+    ensures writes { IfOk result
+        (λ written. WritesMarked L.contents manager.now written pass.old pass.new) }
     ensures none_left { OnOk result (HasNoneLeft (frames_of manager.now.table) pass.new.view) }
     ensures in_order { OnOk result (WritesInOrder L.contents manager.now.table
         pass.old.view pass.old.marked pass.new.view) }

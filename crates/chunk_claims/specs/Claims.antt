@@ -21,7 +21,8 @@ past_weight n x = if nat_lt x n then 0 else 1
 
 -- the claims of all workers, before the first
 abbrev pub first_claimant : Work → Claimant
-first_claimant w = record { chunks = w.chunks; workers = w.workers; parts = w.workers; past = 0; drawn = [] }
+first_claimant w =
+    record { chunks = w.chunks; workers = w.workers; parts = w.workers; past = 0; drawn = [] }
 
 abbrev pub with_draw : ℕ → Claimant → Claimant
 with_draw n c = record c { past = c.past + past_weight c.chunks n; drawn = c.drawn ++ n ∷ [] }
@@ -63,7 +64,8 @@ pub record ClaimsHold (w : Work) (s : State (Unit {0}) Claimant) : Type 0 where
 
 -- A number was drawn, and what the seat has drawn is at most what there is up to it
 abbrev pub Draws : Step (Unit {0}) → Me (Unit {0}) Claimant → ℕ → Me (Unit {0}) Claimant → Type 0
-Draws s v found w = (w ≡ (with_draw found v.0, v.1)) × ((g : ℕ → ℕ) → total g w.0.drawn ≤ sum_below (found + 1) g)
+Draws s v found w =
+    (w ≡ (with_draw found v.0, v.1)) × ((g : ℕ → ℕ) → total g w.0.drawn ≤ sum_below (found + 1) g)
 
 -- Nothing changed. What the seat drew is at most what there is below the number found. With a part,
 -- that number is at most the chunks and the workers together; with the parts of all workers, the
@@ -72,7 +74,9 @@ abbrev pub Counts : Step (Unit {0}) → Me (Unit {0}) Claimant → ℕ → Me (U
 Counts s v found w =
     (w ≡ v)
     × ((g : ℕ → ℕ) → total g v.0.drawn ≤ sum_below found g)
-    × (0 < v.0.parts → (found ≤ v.0.chunks + v.0.workers) × (v.0.parts ≡ v.0.workers → (g : ℕ → ℕ) → total g v.0.drawn ≡ sum_below found g))
+    × (0 < v.0.parts
+    → (found ≤ v.0.chunks + v.0.workers)
+    × (v.0.parts ≡ v.0.workers → (g : ℕ → ℕ) → total g v.0.drawn ≡ sum_below found g))
 
 -- A seat of this table, which holds no slot
 pub record SitsAt (id : TableId) (seat : Seat (Unit {0}) Claimant) : Type 0 where

@@ -59,7 +59,8 @@ impl Claims {
     /// A seat for a worker, with its part.
     pub fn split(&self, seat: &mut Seat<(), Claimant>) -> Seat<(), Claimant>
         requires seat { SitsAt self.now.table.shared.table_id seat.old }
-        requires part { (0 < seat.old.me.0.parts) × (seat.old.me.0.past ≡ 0) × (seat.old.me.0.drawn ≡ []) }
+        requires part { (0 < seat.old.me.0.parts) × (seat.old.me.0.past ≡ 0)
+            × (seat.old.me.0.drawn ≡ []) }
         ensures seat { SitsAt self.now.table.shared.table_id seat.new }
         ensures left { seat.new.me.0 ≡ less_a_part seat.old.me.0 }
         ensures new { SitsAt self.now.table.shared.table_id result }
@@ -96,11 +97,14 @@ impl Claims {
         requires few { self.now.chunks < 2 ^ 32 }
         requires known { seat.old.me.0.chunks ≡ self.now.chunks }
         ensures seat { SitsAt self.now.table.shared.table_id seat.new }
-        ensures some { IfSome result (λ n. (n < self.now.chunks) × (seat.new.me.0 ≡ with_draw n seat.old.me.0)) }
-        ensures none { IfNone result ((n : ℕ) × (self.now.chunks ≤ n) × (seat.new.me.0 ≡ with_draw n seat.old.me.0)) }
+        ensures some { IfSome result
+            (λ n. (n < self.now.chunks) × (seat.new.me.0 ≡ with_draw n seat.old.me.0)) }
+        ensures none { IfNone result
+            ((n : ℕ) × (self.now.chunks ≤ n) × (seat.new.me.0 ≡ with_draw n seat.old.me.0)) }
         // What a seat claimed is at most what there is up to this chunk, however chunks are
         // weighed; so this chunk comes after those that it claimed before.
-        ensures within { IfSome result (λ n. (g : ℕ → ℕ) → total g seat.new.me.0.drawn ≤ sum_below (n + 1) g) }
+        ensures within { IfSome result
+            (λ n. (g : ℕ → ℕ) → total g seat.new.me.0.drawn ≤ sum_below (n + 1) g) }
     {
         let number = self.draw(seat);
         if number < self.chunks {
@@ -118,8 +122,10 @@ impl Claims {
         ensures same { seat.new.me ≡ seat.old.me }
         ensures seat { SitsAt self.now.table.shared.table_id seat.new }
         ensures least { (g : ℕ → ℕ) → total g seat.old.me.0.drawn ≤ sum_below result g }
-        ensures bound { 0 < seat.old.me.0.parts → result ≤ seat.old.me.0.chunks + seat.old.me.0.workers }
-        ensures each { 0 < seat.old.me.0.parts → seat.old.me.0.parts ≡ seat.old.me.0.workers → (g : ℕ → ℕ) → total g seat.old.me.0.drawn ≡ sum_below result g }
+        ensures bound { 0 < seat.old.me.0.parts
+            → result ≤ seat.old.me.0.chunks + seat.old.me.0.workers }
+        ensures each { 0 < seat.old.me.0.parts → seat.old.me.0.parts ≡ seat.old.me.0.workers
+            → (g : ℕ → ℕ) → total g seat.old.me.0.drawn ≡ sum_below result g }
     {
         self.table.shared.load::<Count>(seat, 0)
     }

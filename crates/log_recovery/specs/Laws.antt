@@ -58,7 +58,8 @@ pub data LeftRead (from : ℕ) (es : List Entry) (rest : List ℕ) (left : ℕ)
       → LeftRead from es rest left ds
   one_beyond : (d : Entry) (word : ℕ) (page : Page) → d.change ≡ image word page
       → ds ≡ without_backends (es ++ d ∷ []) → d.start ≡ end_from from es
-      → IsChange (end_of d) d.change → length rest ≡ change_size d.change → LeftRead from es rest left ds
+      → IsChange (end_of d) d.change → length rest ≡ change_size d.change
+      → LeftRead from es rest left ds
 
 -- The lanes agree but for blocks of these entries
 pub record AgreeElsewhere (es : List Entry) (a b : List (Option Pages))

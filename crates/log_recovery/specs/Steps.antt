@@ -44,7 +44,8 @@ pub record StepsOn (tag : Tag) (p q : Progress) : Type 0 where
   pub blocks : (word : ℕ) → sorted.contains nat_cmp q.blocks word
       ≡ (nat_eq word (packed_tag tag) || sorted.contains nat_cmp p.blocks word)
   pub count : btree_set_len q.blocks
-      ≡ btree_set_len p.blocks + (if sorted.contains nat_cmp p.blocks (packed_tag tag) then 0 else 1)
+      ≡ btree_set_len p.blocks
+      + (if sorted.contains nat_cmp p.blocks (packed_tag tag) then 0 else 1)
 
 -- These entries have been read so far
 pub record IsUpto (base : ℕ) (es : List Entry) (p : Progress) : Type 0 where
@@ -82,7 +83,8 @@ LeadIn relations base source es = IfSome source (λ bytes. AreFirstBehind relati
 
 module _ {L : Type 0} (contents : L → Option Pages) (failed : L → Marks) where
   -- Records were redone so far, and no call failed
-  pub record IsUnderWay (unsynced places : L → Marks) (reads writes : L → ℕ) (relations : List RelEntry)
+  pub record IsUnderWay (unsynced places : L → Marks) (reads writes : L → ℕ)
+      (relations : List RelEntry)
       (base : ℕ) (left left_now : Option (List ℕ)) (faults faults_now : ℕ) (old new : List L)
       (p : Progress) : Type 0 where
     pub done : List Entry

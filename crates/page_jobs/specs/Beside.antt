@@ -22,7 +22,9 @@ fault_of_flush (flush.LogShort lsn end) = LogShort lsn end
 
 -- this is what the last of some passes did
 abbrev pub LastDid : (PassState → PassState → Type 0) → List PassState → List PassState → Type 0
-LastDid did ps qs = (p q : PassState) → get_elem? ps (length ps - 1) ≡ some p → get_elem? qs (length ps - 1) ≡ some q → did p q
+LastDid did ps qs =
+    (p q : PassState) → get_elem? ps (length ps - 1) ≡ some p
+    → get_elem? qs (length ps - 1) ≡ some q → did p q
 
 module _ {L G : Type 0} (contents : L → Option Pages) (m : Manager L G) where
   -- A pass worked beside the workers: it is the same one, it read and put nothing, and its tokens,
@@ -50,7 +52,8 @@ module _ {L G : Type 0} (contents : L → Option Pages) (m : Manager L G) where
   -- As many passes are there as were, and the last one worked beside the others
   pub record StaysBeside (ps qs : List PassState) : Type 0 where
     pub counted : length qs ≡ length ps
-    pub last : (p q : PassState) → get_elem? ps (length ps - 1) ≡ some p → get_elem? qs (length ps - 1) ≡ some q → WorksBeside p q
+    pub last : (p q : PassState) → get_elem? ps (length ps - 1) ≡ some p
+        → get_elem? qs (length ps - 1) ≡ some q → WorksBeside p q
 
   -- The last pass's work was refused, as the error says
   pub record LastIsRefused (ps qs : List PassState) (e : JobError) : Type 0 where

@@ -21,24 +21,28 @@ use Rattle.page_jobs.specs.Reads.{IsWithinFront}
 abbrev pub job_of : ℕ → ℕ → ℕ → Option (List ℕ) → ℕ → Job
 job_of blocks workers base before faults = record { chunks = chunk_count blocks; width = 2 * workers; base = base; before = before; faults = faults }
 
-module _ {L G : Type 0} (contents : L → Option Pages) (m : Manager L G) (rel : ℕ) (fork : Fork) where
+module _ {L G : Type 0} (contents : L → Option Pages) (m : Manager L G) (rel : ℕ)
+    (fork : Fork) where
   -- This may be the text of a chunk: the lines of all its blocks, each as it was copied from its
   -- frame, with nothing of the log past this place, or found not to be sound
   pub record IsChunkText (lines : Lines) (place chunk : ℕ) (text : List ℕ) : Type 0 where
     pub reads : List BlockRead
     pub whole : length reads ≡ length (blocks_of (blocks_in m rel fork) chunk)
     pub known : AreKnown contents m rel fork (blocks_of (blocks_in m rel fork) chunk) reads
-    pub places : AllReads (λ block r. IsWithinFront place r) (blocks_of (blocks_in m rel fork) chunk) reads
+    pub places : AllReads (λ block r. IsWithinFront place r)
+        (blocks_of (blocks_in m rel fork) chunk) reads
     pub lines_are : text ≡ reads_lines lines (blocks_of (blocks_in m rel fork) chunk) reads
 
   -- A lister can begin a chunk: no text of it is there yet, it has shares to count the text in, and
   -- the window is for the chunks of the fork and takes their texts
-  pub record OpensText {N A : Type 0} (texts : ℕ → ℕ → List ℕ → Type 0) (job : Job) (k : Lister N A) : Type 0 where
+  pub record OpensText {N A : Type 0} (texts : ℕ → ℕ → List ℕ → Type 0) (job : Job)
+      (k : Lister N A) : Type 0 where
     pub none : k.printed.text.items ≡ []
     pub counts : IsWithin k.printed.totals k.printed.totals.blocks
     pub parts : (0 < k.shares.delivered.parts) × (0 < k.shares.above.parts)
     pub chunks : job.chunks ≡ chunk_count (blocks_in m rel fork)
-    pub takes : (place chunk : ℕ) (text : List ℕ) → IsChunkText k.lines place chunk text → texts place chunk text
+    pub takes : (place chunk : ℕ) (text : List ℕ) → IsChunkText k.lines place chunk text
+        → texts place chunk text
 
 -- one text more was delivered; or the job had stopped, for which a worker ends as out of memory
 abbrev pub HasDelivered : ℕ → ℕ → Result Unit JobError → Type 0
@@ -47,7 +51,8 @@ HasDelivered before now (Err e) = e ≡ Memory
 
 -- The text of a chunk was delivered, or the job had stopped, in a job over a log that begins at
 -- this base and by a pass with this front
-pub record ClosesText {N A : Type 0} (base front : ℕ) (k l : Lister N A) (end : Result Unit JobError) : Type 0 where
+pub record ClosesText {N A : Type 0} (base front : ℕ) (k l : Lister N A)
+    (end : Result Unit JobError) : Type 0 where
   pub lines : l.lines ≡ k.lines
   pub totals : l.printed.totals ≡ k.printed.totals
   pub none : OnOk end (l.printed.text.items ≡ [])

@@ -64,7 +64,9 @@ CoversAll n c = length c.items ≡ length (blocks_in_all n c.chunks)
 -- the passes claimed the first chunks of a fork of n blocks, so many, each once: whatever the
 -- weights, those of the claimed chunks sum to those of these
 abbrev pub AreFirstClaimed : {A : Type 0} → ℕ → List (Claimed A) → Type 0
-AreFirstClaimed n cs = (many : ℕ) × (many ≤ chunk_count n) × ((g : ℕ → ℕ) → total (λ c. total g c.chunks) cs ≡ sum_below many g)
+AreFirstClaimed n cs =
+    (many : ℕ) × (many ≤ chunk_count n)
+    × ((g : ℕ → ℕ) → total (λ c. total g c.chunks) cs ≡ sum_below many g)
 
 -- they claimed all chunks, each once
 abbrev pub AreAllClaimed : {A : Type 0} → ℕ → List (Claimed A) → Type 0

@@ -41,8 +41,13 @@ IsDoneFullShortOrMemory r = IsDoneFullOrMemory r
 
 -- for none of the passes a device failed
 abbrev pub NoDeviceFailsIn : List PassState → List PassState → Type 0
-NoDeviceFailsIn ps qs = (w : ℕ) (p q : PassState) → get_elem? ps w ≡ some p → get_elem? qs w ≡ some q → NoDeviceFails p q
+NoDeviceFailsIn ps qs =
+    (w : ℕ) (p q : PassState) → get_elem? ps w ≡ some p → get_elem? qs w ≡ some q
+    → NoDeviceFails p q
 
 -- for none of the passes a device failed, and none could meet a page that can't be written
-abbrev pub NothingFailsIn : {L G : Type 0} → (L → Option Pages) → Manager L G → List PassState → List PassState → Type 0
-NothingFailsIn contents m ps qs = (w : ℕ) (p q : PassState) → get_elem? ps w ≡ some p → get_elem? qs w ≡ some q → NothingFails contents m.table p q
+abbrev pub NothingFailsIn : {L G : Type 0} → (L → Option Pages) → Manager L G → List PassState
+    → List PassState → Type 0
+NothingFailsIn contents m ps qs =
+    (w : ℕ) (p q : PassState) → get_elem? ps w ≡ some p → get_elem? qs w ≡ some q
+    → NothingFails contents m.table p q

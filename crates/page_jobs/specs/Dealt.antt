@@ -66,16 +66,21 @@ module _ {K : Type 0} (begins : K → Type 0) (claims : Claims) where
   AreDealt number (p ∷ ps) [] = ⊥
   AreDealt number (p ∷ ps) (w ∷ ws) = IsDealt number p w × AreDealt (number + 1) ps ws
 
-module _ {K : Type 0} (begins : K → Type 0) (does : ℕ → PassState → PassState → K → K → Result Unit JobError → Type 0) (closes : ℕ → PassState → K → K → Result Unit JobError → Type 0) (n : ℕ) where
+module _ {K : Type 0} (begins : K → Type 0)
+    (does : ℕ → PassState → PassState → K → K → Result Unit JobError → Type 0)
+    (closes : ℕ → PassState → K → K → Result Unit JobError → Type 0) (n : ℕ) where
   -- the workers that the passes became have worked, on chunks of n blocks
   abbrev pub HaveDone : List PassState → List (Worker K) → Type 0
   HaveDone [] [] = Unit {0}
   HaveDone [] (x ∷ xs) = ⊥
   HaveDone (p ∷ ps) [] = ⊥
-  HaveDone (p ∷ ps) (x ∷ xs) = ((k : K) × begins k × WorksChunks does closes n x.seat.me.0.drawn p x.pass k x.task x.end) × HaveDone ps xs
+  HaveDone (p ∷ ps) (x ∷ xs) =
+      ((k : K) × begins k × WorksChunks does closes n x.seat.me.0.drawn p x.pass k x.task x.end)
+      × HaveDone ps xs
 
 -- The passes are dealt out, with claims of the chunks of so many blocks
-pub record IsDealtOut {K : Type 0} (begins : K → Type 0) (blocks : ℕ) (ps : List PassState) (d : Dealt K) : Type 0 where
+pub record IsDealtOut {K : Type 0} (begins : K → Type 0) (blocks : ℕ) (ps : List PassState)
+    (d : Dealt K) : Type 0 where
   pub chunks : d.claims.chunks ≡ chunk_count blocks
   pub workers : d.claims.workers ≡ length ps
   pub sits : SitsAt d.claims.table.shared.table_id d.seat
@@ -100,7 +105,9 @@ EndsFirst e (w ∷ ws) = (w.end ≡ Err e) ⊎ ((w.end ≡ Ok tt) × EndsFirst e
 
 -- if the worker that stopped the job failed, this is how it ended
 abbrev pub EndsAsStopper : {K : Type 0} → Option ℕ → List (Worker K) → Result Unit JobError → Type 0
-EndsAsStopper {K = K} stopped_by ws end = (n : ℕ) (w : Worker K) (e : JobError) → stopped_by ≡ Some n → get_elem? ws n ≡ some w → w.end ≡ Err e → end ≡ Err e
+EndsAsStopper {K = K} stopped_by ws end =
+    (n : ℕ) (w : Worker K) (e : JobError) → stopped_by ≡ Some n → get_elem? ws n ≡ some w
+    → w.end ≡ Err e → end ≡ Err e
 
 -- the workers gave their tasks back to the job's, the last worker first
 abbrev pub HaveJoined : {K : Type 0} → (K → K → K → Type 0) → List (Worker K) → K → K → Type 0
@@ -115,7 +122,8 @@ job_totals (w ∷ ws) = sum_of_totals w.task.printed.totals (job_totals ws)
 -- no number of theirs is above what their blocks can give
 abbrev pub TotalsAreInRange : {N A : Type 0} → List (Worker (Lister N A)) → Type 0
 TotalsAreInRange [] = Unit {0}
-TotalsAreInRange (w ∷ ws) = IsWithin w.task.printed.totals w.task.printed.totals.blocks × TotalsAreInRange ws
+TotalsAreInRange (w ∷ ws) =
+    IsWithin w.task.printed.totals w.task.printed.totals.blocks × TotalsAreInRange ws
 
 -- how many texts they delivered, and how many of those they read past the log's base
 abbrev pub total_delivered : {N A : Type 0} → List (Worker (Lister N A)) → ℕ
@@ -126,22 +134,27 @@ total_above ws = total (λ w. w.task.shares.above.amount) ws
 
 -- At the end of a job the line of the totals was put, or a prefix of it, if no put had failed
 -- before, and the workers and the work beside them had ended well; otherwise nothing
-pub record PutsEnd (output : Bool) (worked beside : Result Unit JobError) (totals : ScanTotals) (old new : Option (List ℕ)) (end : Result Unit JobError) : Type 0 where
+pub record PutsEnd (output : Bool) (worked beside : Result Unit JobError) (totals : ScanTotals)
+    (old new : Option (List ℕ)) (end : Result Unit JobError) : Type 0 where
   pub last : List ℕ
-  pub ending : (last ≡ []) ⊎ ((output ≡ false) × (worked ≡ Ok tt) × (beside ≡ Ok tt) × (last ≡ totals_line totals))
+  pub ending : (last ≡ [])
+      ⊎ ((output ≡ false) × (worked ≡ Ok tt) × (beside ≡ Ok tt) × (last ≡ totals_line totals))
   pub puts : Puts last old new end
   pub whole : OnOk end (last ≡ totals_line totals)
 
 -- Why no totals were put: a put had failed before, or this one did; or a worker had failed, the
 -- work beside them was refused, or there was no memory
-abbrev pub PutsNoEnd : Bool → Result Unit JobError → Result Unit JobError → ℕ → ℕ → JobError → Type 0
+abbrev pub PutsNoEnd : Bool → Result Unit JobError → Result Unit JobError → ℕ → ℕ → JobError
+    → Type 0
 PutsNoEnd output worked beside outs outs_now e =
     ((e ≡ OutFault) × MatchBool output (outs_now ≡ outs) (Rose outs outs_now))
-    ⊎ ((output ≡ false) × (outs_now ≡ outs) × ((e ≡ Memory) ⊎ ((worked ≡ Err e) ⊎ (beside ≡ Err e))))
+    ⊎ ((output ≡ false) × (outs_now ≡ outs)
+    × ((e ≡ Memory) ⊎ ((worked ≡ Err e) ⊎ (beside ≡ Err e))))
 
 -- What was put in all: a prefix of the texts of some first chunks, or of those of all chunks and
 -- the line of the totals; all of these, if it ended well
-pub record PutsAll {N A : Type 0} (texts : ℕ → List ℕ → Type 0) (ws : List (Worker (Lister N A))) (chunks : ℕ) (old new : Option (List ℕ)) (end : Result Unit JobError) : Type 0 where
+pub record PutsAll {N A : Type 0} (texts : ℕ → List ℕ → Type 0) (ws : List (Worker (Lister N A)))
+    (chunks : ℕ) (old new : Option (List ℕ)) (end : Result Unit JobError) : Type 0 where
   pub many : ℕ
   pub within : many ≤ chunks
   pub text : List ℕ
@@ -154,7 +167,8 @@ pub record PutsAll {N A : Type 0} (texts : ℕ → List ℕ → Type 0) (ws : Li
 module _ {L G : Type 0} (contents : L → Option Pages) (m : Manager L G) where
   -- A worker can begin: its pass has no token, its seat claimed nothing, and its task can count and
   -- can begin a chunk
-  pub record IsReady {K : Type 0} (claims : Claims) (fits : K → ℕ → Type 0) (opens : K → Type 0) (w : Worker K) : Type 0 where
+  pub record IsReady {K : Type 0} (claims : Claims) (fits : K → ℕ → Type 0) (opens : K → Type 0)
+      (w : Worker K) : Type 0 where
     pub free : HasNoTokens contents m w.pass
     pub seat : HasSeat claims w
     pub task : CanBegin fits w.task
@@ -163,7 +177,10 @@ module _ {L G : Type 0} (contents : L → Option Pages) (m : Manager L G) where
   -- All passes but the last worked on chunks of the fork's blocks, and the last one worked beside
   -- them: if its work ended well, it did this. There is room for all of them in the list that they
   -- were in, and their seats can be given back
-  pub record HasRun {K : Type 0} (rel : ℕ) (fork : Fork) (does : ℕ → PassState → PassState → K → K → Result Unit JobError → Type 0) (closes : ℕ → PassState → K → K → Result Unit JobError → Type 0) (begins : K → Type 0) (did : PassState → PassState → Type 0) (ps : List PassState) (ran : Ran K) : Type 0 where
+  pub record HasRun {K : Type 0} (rel : ℕ) (fork : Fork)
+      (does : ℕ → PassState → PassState → K → K → Result Unit JobError → Type 0)
+      (closes : ℕ → PassState → K → K → Result Unit JobError → Type 0) (begins : K → Type 0)
+      (did : PassState → PassState → Type 0) (ps : List PassState) (ran : Ran K) : Type 0 where
     pub before : List PassState
     pub last : PassState
     pub split : ps ≡ before ++ last ∷ []

@@ -52,11 +52,13 @@ module _ {L G : Type 0} (contents : L → Option Pages) (m : Manager L G) where
     pub known : contents lane ≡ Some pages
     pub is : pages tag ≡ Some page
 
-module _ {L G : Type 0} (contents : L → Option Pages) (m : Manager L G) (rel : ℕ) (fork : Fork) where
+module _ {L G : Type 0} (contents : L → Option Pages) (m : Manager L G) (rel : ℕ)
+    (fork : Fork) where
   -- These were the pages of the fork's blocks as the table was opened
   pub record IsOrigin (pages : List Page) : Type 0 where
     pub counted : length pages ≡ blocks_in m rel fork
-    pub each : (block : ℕ) (page : Page) → get_elem? pages block ≡ some page → WasKnownAtOpening contents m (tag_of_parts rel fork block) page
+    pub each : (block : ℕ) (page : Page) → get_elem? pages block ≡ some page
+        → WasKnownAtOpening contents m (tag_of_parts rel fork block) page
 
   -- The pass read blocks of the chunks that it claimed, one chunk after the other, each to its end
   -- but maybe the last one. It is the same pass, without tokens, with its mark and its content
@@ -64,9 +66,13 @@ module _ {L G : Type 0} (contents : L → Option Pages) (m : Manager L G) (rel :
   pub record ReadsChunks (c : Claimed BlockRead) (p q : PassState) : Type 0 where
     pub stays : Stays contents m p q
     pub spent : q.tokens ≡ no_tokens
-    pub calls : q.view.calls ≡ p.view.calls ++ calls_of_reads p.view.number rel fork (blocks_in_all (blocks_in m rel fork) c.chunks) c.items
+    pub calls : q.view.calls
+        ≡ p.view.calls
+        ++ calls_of_reads p.view.number rel fork
+        (blocks_in_all (blocks_in m rel fork) c.chunks) c.items
     pub known : AreKnown contents m rel fork (blocks_in_all (blocks_in m rel fork) c.chunks) c.items
-    pub places : AllReads (λ block r. IsWithinFront q.view.front r) (blocks_in_all (blocks_in m rel fork) c.chunks) c.items
+    pub places : AllReads (λ block r. IsWithinFront q.view.front r)
+        (blocks_in_all (blocks_in m rel fork) c.chunks) c.items
     pub covers : CoversChunks (blocks_in m rel fork) c
 
   -- The passes claimed the first chunks, each once, and each pass read blocks of those that it
@@ -75,9 +81,11 @@ module _ {L G : Type 0} (contents : L → Option Pages) (m : Manager L G) (rel :
     pub counted : length qs ≡ length ps
     pub claimed : List (Claimed BlockRead)
     pub listed : length claimed ≡ length ps
-    pub each : (w : ℕ) (p q : PassState) (c : Claimed BlockRead) → get_elem? ps w ≡ some p → get_elem? qs w ≡ some q → get_elem? claimed w ≡ some c → ReadsChunks c p q
+    pub each : (w : ℕ) (p q : PassState) (c : Claimed BlockRead) → get_elem? ps w ≡ some p
+        → get_elem? qs w ≡ some q → get_elem? claimed w ≡ some c → ReadsChunks c p q
     -- each pass met no fault; or it met this one, and read nothing after that
-    pub ended : (w : ℕ) (p q : PassState) → get_elem? ps w ≡ some p → get_elem? qs w ≡ some q → (q.view.met ≡ p.view.met) ⊎ ((e : JobError) × MeetsFault contents m rel fork p q e)
+    pub ended : (w : ℕ) (p q : PassState) → get_elem? ps w ≡ some p → get_elem? qs w ≡ some q
+        → (q.view.met ≡ p.view.met) ⊎ ((e : JobError) × MeetsFault contents m rel fork p q e)
     pub once : AreFirstClaimed (blocks_in m rel fork) claimed
 
   -- The pass read each of its chunks to its end, and met no fault
@@ -91,14 +99,16 @@ module _ {L G : Type 0} (contents : L → Option Pages) (m : Manager L G) (rel :
   pub record ReadsAll (ps qs : List PassState) (totals : Totals) : Type 0 where
     pub claimed : List (Claimed BlockRead)
     pub listed : length claimed ≡ length ps
-    pub each : (w : ℕ) (p q : PassState) (c : Claimed BlockRead) → get_elem? ps w ≡ some p → get_elem? qs w ≡ some q → get_elem? claimed w ≡ some c → ReadsWhole c p q
+    pub each : (w : ℕ) (p q : PassState) (c : Claimed BlockRead) → get_elem? ps w ≡ some p
+        → get_elem? qs w ≡ some q → get_elem? claimed w ≡ some c → ReadsWhole c p q
     pub all : AreAllClaimed (blocks_in m rel fork) claimed
     pub totals_is : totals ≡ totals_of_scan (reads_totals (items_in_all claimed))
 
   -- What was put, with any end: a prefix of the texts of the first chunks, in order, and after
   -- those of all chunks, if the passes met no fault, of the line of the totals of what they read;
   -- if the job ended well, all of that
-  pub record PutsTexts (lines : Lines) (ps qs : List PassState) (old new : Option (List ℕ)) (end : Result Totals JobError) : Type 0 where
+  pub record PutsTexts (lines : Lines) (ps qs : List PassState) (old new : Option (List ℕ))
+      (end : Result Totals JobError) : Type 0 where
     pub parts : ReadParts ps qs
     -- nothing in the texts was read past this place, which is the log's base if no pass has seen
     -- more of the log
@@ -109,10 +119,15 @@ module _ {L G : Type 0} (contents : L → Option Pages) (m : Manager L G) (rel :
     pub text : List ℕ
     pub texts : AreFirstTexts (IsTextBy (IsChunkText contents m rel fork lines) place) many text
     pub last : List ℕ
-    pub ending : (last ≡ []) ⊎ ((many ≡ chunk_count (blocks_in m rel fork)) × MeetNothing ps qs × (last ≡ totals_line (reads_totals (items_in_all parts.claimed))))
+    pub ending : (last ≡ [])
+        ⊎ ((many ≡ chunk_count (blocks_in m rel fork)) × MeetNothing ps qs
+        × (last ≡ totals_line (reads_totals (items_in_all parts.claimed))))
     pub puts : Puts (text ++ last) old new (as_done end)
     -- the totals that the job answers are those of the line
-    pub whole : IfOk end (λ totals. (many ≡ chunk_count (blocks_in m rel fork)) × (last ≡ totals_line (reads_totals (items_in_all parts.claimed))) × (totals ≡ totals_of_scan (reads_totals (items_in_all parts.claimed))))
+    pub whole : IfOk end
+        (λ totals. (many ≡ chunk_count (blocks_in m rel fork))
+        × (last ≡ totals_line (reads_totals (items_in_all parts.claimed)))
+        × (totals ≡ totals_of_scan (reads_totals (items_in_all parts.claimed))))
 
   -- some pass met the fault that ended the job
   abbrev pub AnyMeets : List PassState → List PassState → JobError → Type 0
@@ -123,4 +138,6 @@ module _ {L G : Type 0} (contents : L → Option Pages) (m : Manager L G) (rel :
   -- last one was refused, or the output failed, or there was no memory
   abbrev pub EndsJob : List PassState → List PassState → ℕ → ℕ → JobError → Type 0
   EndsJob ps qs outs outs_now e =
-      (e ≡ Memory) ⊎ (AnyMeets (workers_in ps) (workers_in qs) e ⊎ (LastIsRefused contents m ps qs e ⊎ ((e ≡ OutFault) × Rose outs outs_now)))
+      (e ≡ Memory)
+      ⊎ (AnyMeets (workers_in ps) (workers_in qs) e
+      ⊎ (LastIsRefused contents m ps qs e ⊎ ((e ≡ OutFault) × Rose outs outs_now)))

@@ -21,17 +21,23 @@ use Rattle.page_jobs.specs.Jobs.{workers_in}
 use Rattle.page_jobs.specs.Printed.{text_of_pages}
 use Rattle.page_jobs.specs.Relations.{MeetNothing}
 
-module _ {L G : Type 0} (contents : L → Option Pages) (m : Manager L G) (rel : ℕ) (fork : Fork) (lines : Lines) (did : PassState → PassState → Type 0) (all : List PassState) where
+module _ {L G : Type 0} (contents : L → Option Pages) (m : Manager L G) (rel : ℕ) (fork : Fork)
+    (lines : Lines) (did : PassState → PassState → Type 0) (all : List PassState) where
   -- The scan or the dump came to this: the passes, what was put, the output's faults, and the end
-  pub record IsListed (qs : List PassState) (old new : Option (List ℕ)) (outs outs_now : ℕ) (r : Result Totals JobError) : Type 0 where
+  pub record IsListed (qs : List PassState) (old new : Option (List ℕ)) (outs outs_now : ℕ)
+      (r : Result Totals JobError) : Type 0 where
     pub passes : ReadParts contents m rel fork (workers_in all) (workers_in qs)
     pub last : StaysBeside contents m all qs
     pub met : OnOk r (MeetNothing all qs)
     pub beside : OnOk r (LastDid did all qs)
     pub done : IfOk r (ReadsAll contents m rel fork (workers_in all) (workers_in qs))
     pub puts : PutsTexts contents m rel fork lines (workers_in all) (workers_in qs) old new r
-    pub totals : (pages : List Page) → IsOrigin contents m rel fork pages → AllAtBase (base_of m.table) (workers_in qs) → IfOk r (λ totals. totals ≡ totals_of_scan (totals_of pages))
-    pub text : (pages : List Page) → IsOrigin contents m rel fork pages → AllAtBase (base_of m.table) (workers_in qs) → Puts (text_of_pages lines pages) old new (as_done r)
+    pub totals : (pages : List Page) → IsOrigin contents m rel fork pages
+        → AllAtBase (base_of m.table) (workers_in qs)
+        → IfOk r (λ totals. totals ≡ totals_of_scan (totals_of pages))
+    pub text : (pages : List Page) → IsOrigin contents m rel fork pages
+        → AllAtBase (base_of m.table) (workers_in qs)
+        → Puts (text_of_pages lines pages) old new (as_done r)
     pub quiet : OnOk r (outs_now ≡ outs)
     pub later : outs ≤ outs_now
     pub steady : IfErr r (λ e. (e ≡ OutFault) ⊎ (outs_now ≡ outs))

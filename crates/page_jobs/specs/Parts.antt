@@ -30,7 +30,8 @@ AllReads P (b ∷ blocks) (r ∷ rs) = P b r × AllReads P blocks rs
 abbrev pub blocks_in : {L G : Type 0} → Manager L G → ℕ → Fork → ℕ
 blocks_in m rel fork = blocks_at (relations_of m.table) rel fork
 
-module _ {L G : Type 0} (contents : L → Option Pages) (m : Manager L G) (rel : ℕ) (fork : Fork) where
+module _ {L G : Type 0} (contents : L → Option Pages) (m : Manager L G) (rel : ℕ)
+    (fork : Fork) where
   -- what is known of what was read of blocks of the fork
   abbrev pub AreKnown : List ℕ → List BlockRead → Type 0
   AreKnown blocks rs = AllReads (λ b r. IsKnown contents m (tag_of_parts rel fork b) r) blocks rs
@@ -55,17 +56,20 @@ module _ {L G : Type 0} (contents : L → Option Pages) (m : Manager L G) (rel :
 
   -- These blocks were read one after the other, or the first of them. What was read is printed, and
   -- counted, but for what there was no memory for
-  pub record ListsBlocks (lines : Lines) (blocks : List ℕ) (p q : PassState) (text text' : List ℕ) (t u : ScanTotals) (end : Result Unit JobError) : Type 0 where
+  pub record ListsBlocks (lines : Lines) (blocks : List ℕ) (p q : PassState) (text text' : List ℕ)
+      (t u : ScanTotals) (end : Result Unit JobError) : Type 0 where
     pub stays : Stays contents m p q
     pub spent : q.tokens ≡ no_tokens
     pub printed : List BlockRead
     pub unprinted : List BlockRead
-    pub calls : q.view.calls ≡ p.view.calls ++ calls_of_reads p.view.number rel fork blocks (printed ++ unprinted)
+    pub calls : q.view.calls
+        ≡ p.view.calls ++ calls_of_reads p.view.number rel fork blocks (printed ++ unprinted)
     pub known : AreKnown blocks (printed ++ unprinted)
     pub places : AllReads (λ b r. IsWithinFront q.view.front r) blocks (printed ++ unprinted)
     pub text_is : text' ≡ text ++ reads_lines lines blocks printed
     pub totals_is : u ≡ sum_of_totals t (reads_totals printed)
     pub counts : IsWithin u u.blocks
     -- if it ended well, all of them were read, and no fault was met
-    pub done : OnOk end ((unprinted ≡ []) × (length printed ≡ length blocks) × (q.view.met ≡ p.view.met))
+    pub done : OnOk end
+        ((unprinted ≡ []) × (length printed ≡ length blocks) × (q.view.met ≡ p.view.met))
     pub cause : IfErr end (EndsFor p q)

@@ -30,7 +30,8 @@ found_summary Unsound page = Invalid
 -- the lines of a list of pages: all of the text but the last line
 abbrev pub lines_from : Lines → ℕ → List Page → List ℕ
 lines_from lines block [] = []
-lines_from lines block (page ∷ pages) = page_lines lines block page ++ lines_from lines (block + 1) pages
+lines_from lines block (page ∷ pages) =
+    page_lines lines block page ++ lines_from lines (block + 1) pages
 
 -- the whole text
 abbrev pub text_of_pages : Lines → List Page → List ℕ

@@ -62,8 +62,11 @@ fault_of_refusal (read.Unsound tag) = None
 abbrev pub calls_of_reads : ℕ → ℕ → Fork → List ℕ → List BlockRead → List Call
 calls_of_reads backend rel fork blocks [] = []
 calls_of_reads backend rel fork [] (r ∷ rs) = []
-calls_of_reads backend rel fork (b ∷ blocks) (copied page place ∷ rs) = Read backend (packed_tag (tag_of_parts rel fork b)) page place ∷ calls_of_reads backend rel fork blocks rs
-calls_of_reads backend rel fork (b ∷ blocks) (unsound ∷ rs) = calls_of_reads backend rel fork blocks rs
+calls_of_reads backend rel fork (b ∷ blocks) (copied page place ∷ rs) =
+    Read backend (packed_tag (tag_of_parts rel fork b)) page place
+    ∷ calls_of_reads backend rel fork blocks rs
+calls_of_reads backend rel fork (b ∷ blocks) (unsound ∷ rs) =
+    calls_of_reads backend rel fork blocks rs
 
 module _ {L G : Type 0} (contents : L → Option Pages) (m : Manager L G) where
   -- The pass is the manager's, and has no token
@@ -92,7 +95,10 @@ module _ {L G : Type 0} (contents : L → Option Pages) (m : Manager L G) where
 
   -- if a lane failed to read the block, no device was called after that
   abbrev pub EndsAtRead : Tag → PassState → ReadError → Type 0
-  EndsAtRead tag q (read.ReadFault failed) = (calls : List DeviceCall) × (q.view.device_calls ≡ calls ++ LaneRead (lane_number tag (lanes_in m.table)) (packed_tag tag) false ∷ [])
+  EndsAtRead tag q (read.ReadFault failed) =
+      (calls : List DeviceCall)
+      × (q.view.device_calls
+      ≡ calls ++ LaneRead (lane_number tag (lanes_in m.table)) (packed_tag tag) false ∷ [])
   EndsAtRead tag q why = Unit {0}
 
   -- The block wasn't read, for this reason, and the pass has no token
@@ -138,7 +144,9 @@ module _ {L G : Type 0} (contents : L → Option Pages) (m : Manager L G) where
   -- base, and at the base it is the page that the lane held as the table was opened, if that is
   -- known; a page that isn't sound wasn't then
   abbrev pub IsKnown : Tag → BlockRead → Type 0
-  IsKnown tag (copied page place) = (is_sound_page page ≡ true) × (base_of m.table ≤ place) × (place ≡ base_of m.table → WasAtOpening contents m.table tag page)
+  IsKnown tag (copied page place) =
+      (is_sound_page page ≡ true) × (base_of m.table ≤ place)
+      × (place ≡ base_of m.table → WasAtOpening contents m.table tag page)
   IsKnown tag unsound = WasUnsoundAtOpening contents m.table tag
 
 -- a copy's place isn't past this front

@@ -12,7 +12,9 @@ use Rattle.backend_pass.specs.Passes.{PassState}
 
 -- the passes met no fault
 abbrev pub MeetNothing : List PassState → List PassState → Type 0
-MeetNothing ps qs = (w : ℕ) (p q : PassState) → get_elem? ps w ≡ some p → get_elem? qs w ≡ some q → q.view.met ≡ p.view.met
+MeetNothing ps qs =
+    (w : ℕ) (p q : PassState) → get_elem? ps w ≡ some p → get_elem? qs w ≡ some q
+    → q.view.met ≡ p.view.met
 
 -- The catalogue has so many blocks of this fork of its first relation, and no other block
 pub record IsCatalogOf (fork : Fork) (blocks : ℕ) (catalog : List RelEntry) : Type 0 where

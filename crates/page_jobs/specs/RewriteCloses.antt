@@ -42,13 +42,15 @@ pub record PutsNoMore (q z : PassState) : Type 0 where
 
 -- The log has an entry of this block, whose page is what the rule made of this one, and durable;
 -- and that is the page that the block has now
-pub record HasEntryPage (r : Rule) (s : State) (packed : ℕ) (page : Page) (now : Option Page) : Type 0 where
+pub record HasEntryPage (r : Rule) (s : State) (packed : ℕ) (page : Page)
+    (now : Option Page) : Type 0 where
   pub made : HasEntry s.log packed
   pub entered : IsPageEntry made.entry packed (r.rewritten page (end_of made.entry))
   pub durable : head_size + end_of made.entry ≤ s.log.base + s.device.synced
   pub held : now ≡ Some (r.rewritten page (end_of made.entry))
 
-module _ {L G : Type 0} (contents : L → Option Pages) (m : Manager L G) (rel : ℕ) (fork : Fork) where
+module _ {L G : Type 0} (contents : L → Option Pages) (m : Manager L G) (rel : ℕ)
+    (fork : Fork) where
   -- A rewrite made the passes qs of the passes ps, and they were these, in the same order, as the
   -- manager was closed: none had put a page before it, or put one after it, or failed to append one
   pub record RewritesAlone (ps qs zs : List PassState) : Type 0 where
@@ -58,17 +60,20 @@ module _ {L G : Type 0} (contents : L → Option Pages) (m : Manager L G) (rel :
     pub before : EachPass PutNothing ps
     pub untorn : EachPass ToreNothing ps
     pub counted : length zs ≡ length qs
-    pub after : (i : ℕ) (q z : PassState) → get_elem? qs i ≡ some q → get_elem? zs i ≡ some z → PutsNoMore q z
+    pub after : (i : ℕ) (q z : PassState) → get_elem? qs i ≡ some q → get_elem? zs i ≡ some z
+        → PutsNoMore q z
     -- the manager was opened with as many lanes as it has, and has some
     pub lanes : length (opened_of m.table) ≡ lanes_in m.table
     pub some_lanes : 0 < lanes_in m.table
 
   -- A rewrite did all blocks, whose pages are known, and at the close one of the passes has swept
   -- each lane up to a position that is at least the front of each pass
-  pub record RewritesAndStores (ps qs zs : List PassState) (totals : Totals) (upto : ℕ) : Type 0 where
+  pub record RewritesAndStores (ps qs zs : List PassState) (totals : Totals)
+      (upto : ℕ) : Type 0 where
     pub alone : RewritesAlone ps qs zs
     pub all : RewritesFork contents m rel fork (workers_in ps) (workers_in qs) totals
-    pub known : (q : ℕ) (l : L) → get_elem? (opened_of m.table) q ≡ some l → is_some (contents l) ≡ true
+    pub known : (q : ℕ) (l : L) → get_elem? (opened_of m.table) q ≡ some l
+        → is_some (contents l) ≡ true
     pub index : ℕ
     pub checkpointer : PassState
     pub there : get_elem? zs index ≡ some checkpointer
@@ -80,7 +85,8 @@ module _ {L G : Type 0} (contents : L → Option Pages) (m : Manager L G) (rel :
   pub record RewritesAndEnds (ps qs zs : List PassState) (e : JobError) : Type 0 where
     pub alone : RewritesAlone ps qs zs
     pub ends : EndsRewrite contents m rel fork ps qs e
-    pub rises : (i : ℕ) (q z : PassState) → get_elem? qs i ≡ some q → get_elem? zs i ≡ some z → OnlyRises q.view z.view
+    pub rises : (i : ℕ) (q z : PassState) → get_elem? qs i ≡ some q → get_elem? zs i ≡ some z
+        → OnlyRises q.view z.view
 
 module _ {L G : Type 0} (d : Devices L G) (o : Opening L G) (lanes : List L) where
   -- The block of this tag, whose number this is, lies in a lane with these contents as the table
@@ -96,46 +102,70 @@ module _ {L G : Type 0} (d : Devices L G) (o : Opening L G) (lanes : List L) whe
 
   -- Each block has the page that it had, or what the rule made of it, or its last write failed
   abbrev pub HoldEither : Rule → State → Type 0
-  HoldEither r s = (packed : ℕ) (tag : Tag) (before after : Pages) (closed : L) (page : Page) → IsInLanes packed tag before after closed → before tag ≡ Some page → d.failed_writes closed tag ≡ false
+  HoldEither r s =
+      (packed : ℕ) (tag : Tag) (before after : Pages) (closed : L) (page : Page)
+      → IsInLanes packed tag before after closed → before tag ≡ Some page
+      → d.failed_writes closed tag ≡ false
       → (after tag ≡ Some page) ⊎ HasEntryPage r s packed page (after tag)
 
   -- The lanes have the rewritten relation of n blocks
   pub record HoldRewritten (r : Rule) (n : ℕ) (log : Log) : Type 0 where
     -- of a page that the rule changes the log has an entry, which is what the rule made of it; and
     -- the lane has that page, or the block's last write failed
-    pub changed : (block : ℕ) (tag : Tag) (before after : Pages) (closed : L) (page : Page) → block < n → IsInLanes (r.tag block) tag before after closed → before tag ≡ Some page → r.changes page ≡ true
-        → (x : HasEntry log (r.tag block)) × IsPageEntry x.entry (r.tag block) (r.rewritten page (end_of x.entry)) × (d.failed_writes closed tag ≡ false → after tag ≡ Some (r.rewritten page (end_of x.entry)))
+    pub changed : (block : ℕ) (tag : Tag) (before after : Pages) (closed : L) (page : Page)
+        → block < n → IsInLanes (r.tag block) tag before after closed → before tag ≡ Some page
+        → r.changes page ≡ true
+        → (x : HasEntry log (r.tag block))
+        × IsPageEntry x.entry (r.tag block) (r.rewritten page (end_of x.entry))
+        × (d.failed_writes closed tag ≡ false
+        → after tag ≡ Some (r.rewritten page (end_of x.entry)))
     -- of a page that the rule leaves the log has no entry
-    pub same : (block : ℕ) (tag : Tag) (before after : Pages) (closed : L) (page : Page) → block < n → IsInLanes (r.tag block) tag before after closed → before tag ≡ Some page → r.changes page ≡ false → HasEntry log (r.tag block) → ⊥
+    pub same : (block : ℕ) (tag : Tag) (before after : Pages) (closed : L) (page : Page) → block < n
+        → IsInLanes (r.tag block) tag before after closed → before tag ≡ Some page
+        → r.changes page ≡ false → HasEntry log (r.tag block) → ⊥
     -- a block of which the log has no entry, in the fork or elsewhere, has its page as before, or
     -- its last write failed
-    pub others : (packed : ℕ) (tag : Tag) (before after : Pages) (closed : L) (page : Page) → IsInLanes packed tag before after closed → before tag ≡ Some page → (HasEntry log packed → ⊥) → d.failed_writes closed tag ≡ false → after tag ≡ Some page
+    pub others : (packed : ℕ) (tag : Tag) (before after : Pages) (closed : L) (page : Page)
+        → IsInLanes packed tag before after closed → before tag ≡ Some page
+        → (HasEntry log packed → ⊥) → d.failed_writes closed tag ≡ false → after tag ≡ Some page
 
 module _ {L G : Type 0} (d : Devices L G) (m : Manager L G) where
   -- After a rewrite with any end each entry of the log is what the rule made of a block's page at
   -- the opening, and a block has one at most; each lane has the one page or the other; and what a
   -- failure left after the log begins the record of such a page, of a block that has no entry
   abbrev pub ClosesEither : Type 0
-  ClosesEither = (rel : ℕ) (fork : Fork) (ps qs zs : List PassState) (lanes : List L) (log : G) → RewritesAlone d.contents m rel fork ps qs zs
+  ClosesEither =
+      (rel : ℕ) (fork : Fork) (ps qs zs : List PassState) (lanes : List L) (log : G)
+      → RewritesAlone d.contents m rel fork ps qs zs
       → (c : ClosesAll d m.table.table.shared.key zs lanes log)
-      → HasRewrites (rule_of rel fork) (blocks_in m rel fork) c.state.known c.state.origin c.state.log
+      → HasRewrites (rule_of rel fork) (blocks_in m rel fork) c.state.known
+      c.state.origin c.state.log
       × HoldEither d m.table.table.shared.key lanes (rule_of rel fork) c.state
-      × (c.laws.rest.behind.rest ≢ [] → c.mark ≢ None → BeginsRewrite (rule_of rel fork) (blocks_in m rel fork) c.state c.laws.rest.behind.rest)
+      × (c.laws.rest.behind.rest ≢ [] → c.mark ≢ None
+      → BeginsRewrite (rule_of rel fork) (blocks_in m rel fork) c.state c.laws.rest.behind.rest)
 
   -- After one of all blocks, and a checkpoint, the log has exactly the entries of the changed
   -- blocks, the totals are those of the pages at the opening, and the lanes have the rewritten
   -- relation
   abbrev pub ClosesRewritten : Type 0
-  ClosesRewritten = (rel : ℕ) (fork : Fork) (ps qs zs : List PassState) (totals : Totals) (upto : ℕ) (lanes : List L) (log : G) → RewritesAndStores d.contents m rel fork ps qs zs totals upto
+  ClosesRewritten =
+      (rel : ℕ) (fork : Fork) (ps qs zs : List PassState) (totals : Totals) (upto : ℕ)
+      (lanes : List L) (log : G) → RewritesAndStores d.contents m rel fork ps qs zs totals upto
       → (c : ClosesAll d m.table.table.shared.key zs lanes log)
-      → IsRewritten (rule_of rel fork) (blocks_in m rel fork) c.state.known c.state.origin c.state.log
-      × ((pages : List Page) → IsOrigin d.contents m rel fork pages → totals ≡ totals_of_rewrite (rewrite_totals_of pages))
-      × HoldRewritten d m.table.table.shared.key lanes (rule_of rel fork) (blocks_in m rel fork) c.state.log
+      → IsRewritten (rule_of rel fork) (blocks_in m rel fork) c.state.known
+      c.state.origin c.state.log
+      × ((pages : List Page) → IsOrigin d.contents m rel fork pages
+      → totals ≡ totals_of_rewrite (rewrite_totals_of pages))
+      × HoldRewritten d m.table.table.shared.key lanes (rule_of rel fork)
+      (blocks_in m rel fork) c.state.log
 
   -- After a rewrite that ended because the log was full, a record had no room at this end, and some
   -- block has no record: one more would end where the last of a record for each block does, or
   -- before
   abbrev pub ClosesFull : Type 0
-  ClosesFull = (rel : ℕ) (fork : Fork) (ps qs zs : List PassState) (end : ℕ) (lanes : List L) (log : G) → RewritesAndEnds d.contents m rel fork ps qs zs (LogFull end)
+  ClosesFull =
+      (rel : ℕ) (fork : Fork) (ps qs zs : List PassState) (end : ℕ) (lanes : List L) (log : G)
+      → RewritesAndEnds d.contents m rel fork ps qs zs (LogFull end)
       → ClosesAll d m.table.table.shared.key zs lanes log
-      → (last_position < end + record_size) × (end + record_size ≤ base_of m.table + record_size * blocks_in m rel fork)
+      → (last_position < end + record_size)
+      × (end + record_size ≤ base_of m.table + record_size * blocks_in m rel fork)

@@ -23,7 +23,8 @@ page_at_start origin tag = unwrap_or (origin tag) []
 -- the rule was followed; a block that isn't sound has no page that the rule changes, if its page is
 -- known
 abbrev pub IsFair : Rule → (ℕ → Bool) → (ℕ → Option Page) → Outcome → Type 0
-IsFair r known origin (unsound b) = known (r.tag b) ≡ true → r.changes (page_at_start origin (r.tag b)) ≡ false
+IsFair r known origin (unsound b) =
+    known (r.tag b) ≡ true → r.changes (page_at_start origin (r.tag b)) ≡ false
 IsFair r known origin (kept b i p n) = r.changes p ≡ false
 IsFair r known origin (refused b i p n) = r.changes p ≡ true
 IsFair r known origin (changed b i p n m) = (r.changes p ≡ true) × (n < m)
@@ -36,7 +37,8 @@ pub record BackendCalls : Type 0 where
 
 abbrev pub calls_of_backends : Rule → List BackendCalls → List Call
 calls_of_backends r [] = []
-calls_of_backends r (p ∷ ps) = p.before ++ (calls_for r p.done ++ (p.after ++ calls_of_backends r ps))
+calls_of_backends r (p ∷ ps) =
+    p.before ++ (calls_for r p.done ++ (p.after ++ calls_of_backends r ps))
 
 abbrev pub all_done : List BackendCalls → List Outcome
 all_done [] = []
@@ -44,7 +46,9 @@ all_done (p ∷ ps) = p.done ++ all_done ps
 
 -- no backend had a write before, or made one after
 abbrev pub WroteNothing : List BackendCalls → Type 0
-WroteNothing ps = (k : ℕ) (p : BackendCalls) → get_elem? ps k ≡ some p → (writes_in p.before ≡ 0) × (writes_in p.after ≡ 0)
+WroteNothing ps =
+    (k : ℕ) (p : BackendCalls) → get_elem? ps k ≡ some p
+    → (writes_in p.before ≡ 0) × (writes_in p.after ≡ 0)
 
 -- how often a block is among the outcomes
 abbrev pub block_weight : ℕ → Outcome → ℕ
@@ -54,7 +58,8 @@ abbrev pub times : ℕ → List Outcome → ℕ
 times b os = total (block_weight b) os
 
 -- A rewrite of blocks below n, with any end
-pub record Rewrites (r : Rule) (n : ℕ) (known : ℕ → Bool) (origin : ℕ → Option Page) (calls : List Call) (ps : List BackendCalls) : Type 0 where
+pub record Rewrites (r : Rule) (n : ℕ) (known : ℕ → Bool) (origin : ℕ → Option Page)
+    (calls : List Call) (ps : List BackendCalls) : Type 0 where
   pub calls_are : calls ≡ calls_of_backends r ps
   pub reads : WroteNothing ps
   -- each outcome is fair, and of a block below n, which is done once at most
@@ -65,7 +70,8 @@ pub record Rewrites (r : Rule) (n : ℕ) (known : ℕ → Bool) (origin : ℕ �
   pub apart : (a b : ℕ) → a < n → b < n → r.tag a ≡ r.tag b → a ≡ b
 
 -- A rewrite that did all blocks below n
-pub record RewritesAll (r : Rule) (n : ℕ) (known : ℕ → Bool) (origin : ℕ → Option Page) (calls : List Call) (ps : List BackendCalls) : Type 0 where
+pub record RewritesAll (r : Rule) (n : ℕ) (known : ℕ → Bool) (origin : ℕ → Option Page)
+    (calls : List Call) (ps : List BackendCalls) : Type 0 where
   pub rewrites : Rewrites r n known origin calls ps
   pub all : (b : ℕ) → b < n → times b (all_done ps) ≡ 1
   pub ended : (k : ℕ) (o : Outcome) → get_elem? (all_done ps) k ≡ some o → is_ended o ≡ true
@@ -75,19 +81,23 @@ abbrev pub IsPageEntry : Entry → ℕ → Page → Type 0
 IsPageEntry e tag page = e.change ≡ image tag page
 
 -- An entry is the page that the rule makes of a block's page at the start, if that is known
-pub record IsRewrite (r : Rule) (n : ℕ) (known : ℕ → Bool) (origin : ℕ → Option Page) (e : Entry) : Type 0 where
+pub record IsRewrite (r : Rule) (n : ℕ) (known : ℕ → Bool) (origin : ℕ → Option Page)
+    (e : Entry) : Type 0 where
   pub block : ℕ
   pub below : block < n
   pub page : Page
   pub entered : IsPageEntry e (r.tag block) page
-  pub made : known (r.tag block) ≡ true → page ≡ r.rewritten (page_at_start origin (r.tag block)) (end_of e)
+  pub made : known (r.tag block) ≡ true
+      → page ≡ r.rewritten (page_at_start origin (r.tag block)) (end_of e)
   pub changes : known (r.tag block) ≡ true → r.changes (page_at_start origin (r.tag block)) ≡ true
 
 -- What the log is after a rewrite with any end
-pub record HasRewrites (r : Rule) (n : ℕ) (known : ℕ → Bool) (origin : ℕ → Option Page) (log : Log) : Type 0 where
+pub record HasRewrites (r : Rule) (n : ℕ) (known : ℕ → Bool) (origin : ℕ → Option Page)
+    (log : Log) : Type 0 where
   pub each : (k : ℕ) (e : Entry) → get_elem? log.entries k ≡ some e → IsRewrite r n known origin e
   -- a block has one entry at most
-  pub one : (j k tag : ℕ) (d e : Entry) → IsEntryOf log.entries tag j d → IsEntryOf log.entries tag k e → j ≡ k
+  pub one : (j k tag : ℕ) (d e : Entry) → IsEntryOf log.entries tag j d
+      → IsEntryOf log.entries tag k e → j ≡ k
 
 -- the block has an entry
 pub record HasEntry (log : Log) (tag : ℕ) : Type 0 where
@@ -111,15 +121,20 @@ abbrev pub change_weight : Rule → (ℕ → Option Page) → ℕ → ℕ
 change_weight r origin b = if r.changes (page_at_start origin (r.tag b)) then 1 else 0
 
 -- The log after a rewrite that did all blocks, if the lanes' contents are known
-pub record IsRewritten (r : Rule) (n : ℕ) (known : ℕ → Bool) (origin : ℕ → Option Page) (log : Log) : Type 0 where
+pub record IsRewritten (r : Rule) (n : ℕ) (known : ℕ → Bool) (origin : ℕ → Option Page)
+    (log : Log) : Type 0 where
   pub rewrites : HasRewrites r n known origin log
-  pub all : (b : ℕ) → b < n → r.changes (page_at_start origin (r.tag b)) ≡ true → HasEntry log (r.tag b)
+  pub all : (b : ℕ) → b < n → r.changes (page_at_start origin (r.tag b)) ≡ true
+      → HasEntry log (r.tag b)
   pub end : log_end log ≡ log.base + record_size * sum_below n (change_weight r origin)
 
 -- What the lane has of a block: the page of an entry, which is durable in the log, or the page that
 -- it had at the start
 abbrev pub IsAfter : State → ℕ → Type 0
-IsAfter s tag = ((k : ℕ) × (e : Entry) × (page : Page) × (get_elem? s.log.entries k ≡ some e) × IsPageEntry e tag page × (head_size + end_of e ≤ s.log.base + s.device.synced) × (stored s tag ≡ Some page)) ⊎ (stored s tag ≡ s.origin tag)
+IsAfter s tag =
+    ((k : ℕ) × (e : Entry) × (page : Page) × (get_elem? s.log.entries k ≡ some e)
+    × IsPageEntry e tag page × (head_size + end_of e ≤ s.log.base + s.device.synced)
+    × (stored s tag ≡ Some page)) ⊎ (stored s tag ≡ s.origin tag)
 
 -- each lane's blocks that are there are the pages
 -- before or after the rewrite, or their last write failed
@@ -130,7 +145,9 @@ LanesHoldEither s = (tag : ℕ)
 -- each block whose last write didn't fail has the page of its entry, or, if it has no entry, its
 -- page as before
 pub record LanesHoldAll (s : State) : Type 0 where
-  pub written : (k tag : ℕ) (e : Entry) (page : Page) → get_elem? s.log.entries k ≡ some e → IsPageEntry e tag page → s.known tag ≡ true → failed s tag ≡ false → stored s tag ≡ Some page
+  pub written : (k tag : ℕ) (e : Entry) (page : Page) → get_elem? s.log.entries k ≡ some e
+      → IsPageEntry e tag page → s.known tag ≡ true → failed s tag ≡ false
+      → stored s tag ≡ Some page
   pub other : (tag : ℕ)
       → is_block s.pool.core tag ≡ true → s.known tag ≡ true → failed s tag ≡ false
       → (HasEntry s.log tag → ⊥) → stored s tag ≡ s.origin tag
@@ -139,13 +156,21 @@ pub record LanesHoldAll (s : State) : Type 0 where
 pub record IsResult (r : Rule) (n : ℕ) (s : State) : Type 0 where
   pub rewritten : IsRewritten r n s.known s.origin s.log
   -- the block of a page that the rule changes has one entry, whose page the lane holds
-  pub changed : (b : ℕ) → b < n → r.changes (page_at_start s.origin (r.tag b)) ≡ true → (x : HasEntry s.log (r.tag b)) × IsPageEntry x.entry (r.tag b) (r.rewritten (page_at_start s.origin (r.tag b)) (end_of x.entry)) × (failed s (r.tag b) ≡ false → stored s (r.tag b) ≡ Some (r.rewritten (page_at_start s.origin (r.tag b)) (end_of x.entry)))
+  pub changed : (b : ℕ) → b < n → r.changes (page_at_start s.origin (r.tag b)) ≡ true
+      → (x : HasEntry s.log (r.tag b))
+      × IsPageEntry x.entry (r.tag b)
+      (r.rewritten (page_at_start s.origin (r.tag b)) (end_of x.entry))
+      × (failed s (r.tag b) ≡ false
+      → stored s (r.tag b) ≡ Some (r.rewritten (page_at_start s.origin (r.tag b)) (end_of x.entry)))
   -- another one has none, and its page is as before
-  pub same : (b : ℕ) → b < n → r.changes (page_at_start s.origin (r.tag b)) ≡ false → (HasEntry s.log (r.tag b) → ⊥) × (failed s (r.tag b) ≡ false → stored s (r.tag b) ≡ s.origin (r.tag b))
+  pub same : (b : ℕ) → b < n → r.changes (page_at_start s.origin (r.tag b)) ≡ false
+      → (HasEntry s.log (r.tag b) → ⊥)
+      × (failed s (r.tag b) ≡ false → stored s (r.tag b) ≡ s.origin (r.tag b))
 
 -- A state with the law, whose history is that of a rewrite of all blocks; all entries up to `upto`
 -- are stored, and no call is past it
-pub record Finishes (r : Rule) (n : ℕ) (s : State) (calls : List Call) (ps : List BackendCalls) (upto : ℕ) : Type 0 where
+pub record Finishes (r : Rule) (n : ℕ) (s : State) (calls : List Call) (ps : List BackendCalls)
+    (upto : ℕ) : Type 0 where
   pub laws : Laws s
   pub history : IsHistory s.known s.origin s.opened_sizes s.log calls
   pub rewrites : RewritesAll r n s.known s.origin calls ps

@@ -13,4 +13,5 @@ rewritten_totals (w ∷ ws) = sum_of_rewrite_totals w.task.totals (rewritten_tot
 -- no number of theirs is above what their blocks can give
 abbrev pub AreRewritesCounted : List (Worker Rewriter) → Type 0
 AreRewritesCounted [] = Unit {0}
-AreRewritesCounted (w ∷ ws) = IsRewriteWithin w.task.totals w.task.totals.blocks × AreRewritesCounted ws
+AreRewritesCounted (w ∷ ws) =
+    IsRewriteWithin w.task.totals w.task.totals.blocks × AreRewritesCounted ws

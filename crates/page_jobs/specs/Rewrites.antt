@@ -117,7 +117,9 @@ IsUnput o = is_unput o ≡ true
 -- the record is of a block whose put was refused, and of what the rule makes of the page that was
 -- read
 abbrev pub TornOf : Rule → List Outcome → TornRecord → Type 0
-TornOf r os x = (k b i n lsn : ℕ) × (p : Page) × (get_elem? os k ≡ some (refused b i p n)) × (lsn ≤ last_position) × (x ≡ record { tag = r.tag b; page = r.rewritten p lsn })
+TornOf r os x =
+    (k b i n lsn : ℕ) × (p : Page) × (get_elem? os k ≡ some (refused b i p n))
+    × (lsn ≤ last_position) × (x ≡ record { tag = r.tag b; page = r.rewritten p lsn })
 
 -- To the records that a pass failed to append were added only such
 pub record TornBy (r : Rule) (os : List Outcome) (before after : List TornRecord) : Type 0 where

@@ -65,7 +65,8 @@ pub record UnderCleanup (number packed : ℕ) (before after : List Call) (v w : 
   pub until : HoldsUntil frame after granted w
 
 -- Calls were made after those before, the last one the backend's read of this page of the block
-pub record LastReads (number : ℕ) (tag : Tag) (page : Page) (before after : List Call) : Type 0 where
+pub record LastReads (number : ℕ) (tag : Tag) (page : Page)
+    (before after : List Call) : Type 0 where
   pub others : List Call
   pub place : ℕ
   pub calls : after ≡ before ++ (others ++ Read number (packed_tag tag) page place ∷ [])
@@ -73,7 +74,9 @@ pub record LastReads (number : ℕ) (tag : Tag) (page : Page) (before after : Li
 -- after these calls each block that was read was read, and put, under its cleanup lock
 abbrev pub AllUnderCleanup : Rule → ℕ → View → View → List Call → List Outcome → Type 0
 AllUnderCleanup r number v w calls [] = Unit {0}
-AllUnderCleanup r number v w calls (o ∷ os) = IfRead o (UnderCleanup number (r.tag (outcome_block o)) calls (calls ++ outcome_calls r o) v w) × AllUnderCleanup r number v w (calls ++ outcome_calls r o) os
+AllUnderCleanup r number v w calls (o ∷ os) =
+    IfRead o (UnderCleanup number (r.tag (outcome_block o)) calls (calls ++ outcome_calls r o) v w)
+    × AllUnderCleanup r number v w (calls ++ outcome_calls r o) os
 
 module _ {L G : Type 0} (contents : L → Option Pages) (m : Manager L G) where
   -- What every call of a rewrite leaves of a pass: it is the same one, and its front isn't before
@@ -123,39 +126,49 @@ module _ {L G : Type 0} (contents : L → Option Pages) (m : Manager L G) where
   -- opened, if that is known; a sound page was put, or its put refused, exactly if the rule changes
   -- it, and the write is past the read
   abbrev pub FollowsRule : ℕ → Fork → ℕ → Outcome → Type 0
-  FollowsRule rel fork number (unsound b) = WasUnsoundAtOpening contents m.table (tag_of_parts rel fork b)
-  FollowsRule rel fork number (kept b i p n) = (i ≡ number) × (is_sound_page p ≡ true) × ((rule_of rel fork).changes p ≡ false)
-  FollowsRule rel fork number (refused b i p n) = (i ≡ number) × (is_sound_page p ≡ true) × ((rule_of rel fork).changes p ≡ true)
-  FollowsRule rel fork number (changed b i p n k) = (i ≡ number) × (is_sound_page p ≡ true) × ((rule_of rel fork).changes p ≡ true) × (n < k)
+  FollowsRule rel fork number (unsound b) =
+      WasUnsoundAtOpening contents m.table (tag_of_parts rel fork b)
+  FollowsRule rel fork number (kept b i p n) =
+      (i ≡ number) × (is_sound_page p ≡ true) × ((rule_of rel fork).changes p ≡ false)
+  FollowsRule rel fork number (refused b i p n) =
+      (i ≡ number) × (is_sound_page p ≡ true) × ((rule_of rel fork).changes p ≡ true)
+  FollowsRule rel fork number (changed b i p n k) =
+      (i ≡ number) × (is_sound_page p ≡ true) × ((rule_of rel fork).changes p ≡ true) × (n < k)
 
   -- What came of a sound page of a block, between these two states of the pass
-  pub record RewritesPage (tag : Tag) (p q : PassState) (r : Result PageRewrite InsertError) : Type 0 where
+  pub record RewritesPage (tag : Tag) (p q : PassState)
+      (r : Result PageRewrite InsertError) : Type 0 where
     pub outcome : Outcome
     pub block : outcome_block outcome ≡ tag.block
     pub calls : q.view.calls ≡ p.view.calls ++ outcome_calls (rule_of tag.rel.0 tag.fork) outcome
     pub follows : FollowsRule tag.rel.0 tag.fork p.view.number outcome
     pub mark : IsUnput outcome → KeepsMark p q
     pub torn : TornBy (rule_of tag.rel.0 tag.fork) (outcome ∷ []) p.view.torn q.view.torn
-    pub done : IfOk r (λ what. (what ≡ result_of outcome) × IsEnded outcome × (q.view.met ≡ p.view.met))
+    pub done : IfOk r
+        (λ what. (what ≡ result_of outcome) × IsEnded outcome × (q.view.met ≡ p.view.met))
     pub cause : IfErr r (PutFails tag p q)
 
   -- A sound page was dealt with under its cleanup lock, which is kept
-  pub record RewritesLocked (tag : Tag) (p q : PassState) (r : Result PageRewrite InsertError) : Type 0 where
+  pub record RewritesLocked (tag : Tag) (p q : PassState)
+      (r : Result PageRewrite InsertError) : Type 0 where
     pub goes : GoesOn p q
     pub tokens : q.tokens ≡ p.tokens
     pub locks : KeepsLocks p q
     pub page : RewritesPage tag p q r
 
   -- A sound page was dealt with under its cleanup lock; then the lock and the pin were given up
-  pub record RewritesHeld (tag : Tag) (frame : ℕ) (p q : PassState) (r : Result PageRewrite InsertError) : Type 0 where
+  pub record RewritesHeld (tag : Tag) (frame : ℕ) (p q : PassState)
+      (r : Result PageRewrite InsertError) : Type 0 where
     pub goes : GoesOn p q
     pub tokens : q.tokens ≡ no_tokens
     pub unlocked : HasLock Unlocked frame q
     pub others : KeepsOtherLocks frame p q
     pub page : RewritesPage tag p q r
-    pub until : HoldsUntil frame (p.view.calls ++ outcome_calls (rule_of tag.rel.0 tag.fork) page.outcome) p.view q.view
+    pub until : HoldsUntil frame
+        (p.view.calls ++ outcome_calls (rule_of tag.rel.0 tag.fork) page.outcome) p.view q.view
 
-module _ {L G : Type 0} (contents : L → Option Pages) (m : Manager L G) (rel : ℕ) (fork : Fork) where
+module _ {L G : Type 0} (contents : L → Option Pages) (m : Manager L G) (rel : ℕ)
+    (fork : Fork) where
   -- The put of one of the fork's blocks was refused, for a reason that the error names
   pub record PutIsRefused (p q : PassState) (e : JobError) : Type 0 where
     pub block : ℕ
@@ -167,7 +180,9 @@ module _ {L G : Type 0} (contents : L → Option Pages) (m : Manager L G) (rel :
   -- why a worker of a rewrite ends before its end: there was no memory, and it met no fault; or it
   -- met this one; or its put was refused
   abbrev pub EndsRewriteFor : PassState → PassState → JobError → Type 0
-  EndsRewriteFor p q e = ((e ≡ Memory) × (q.view.met ≡ p.view.met)) ⊎ (MeetsFault contents m rel fork p q e ⊎ PutIsRefused p q e)
+  EndsRewriteFor p q e =
+      ((e ≡ Memory) × (q.view.met ≡ p.view.met))
+      ⊎ (MeetsFault contents m rel fork p q e ⊎ PutIsRefused p q e)
 
   -- These blocks were dealt with one after the other, or the first of them, with these outcomes,
   -- and none after one whose put was refused: the calls are those of the outcomes and no others,
@@ -194,7 +209,8 @@ module _ {L G : Type 0} (contents : L → Option Pages) (m : Manager L G) (rel :
     pub met : q.view.met ≡ p.view.met
 
   -- A worker has dealt with these blocks, and counted what came of them
-  pub record CountsRewrites (blocks : List ℕ) (p q : PassState) (t u : RewriteTotals) (end : Result Unit JobError) : Type 0 where
+  pub record CountsRewrites (blocks : List ℕ) (p q : PassState) (t u : RewriteTotals)
+      (end : Result Unit JobError) : Type 0 where
     pub outcomes : List Outcome
     pub course : RewritesBlocks blocks outcomes p q
     pub within : IsRewriteWithin u u.blocks
@@ -204,8 +220,11 @@ module _ {L G : Type 0} (contents : L → Option Pages) (m : Manager L G) (rel :
     pub cause : IfErr end (EndsRewriteFor p q)
 
   -- A block was rewritten, or not, for this reason
-  pub record RewritesBlock (block : ℕ) (p q : PassState) (r : Result PageRewrite JobError) : Type 0 where
+  pub record RewritesBlock (block : ℕ) (p q : PassState)
+      (r : Result PageRewrite JobError) : Type 0 where
     pub outcomes : List Outcome
     pub course : RewritesBlocks (block ∷ []) outcomes p q
-    pub done : IfOk r (λ what. (length outcomes ≡ 1) × EachOutcome (λ o. (what ≡ result_of o) × IsEnded o) outcomes × (q.view.met ≡ p.view.met))
+    pub done : IfOk r
+        (λ what. (length outcomes ≡ 1)
+        × EachOutcome (λ o. (what ≡ result_of o) × IsEnded o) outcomes × (q.view.met ≡ p.view.met))
     pub cause : IfErr r (EndsRewriteFor p q)

@@ -25,7 +25,8 @@ IsListedByName catalog tag = (names_block tag ≡ true) × IsListed catalog tag
 
 -- each of these blocks is in its lane, if the lane's contents are known
 abbrev pub HaveTheirs : (Tag → Type 0) → List (Option Pages) → Type 0
-HaveTheirs blocks lanes = (tag : Tag) → blocks tag → ForSome (lane_at lanes tag) (λ pages. IsSome (pages tag))
+HaveTheirs blocks lanes =
+    (tag : Tag) → blocks tag → ForSome (lane_at lanes tag) (λ pages. IsSome (pages tag))
 
 -- The page is sound, and this is its log position
 pub record IsSoundAt (lsn : ℕ) (page : List ℕ) : Type 0 where
@@ -33,14 +34,17 @@ pub record IsSoundAt (lsn : ℕ) (page : List ℕ) : Type 0 where
   pub position : lsn_of page ≡ lsn
 
 -- The log position of the page of one of these blocks, which is sound if it is known
-pub record IsLsnOf (blocks : Tag → Type 0) (lanes : List (Option Pages)) (tag : Tag) (lsn : ℕ) : Type 0 where
+pub record IsLsnOf (blocks : Tag → Type 0) (lanes : List (Option Pages)) (tag : Tag)
+    (lsn : ℕ) : Type 0 where
   pub listed : blocks tag
   pub page : ForSome (lane_at lanes tag) (λ pages. IsSomeAnd (pages tag) (IsSoundAt lsn))
 
 -- The largest log position of the sound pages of these blocks: no page that is known has a larger
 -- one, and it is that of a block, or 0
-pub record IsLargestLsn (blocks : Tag → Type 0) (lanes : List (Option Pages)) (largest : ℕ) : Type 0 where
-  pub bound : (tag : Tag) (page : List ℕ) → blocks tag → page_in lanes tag ≡ Some page → is_sound_page page ≡ true → lsn_of page ≤ largest
+pub record IsLargestLsn (blocks : Tag → Type 0) (lanes : List (Option Pages))
+    (largest : ℕ) : Type 0 where
+  pub bound : (tag : Tag) (page : List ℕ) → blocks tag → page_in lanes tag ≡ Some page
+      → is_sound_page page ≡ true → lsn_of page ≤ largest
   pub reached : (largest ≡ 0) ⊎ ((tag : Tag) × IsLsnOf blocks lanes tag largest)
 
 -- one number for each fork, added up
@@ -60,7 +64,8 @@ pub record RoseAt (tag : Tag) (lanes : ℕ) (old new : List ℕ) : Type 0 where
   pub rose : Rose (get_or old (lane_number tag lanes) 0) count
   pub others : new ≡ slice_set old (lane_number tag lanes) count
 
-module _ {L : Type 0} (contents : L → Option Pages) (failed_writes unsynced : L → Marks) (write_faults : L → ℕ) where
+module _ {L : Type 0} (contents : L → Option Pages) (failed_writes unsynced : L → Marks)
+    (write_faults : L → ℕ) where
   -- The lanes have what they had, and no write or sync was made
   pub record AreOnlyRead (old new : List L) : Type 0 where
     pub contents_same : map contents new ≡ map contents old
@@ -68,16 +73,19 @@ module _ {L : Type 0} (contents : L → Option Pages) (failed_writes unsynced : 
     pub unsynced_same : map unsynced new ≡ map unsynced old
     pub writes_same : map write_faults new ≡ map write_faults old
 
-module _ {L : Type 0} (contents : L → Option Pages) (failed_writes unsynced : L → Marks) (read_faults write_faults calls : L → ℕ) where
+module _ {L : Type 0} (contents : L → Option Pages) (failed_writes unsynced : L → Marks)
+    (read_faults write_faults calls : L → ℕ) where
   -- Each of these blocks, so many, was read, and no read failed
-  pub record Surveys (blocks : Tag → Type 0) (count : ℕ) (old new : List L) (largest : ℕ) : Type 0 where
+  pub record Surveys (blocks : Tag → Type 0) (count : ℕ) (old new : List L)
+      (largest : ℕ) : Type 0 where
     pub same : AreOnlyRead contents failed_writes unsynced write_faults old new
     pub faults : map read_faults new ≡ map read_faults old
     pub read : sum_by calls new ≡ sum_by calls old + count
     pub position : IsLargestLsn blocks (map contents old) largest
 
   -- The read of one of them failed, and no further block was read
-  pub record FailsToRead (blocks : Tag → Type 0) (count : ℕ) (old new : List L) (tag : Tag) : Type 0 where
+  pub record FailsToRead (blocks : Tag → Type 0) (count : ℕ) (old new : List L)
+      (tag : Tag) : Type 0 where
     pub same : AreOnlyRead contents failed_writes unsynced write_faults old new
     pub listed : blocks tag
     pub faults : RoseAt tag (length old) (map read_faults old) (map read_faults new)
@@ -94,7 +102,8 @@ AreOfFork rel fork count tag = (tag.rel.0 ≡ rel) × (tag.fork ≡ fork) × (ta
 
 -- the blocks of a relation's first forks, so many
 abbrev pub AreOfForks : List RelEntry → ℕ → ℕ → Tag → Type 0
-AreOfForks catalog rel forks tag = (tag.rel.0 ≡ rel) × (fork_number tag.fork < forks) × IsListed catalog tag
+AreOfForks catalog rel forks tag =
+    (tag.rel.0 ≡ rel) × (fork_number tag.fork < forks) × IsListed catalog tag
 
 -- the blocks of a relation
 abbrev pub AreOfRelation : List RelEntry → ℕ → Tag → Type 0

@@ -24,11 +24,13 @@ pub record ClaimsNothing (chunks workers : ℕ) (c : Claimant) : Type 0 where
   pub part : (c.parts ≡ 1) × (c.past ≡ 0)
   pub drawn : c.drawn ≡ []
 
-module _ {K : Type 0} (does : ℕ → PassState → PassState → K → K → Result Unit JobError → Type 0) where
+module _ {K : Type 0}
+    (does : ℕ → PassState → PassState → K → K → Result Unit JobError → Type 0) where
   -- the blocks were dealt with one after the other, each to its end, and nothing else was done
   abbrev pub DoesBlocks : List ℕ → PassState → PassState → K → K → Type 0
   DoesBlocks [] p q k l = (q ≡ p) × (l ≡ k)
-  DoesBlocks (b ∷ bs) p q k l = (r : PassState) × (i : K) × does b p r k i (Ok tt) × DoesBlocks bs r q i l
+  DoesBlocks (b ∷ bs) p q k l =
+      (r : PassState) × (i : K) × does b p r k i (Ok tt) × DoesBlocks bs r q i l
 
   -- The task failed at a block of the chunk of n blocks, after those before it
   pub record FailsAtBlock (n chunk : ℕ) (p q : PassState) (k l : K) (e : JobError) : Type 0 where
@@ -46,7 +48,8 @@ module _ {K : Type 0} (does : ℕ → PassState → PassState → K → K → Re
 
   -- The pass and the task at the end of a chunk of n blocks: all of its blocks were dealt with, by
   -- a pass without tokens and from a task that could begin the chunk
-  pub record IsAtEnd (free : PassState → Type 0) (opens : K → Type 0) (n chunk : ℕ) (q : PassState) (l : K) : Type 0 where
+  pub record IsAtEnd (free : PassState → Type 0) (opens : K → Type 0) (n chunk : ℕ) (q : PassState)
+      (l : K) : Type 0 where
     pub pass : PassState
     pub task : K
     pub free_then : free pass
@@ -55,7 +58,8 @@ module _ {K : Type 0} (does : ℕ → PassState → PassState → K → K → Re
 
   module _ (closes : ℕ → PassState → K → K → Result Unit JobError → Type 0) (n : ℕ) where
     -- All blocks of the chunk were dealt with, and then it was closed
-    pub record DoesChunk (chunk : ℕ) (p q : PassState) (k l : K) (end : Result Unit JobError) : Type 0 where
+    pub record DoesChunk (chunk : ℕ) (p q : PassState) (k l : K)
+        (end : Result Unit JobError) : Type 0 where
       pub task : K
       pub blocks : DoesBlocks (blocks_of n chunk) p q k task
       pub ends : closes chunk q task l end
@@ -63,24 +67,31 @@ module _ {K : Type 0} (does : ℕ → PassState → PassState → K → K → Re
     -- a chunk was dealt with and closed, or the task failed before that
     abbrev pub WorksChunk : ℕ → PassState → PassState → K → K → Result Unit JobError → Type 0
     WorksChunk chunk p q k l (Ok done) = DoesChunk chunk p q k l (Ok tt)
-    WorksChunk chunk p q k l (Err e) = FailsAtBlock n chunk p q k l e ⊎ DoesChunk chunk p q k l (Err e)
+    WorksChunk chunk p q k l (Err e) =
+        FailsAtBlock n chunk p q k l e ⊎ DoesChunk chunk p q k l (Err e)
 
     -- these chunks were dealt with one after the other, each to its end, and nothing else was done
     abbrev pub DoesChunks : List ℕ → PassState → PassState → K → K → Type 0
     DoesChunks [] p q k l = (q ≡ p) × (l ≡ k)
-    DoesChunks (c ∷ cs) p q k l = (r : PassState) × (i : K) × (c < chunk_count n) × DoesChunk c p r k i (Ok tt) × DoesChunks cs r q i l
+    DoesChunks (c ∷ cs) p q k l =
+        (r : PassState) × (i : K) × (c < chunk_count n) × DoesChunk c p r k i (Ok tt)
+        × DoesChunks cs r q i l
 
     -- after these chunks: none was left, so that the last number drawn is past them all; or there
     -- was no memory to begin with; or the task failed in the chunk that was claimed last
-    abbrev pub EndsAfter : List ℕ → List ℕ → PassState → PassState → K → K → Result Unit JobError → Type 0
-    EndsAfter whole drawn p q k l (Ok done) = ((past : ℕ) × (chunk_count n ≤ past) × (drawn ≡ whole ++ past ∷ [])) × (q ≡ p) × (l ≡ k)
+    abbrev pub EndsAfter : List ℕ → List ℕ → PassState → PassState → K → K → Result Unit JobError
+        → Type 0
+    EndsAfter whole drawn p q k l (Ok done) =
+        ((past : ℕ) × (chunk_count n ≤ past) × (drawn ≡ whole ++ past ∷ [])) × (q ≡ p) × (l ≡ k)
     EndsAfter whole drawn p q k l (Err e) =
         ((e ≡ Memory) × (drawn ≡ []) × (whole ≡ []) × (q ≡ p) × (l ≡ k))
-        ⊎ ((chunk : ℕ) × (chunk < chunk_count n) × (drawn ≡ whole ++ chunk ∷ []) × WorksChunk chunk p q k l (Err e))
+        ⊎ ((chunk : ℕ) × (chunk < chunk_count n) × (drawn ≡ whole ++ chunk ∷ [])
+        × WorksChunk chunk p q k l (Err e))
 
     -- Of n blocks, chunks were claimed, these numbers in all, and dealt with one after the other,
     -- each to its end; and then the worker ended so
-    pub record WorksChunks (drawn : List ℕ) (p q : PassState) (k l : K) (end : Result Unit JobError) : Type 0 where
+    pub record WorksChunks (drawn : List ℕ) (p q : PassState) (k l : K)
+        (end : Result Unit JobError) : Type 0 where
       pub whole : List ℕ
       pub pass : PassState
       pub task : K
@@ -97,4 +108,6 @@ module _ {K : Type 0} (does : ℕ → PassState → PassState → K → K → Re
 
     -- each of the workers has worked
     abbrev pub HaveWorked : List (Worker K) → List (Worker K) → Type 0
-    HaveWorked ws xs = (i : ℕ) (d : Worker K) → i < length ws → HasWorked (slice_index_or ws i d) (slice_index_or xs i d)
+    HaveWorked ws xs =
+        (i : ℕ) (d : Worker K) → i < length ws
+        → HasWorked (slice_index_or ws i d) (slice_index_or xs i d)

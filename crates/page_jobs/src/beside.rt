@@ -83,7 +83,8 @@ pub(crate) fn work_last<L: BlockLane, G: LogDevice, R: Wait, B: Beside<L, G>>(
 ) -> Result<(), JobError>
     requires free { HasNoTokens L.contents manager.now last.old }
     ensures ends { EndsBeside L.contents manager.now last.old last.new result }
-    ensures works { OnOk result (B.works manager.now beside.old beside.new last.old last.new (Ok tt)) }
+    ensures works { OnOk result
+        (B.works manager.now beside.old beside.new last.old last.new (Ok tt)) }
 {
     match beside.work(manager, rt, last) {
         Ok(()) => Ok(()),

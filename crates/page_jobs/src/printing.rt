@@ -36,7 +36,8 @@ impl PageRead {
         page: &Page,
         text: &mut Vec<u8>,
     ) -> Result<(), Memory>
-        ensures lines { OnOk result (text.new.items ≡ text.old.items ++ found_lines Dump block self.now page.now) }
+        ensures lines { OnOk result
+            (text.new.items ≡ text.old.items ++ found_lines Dump block self.now page.now) }
         ensures same { OnErr result (text.new.items ≡ text.old.items) }
     {
         match self {
@@ -76,10 +77,14 @@ impl Printed {
     ) -> Result<(), Memory>
         requires within { IsWithin self.old.totals self.old.totals.blocks }
         requires room { self.old.totals.blocks < 2 ^ 32 }
-        ensures lines { OnOk result (self.new.text.items ≡ self.old.text.items ++ found_lines lines block found.now page.now) }
-        ensures totals { OnOk result (self.new.totals ≡ counted self.old.totals (found_summary found.now page.now)) }
+        ensures lines { OnOk result
+            (self.new.text.items
+            ≡ self.old.text.items ++ found_lines lines block found.now page.now) }
+        ensures totals { OnOk result
+            (self.new.totals ≡ counted self.old.totals (found_summary found.now page.now)) }
         ensures within { OnOk result (IsWithin self.new.totals (self.old.totals.blocks + 1)) }
-        ensures same { OnErr result ((self.new.text.items ≡ self.old.text.items) × (self.new.totals ≡ self.old.totals)) }
+        ensures same { OnErr result
+            ((self.new.text.items ≡ self.old.text.items) × (self.new.totals ≡ self.old.totals)) }
     {
         let summary = found.summary(page);
         match lines {

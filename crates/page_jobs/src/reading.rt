@@ -69,7 +69,8 @@ fn copy_block<L: BlockLane, G: LogDevice, R: Wait, T: Gate>(
 ) -> Result<(), ReadError>
     requires free { HasNoTokens L.contents manager.now pass.old }
     requires block { tag.block < blocks_at (relations_of manager.now.table) tag.rel.0 tag.fork }
-    ensures copied { OnOk result (CopiesBlock L.contents manager.now tag page.new pass.old pass.new) }
+    ensures copied { OnOk result
+        (CopiesBlock L.contents manager.now tag page.new pass.old pass.new) }
     ensures refused { IfErr result (RefusesBlock L.contents manager.now tag pass.old pass.new) }
 {
     let pinned = pin_with_retries(manager, rt, pass, tag, ring)?;
@@ -119,7 +120,9 @@ pub(crate) fn copy_if_sound<L: BlockLane, G: LogDevice, R: Wait, T: Gate>(
 ) -> Result<PageRead, JobError>
     requires free { HasNoTokens L.contents manager.now pass.old }
     requires block { tag.block < blocks_at (relations_of manager.now.table) tag.rel.0 tag.fork }
-    ensures read { IfOk result (λ found. CopiesOrFindsUnsound L.contents manager.now tag page.new pass.old pass.new found) }
+    ensures read { IfOk result
+        (λ found. CopiesOrFindsUnsound L.contents manager.now tag page.new pass.old
+        pass.new found) }
     ensures fault { IfErr result (StopsAt L.contents manager.now tag pass.old pass.new) }
 {
     match copy_block(manager, rt, gate, worker, pass, tag, ring, page) {

@@ -31,12 +31,16 @@ pub struct ReadFault {
 fn read_from_lane<L: BlockLane>(lanes: &mut [L], tag: Tag, page: &mut Page) -> Result<(), ReadFault>
     requires some { 0 < length lanes.old }
     requires has { ForSome (lane_at (map L.contents lanes.old) tag) (λ pages. IsSome (pages tag)) }
-    ensures same { AreOnlyRead L.contents L.failed_writes L.unsynced L.write_faults lanes.old lanes.new }
-    ensures page { OnOk result (IfSome (lane_at (map L.contents lanes.old) tag) (λ pages. pages tag ≡ Some page.new)) }
+    ensures same { AreOnlyRead L.contents L.failed_writes L.unsynced L.write_faults
+        lanes.old lanes.new }
+    ensures page { OnOk result
+        (IfSome (lane_at (map L.contents lanes.old) tag) (λ pages. pages tag ≡ Some page.new)) }
     ensures calls { sum_by L.calls lanes.new ≡ sum_by L.calls lanes.old + 1 }
     ensures ok { OnOk result (map L.read_faults lanes.new ≡ map L.read_faults lanes.old) }
     ensures tag { IfErr result (λ e. e.tag ≡ tag) }
-    ensures fault { IfErr result (λ e. RoseAt tag (length lanes.old) (map L.read_faults lanes.old) (map L.read_faults lanes.new)) }
+    ensures fault { IfErr result
+        (λ e. RoseAt tag (length lanes.old) (map L.read_faults lanes.old)
+        (map L.read_faults lanes.new)) }
 {
     let place = (tag.hash() % lanes.len() as u64) as usize;
     let lane = &mut lanes[place];
@@ -58,8 +62,12 @@ fn sound_lsn(page: &Page) -> Lsn
 fn survey_block<L: BlockLane>(lanes: &mut [L], tag: Tag, page: &mut Page) -> Result<Lsn, ReadFault>
     requires some { 0 < length lanes.old }
     requires has { ForSome (lane_at (map L.contents lanes.old) tag) (λ pages. IsSome (pages tag)) }
-    ensures done { IfOk result (Surveys L.contents L.failed_writes L.unsynced L.read_faults L.write_faults L.calls (AreOfBlock tag) 1 lanes.old lanes.new) }
-    ensures fault { IfErr result (λ e. FailsToRead L.contents L.failed_writes L.unsynced L.read_faults L.write_faults L.calls (AreOfBlock tag) 1 lanes.old lanes.new e.tag) }
+    ensures done { IfOk result
+        (Surveys L.contents L.failed_writes L.unsynced L.read_faults L.write_faults L.calls
+        (AreOfBlock tag) 1 lanes.old lanes.new) }
+    ensures fault { IfErr result
+        (λ e. FailsToRead L.contents L.failed_writes L.unsynced L.read_faults L.write_faults L.calls
+        (AreOfBlock tag) 1 lanes.old lanes.new e.tag) }
 {
     match read_from_lane(lanes, tag, page) {
         Ok(()) => Ok(sound_lsn(page)),
@@ -77,8 +85,12 @@ fn survey_fork<L: BlockLane>(
 ) -> Result<Lsn, ReadFault>
     requires some { 0 < length lanes.old }
     requires has { HaveTheirs (AreOfFork rel.0 fork blocks) (map L.contents lanes.old) }
-    ensures done { IfOk result (Surveys L.contents L.failed_writes L.unsynced L.read_faults L.write_faults L.calls (AreOfFork rel.0 fork blocks) blocks lanes.old lanes.new) }
-    ensures fault { IfErr result (λ e. FailsToRead L.contents L.failed_writes L.unsynced L.read_faults L.write_faults L.calls (AreOfFork rel.0 fork blocks) blocks lanes.old lanes.new e.tag) }
+    ensures done { IfOk result
+        (Surveys L.contents L.failed_writes L.unsynced L.read_faults L.write_faults L.calls
+        (AreOfFork rel.0 fork blocks) blocks lanes.old lanes.new) }
+    ensures fault { IfErr result
+        (λ e. FailsToRead L.contents L.failed_writes L.unsynced L.read_faults L.write_faults L.calls
+        (AreOfFork rel.0 fork blocks) blocks lanes.old lanes.new e.tag) }
 {
     let mut largest: Lsn = 0;
     for block in 0..blocks {
@@ -100,8 +112,14 @@ fn survey_relation<L: BlockLane>(
     requires some { 0 < length lanes.old }
     requires few { rel.0 < 1024 }
     requires has { HaveTheirs (IsListedByName catalog.now) (map L.contents lanes.old) }
-    ensures done { IfOk result (Surveys L.contents L.failed_writes L.unsynced L.read_faults L.write_faults L.calls (AreOfRelation catalog.now rel.0) (sum_of_forks (blocks_at catalog.now rel.0)) lanes.old lanes.new) }
-    ensures fault { IfErr result (λ e. FailsToRead L.contents L.failed_writes L.unsynced L.read_faults L.write_faults L.calls (AreOfRelation catalog.now rel.0) (sum_of_forks (blocks_at catalog.now rel.0)) lanes.old lanes.new e.tag) }
+    ensures done { IfOk result
+        (Surveys L.contents L.failed_writes L.unsynced L.read_faults L.write_faults L.calls
+        (AreOfRelation catalog.now rel.0) (sum_of_forks (blocks_at catalog.now rel.0))
+        lanes.old lanes.new) }
+    ensures fault { IfErr result
+        (λ e. FailsToRead L.contents L.failed_writes L.unsynced L.read_faults L.write_faults L.calls
+        (AreOfRelation catalog.now rel.0) (sum_of_forks (blocks_at catalog.now rel.0)) lanes.old
+        lanes.new e.tag) }
 {
     let mut largest: Lsn = 0;
     for fork in FORKS {
@@ -128,13 +146,18 @@ pub fn survey<L: BlockLane>(
     requires some { 0 < length lanes.old }
     requires has { HaveTheirs (IsListedByName catalog.now) (map L.contents lanes.old) }
     ensures largest { IfOk result (IsLargestLsn (IsListed catalog.now) (map L.contents lanes.old)) }
-    ensures same { AreOnlyRead L.contents L.failed_writes L.unsynced L.write_faults lanes.old lanes.new }
-    ensures each_once { OnOk result (sum_by L.calls lanes.new ≡ sum_by L.calls lanes.old + catalog_blocks catalog.now) }
+    ensures same { AreOnlyRead L.contents L.failed_writes L.unsynced L.write_faults
+        lanes.old lanes.new }
+    ensures each_once { OnOk result
+        (sum_by L.calls lanes.new ≡ sum_by L.calls lanes.old + catalog_blocks catalog.now) }
     ensures some_read { IfErr result (λ e. sum_by L.calls lanes.old < sum_by L.calls lanes.new) }
-    ensures at_most { sum_by L.calls lanes.new ≤ sum_by L.calls lanes.old + catalog_blocks catalog.now }
+    ensures at_most { sum_by L.calls lanes.new
+        ≤ sum_by L.calls lanes.old + catalog_blocks catalog.now }
     ensures ok { OnOk result (map L.read_faults lanes.new ≡ map L.read_faults lanes.old) }
     ensures listed { IfErr result (λ e. IsListed catalog.now e.tag) }
-    ensures fault { IfErr result (λ e. RoseAt e.tag (length lanes.old) (map L.read_faults lanes.old) (map L.read_faults lanes.new)) }
+    ensures fault { IfErr result
+        (λ e. RoseAt e.tag (length lanes.old) (map L.read_faults lanes.old)
+        (map L.read_faults lanes.new)) }
 {
     let relations = catalog.len() as u32;
     let mut largest: Lsn = 0;

@@ -12,10 +12,13 @@ use Rattle.page_layout.specs.Text.{joined}
 
 -- what a rewrite tells of a page: that it isn't sound, that it is new, or what becomes of it
 unfoldable pub page_rewrite_of : List ℕ → PageRewrite
-page_rewrite_of page = if is_sound_page page then (if is_new_page page then New else Used (rewrite_of page)) else Invalid
+page_rewrite_of page =
+    if is_sound_page page then (if is_new_page page then New else Used (rewrite_of page))
+    else Invalid
 
 abbrev pub no_rewrite_totals : RewriteTotals
-no_rewrite_totals = record { blocks = 0; changed = 0; same = 0; skipped = 0; new = 0; invalid = 0; dead = 0 }
+no_rewrite_totals =
+    record { blocks = 0; changed = 0; same = 0; skipped = 0; new = 0; invalid = 0; dead = 0 }
 
 -- whether a page is changed, the same, skipped, new or invalid
 abbrev pub is_changed_outcome : PageRewrite → Bool
@@ -78,7 +81,8 @@ abbrev pub with_outcome : RewriteTotals → PageRewrite → RewriteTotals
 with_outcome t Invalid = record t { blocks = t.blocks + 1; invalid = t.invalid + 1 }
 with_outcome t New = record t { blocks = t.blocks + 1; new = t.new + 1 }
 with_outcome t (Used Same) = record t { blocks = t.blocks + 1; same = t.same + 1 }
-with_outcome t (Used (Changed dead)) = record t { blocks = t.blocks + 1; changed = t.changed + 1; dead = t.dead + dead }
+with_outcome t (Used (Changed dead)) =
+    record t { blocks = t.blocks + 1; changed = t.changed + 1; dead = t.dead + dead }
 with_outcome t (Used Skipped) = record t { blocks = t.blocks + 1; skipped = t.skipped + 1 }
 
 -- the sums of two totals
@@ -94,7 +98,10 @@ sum_of_rewrite_totals t u = record {
 }
 
 unfoldable pub rewrite_totals_text : RewriteTotals → List ℕ
-rewrite_totals_text t = joined (codes "blocks " ∷ decimal t.blocks ∷ codes " changed " ∷ decimal t.changed ∷ codes " same " ∷ decimal t.same ∷ codes " skipped " ∷ decimal t.skipped ∷ codes " new " ∷ decimal t.new ∷ codes " invalid " ∷ decimal t.invalid ∷ codes " dead " ∷ decimal t.dead ∷ [])
+rewrite_totals_text t =
+    joined (codes "blocks " ∷ decimal t.blocks ∷ codes " changed " ∷ decimal t.changed
+    ∷ codes " same " ∷ decimal t.same ∷ codes " skipped " ∷ decimal t.skipped ∷ codes " new "
+    ∷ decimal t.new ∷ codes " invalid " ∷ decimal t.invalid ∷ codes " dead " ∷ decimal t.dead ∷ [])
 
 -- no number is above what so many pages can give, each with fewer than 65536 line pointers
 pub record IsRewriteWithin (t : RewriteTotals) (blocks : ℕ) : Type 0 where

@@ -82,7 +82,11 @@ sum_of_totals t u = record {
 }
 
 unfoldable pub totals_text : ScanTotals → List ℕ
-totals_text t = joined (codes "blocks " ∷ decimal t.blocks ∷ codes " used " ∷ decimal t.used ∷ codes " new " ∷ decimal t.new ∷ codes " invalid " ∷ decimal t.invalid ∷ codes " normal " ∷ decimal t.normal ∷ codes " redirect " ∷ decimal t.redirect ∷ codes " dead " ∷ decimal t.dead ∷ codes " unused " ∷ decimal t.unused ∷ [])
+totals_text t =
+    joined (codes "blocks " ∷ decimal t.blocks ∷ codes " used " ∷ decimal t.used ∷ codes " new "
+    ∷ decimal t.new ∷ codes " invalid " ∷ decimal t.invalid ∷ codes " normal " ∷ decimal t.normal
+    ∷ codes " redirect " ∷ decimal t.redirect ∷ codes " dead " ∷ decimal t.dead ∷ codes " unused "
+    ∷ decimal t.unused ∷ [])
 
 -- the lines of pages, the first of which is this block
 abbrev pub scan_lines_from : ℕ → List (List ℕ) → List ℕ

@@ -13,7 +13,10 @@ is_new_page page = list_all (λ b. b == 0) page
 -- the page's end stand in this order, the special space on a multiple of 8
 abbrev pub is_sound_header : Header → Bool
 is_sound_header h =
-    not (h.upper == 0) && (nat_lt h.flags 8 && (nat_le h.lower h.upper && (nat_le h.upper h.special && (nat_le h.special 8192 && h.special % 8 == 0))))
+    not (h.upper == 0)
+    && (nat_lt h.flags 8
+    && (nat_le h.lower h.upper
+    && (nat_le h.upper h.special && (nat_le h.special 8192 && h.special % 8 == 0))))
 
 -- new, or with a sound header
 unfoldable pub is_sound_page : List ℕ → Bool

@@ -13,4 +13,5 @@ used_of page = record { header = header_of page; items = item_count page; pointe
 
 -- what is told of a page: that it isn't sound, that it is new, or what it has
 unfoldable pub summary_of : List ℕ → PageSummary
-summary_of page = if is_sound_page page then (if is_new_page page then New else Used (used_of page)) else Invalid
+summary_of page =
+    if is_sound_page page then (if is_new_page page then New else Used (used_of page)) else Invalid

@@ -16,16 +16,24 @@ joined (piece ∷ next ∷ pieces) = piece ++ joined (next ∷ pieces)
 
 -- a log position: its high and its low 32 bits in upper-case hexadecimal
 unfoldable pub position_text : ℕ → List ℕ
-position_text lsn = joined (digits 16 true (lsn / 2 ^ 32) ∷ codes "/" ∷ digits 16 true (lsn % 2 ^ 32) ∷ [])
+position_text lsn =
+    joined (digits 16 true (lsn / 2 ^ 32) ∷ codes "/" ∷ digits 16 true (lsn % 2 ^ 32) ∷ [])
 
 unfoldable pub pointers_text : PointerCounts → List ℕ
-pointers_text p = joined (codes "normal " ∷ decimal p.normal ∷ codes " redirect " ∷ decimal p.redirect ∷ codes " dead " ∷ decimal p.dead ∷ codes " unused " ∷ decimal p.unused ∷ [])
+pointers_text p =
+    joined (codes "normal " ∷ decimal p.normal ∷ codes " redirect " ∷ decimal p.redirect
+    ∷ codes " dead " ∷ decimal p.dead ∷ codes " unused " ∷ decimal p.unused ∷ [])
 
 unfoldable pub header_text : Header → List ℕ
-header_text h = joined (codes "lsn " ∷ position_text h.lsn ∷ codes " flags " ∷ decimal h.flags ∷ codes " lower " ∷ decimal h.lower ∷ codes " upper " ∷ decimal h.upper ∷ codes " special " ∷ decimal h.special ∷ [])
+header_text h =
+    joined (codes "lsn " ∷ position_text h.lsn ∷ codes " flags " ∷ decimal h.flags ∷ codes " lower "
+    ∷ decimal h.lower ∷ codes " upper " ∷ decimal h.upper ∷ codes " special " ∷ decimal h.special
+    ∷ [])
 
 unfoldable pub used_text : UsedPage → List ℕ
-used_text u = joined (header_text u.header ∷ codes " items " ∷ decimal u.items ∷ codes " " ∷ pointers_text u.pointers ∷ [])
+used_text u =
+    joined (header_text u.header ∷ codes " items " ∷ decimal u.items ∷ codes " "
+    ∷ pointers_text u.pointers ∷ [])
 
 abbrev pub summary_text : PageSummary → List ℕ
 summary_text Invalid = codes "invalid"

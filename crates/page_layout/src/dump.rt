@@ -136,7 +136,8 @@ fn append_pointer(
 /// Adds the lines of a page's pointers to a text.
 fn append_pointers(page: &Page, text: &mut Vec<u8>) -> Result<(), Memory>
     requires { is_sound_page page.now ≡ true }
-    ensures { OnOk result (text.new.items ≡ text.old.items ++ pointer_lines page.now (item_count page.now)) }
+    ensures { OnOk result
+        (text.new.items ≡ text.old.items ++ pointer_lines page.now (item_count page.now)) }
 {
     let mut line = Line::new();
     for place in 0..page.items() {

@@ -13,8 +13,10 @@ ghost use Rattle.page_layout.specs.Soundness.{IsUsedPage};
 /// What a log position changes of a page: nothing but what is read back as the position.
 pub fn all_positions()
     // A page that is sound and not new stays so with any position, which is read back.
-    ensures stays_used { (page : List ℕ) (lsn : ℕ) → IsUsedPage page → IsUsedPage (with_lsn lsn page) }
-    ensures reads_back { (page : List ℕ) (lsn : ℕ) → lsn < 2 ^ 64 → lsn_of (with_lsn lsn page) ≡ lsn }
+    ensures stays_used { (page : List ℕ) (lsn : ℕ) → IsUsedPage page
+        → IsUsedPage (with_lsn lsn page) }
+    ensures reads_back { (page : List ℕ) (lsn : ℕ) → lsn < 2 ^ 64
+        → lsn_of (with_lsn lsn page) ≡ lsn }
 
     // The last position that was set counts, and the page's own puts the page back.
     ensures last { (page : List ℕ) (first : ℕ) (second : ℕ)

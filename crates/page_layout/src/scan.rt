@@ -86,7 +86,8 @@ impl ScanTotals {
         requires redirect { self.now.redirect < 2 ^ 63 }
         requires dead { self.now.dead < 2 ^ 63 }
         requires unused { self.now.unused < 2 ^ 63 }
-        ensures small { ((pointers.normal ≤ 65535) × (pointers.redirect ≤ 65535)) × ((pointers.dead ≤ 65535) × (pointers.unused ≤ 65535)) }
+        ensures small { ((pointers.normal ≤ 65535) × (pointers.redirect ≤ 65535))
+            × ((pointers.dead ≤ 65535) × (pointers.unused ≤ 65535)) }
         ensures counted { self.exit.now ≡ record self.entry.now {
           used = self.entry.now.used + 1;
           normal = self.entry.now.normal + pointers.normal;

@@ -67,21 +67,24 @@ HasLog (sampling s) logs = Unit {0}
 abbrev pub HasGoodHead : Asked → Option Logs → Type 0
 HasGoodHead (listing l) logs = Unit {0}
 HasGoodHead (rewriting r) logs = Unit {0}
-HasGoodHead (recovering r) logs = IfSome logs (λ logs. IfSome (logs r.log) (λ file. ¬ HasBadHead file.bytes))
+HasGoodHead (recovering r) logs =
+    IfSome logs (λ logs. IfSome (logs r.log) (λ file. ¬ HasBadHead file.bytes))
 HasGoodHead (sampling s) logs = Unit {0}
 
 -- a recovery has a file at the path of its log whose head is bad, if the logs are known
 abbrev pub HasBadLog : Asked → Option Logs → Type 0
 HasBadLog (listing l) logs = ⊥
 HasBadLog (rewriting r) logs = ⊥
-HasBadLog (recovering r) logs = IfSome logs (λ logs. IsSomeAnd (logs r.log) (λ file. HasBadHead file.bytes))
+HasBadLog (recovering r) logs =
+    IfSome logs (λ logs. IsSomeAnd (logs r.log) (λ file. HasBadHead file.bytes))
 HasBadLog (sampling s) logs = ⊥
 
 -- the logs are known, and one is there, whose head isn't bad
 abbrev pub IsKnownLog : Asked → Option Logs → Type 0
 IsKnownLog (listing l) logs = Unit {0}
 IsKnownLog (rewriting r) logs = Unit {0}
-IsKnownLog (recovering r) logs = IsSomeAnd logs (λ logs. IsSomeAnd (logs r.log) (λ file. ¬ HasBadHead file.bytes))
+IsKnownLog (recovering r) logs =
+    IsSomeAnd logs (λ logs. IsSomeAnd (logs r.log) (λ file. ¬ HasBadHead file.bytes))
 IsKnownLog (sampling s) logs = Unit {0}
 
 -- this file isn't there: the relation's; or, of a recovery whose relation is there, that of its log
@@ -99,7 +102,8 @@ pages_asked (sampling s) paths = sample_relation s.seed s.blocks
 -- the text that is asked for, if it is known: that of a sample is; those of a listing and a rewrite
 -- are if the paths are; that of a recovery depends on its log
 abbrev pub text_asked : Asked → Option Paths → Option (List ℕ)
-text_asked (listing l) known = option_map (λ paths. text_of l.listing (pages_asked (listing l) paths)) known
+text_asked (listing l) known =
+    option_map (λ paths. text_of l.listing (pages_asked (listing l) paths)) known
 text_asked (rewriting r) known = option_map (λ paths. rewrite_text (pages_at r paths)) known
 text_asked (recovering r) known = None
 text_asked (sampling s) known = Some (sample_text s.seed s.blocks)
@@ -170,7 +174,9 @@ RefusesWords _ = ⊥
 -- page is past the log's end; or the log is full. The last two don't happen if the relation is
 -- known
 abbrev pub IsOverLimit : Option (List Page) → PositionLimit → Type 0
-IsOverLimit known (OfPages largest blocks) = PassesLimit largest blocks × IfSome known (λ pages. (largest ≡ largest_lsn pages) × (blocks ≡ length pages))
+IsOverLimit known (OfPages largest blocks) =
+    PassesLimit largest blocks
+    × IfSome known (λ pages. (largest ≡ largest_lsn pages) × (blocks ≡ length pages))
 IsOverLimit known (OfPage lsn end) = (end < lsn) × IfSome known (λ pages. ⊥)
 IsOverLimit known (OfLog end) = (last_position < end + record_size) × IfSome known (λ pages. ⊥)
 
@@ -191,7 +197,8 @@ abbrev pub HasPositionsAt : Asked → Option Paths → Type 0
 HasPositionsAt a known = IfSome known (λ paths. HasPositions a (pages_asked a paths))
 
 -- the cause of each refusal of a command that isn't crowded
-abbrev pub IsRefusal : Asked → Option Paths → Option Logs → FaultCounts → FaultCounts → ToolError → Type 0
+abbrev pub IsRefusal : Asked → Option Paths → Option Logs → FaultCounts → FaultCounts → ToolError
+    → Type 0
 IsRefusal a known logs old new Usage = ⊥
 IsRefusal a known logs old new (Crowded crowding) =
     (crowding ≡ crowding_of (options_of a)) × IsCrowded (options_of a)
@@ -219,7 +226,8 @@ IsRefusal a known logs old new (BadLog path) =
 
 -- A command that was done: it wasn't crowded, the relation was there, its positions stay below the
 -- last one, the log of a recovery was there with a good head, and no count rose
-pub record IsDone (a : Asked) (known : Option Paths) (logs : Option Logs) (old new : FaultCounts) : Type 0 where
+pub record IsDone (a : Asked) (known : Option Paths) (logs : Option Logs)
+    (old new : FaultCounts) : Type 0 where
   pub roomy : ¬ IsCrowded (options_of a)
   pub there : IsThere known (path_of a)
   pub positions : HasPositionsAt a known
@@ -227,12 +235,14 @@ pub record IsDone (a : Asked) (known : Option Paths) (logs : Option Logs) (old n
   pub quiet : new ≡ old
 
 -- how a command ends
-abbrev pub EndsCommand : {T : Type 0} → Asked → Option Paths → Option Logs → FaultCounts → FaultCounts → Result T ToolError → Type 0
+abbrev pub EndsCommand : {T : Type 0} → Asked → Option Paths → Option Logs → FaultCounts
+    → FaultCounts → Result T ToolError → Type 0
 EndsCommand a known logs old new (Ok done) = IsDone a known logs old new
 EndsCommand a known logs old new (Err error) = IsRefusal a known logs old new error
 
 -- how a run ends
-abbrev pub Ends : Option Asked → Option Paths → Option Logs → FaultCounts → FaultCounts → Result Unit ToolError → Type 0
+abbrev pub Ends : Option Asked → Option Paths → Option Logs → FaultCounts → FaultCounts
+    → Result Unit ToolError → Type 0
 Ends None known logs old new (Ok done) = ⊥
 Ends None known logs old new (Err error) = RefusesWords error
 Ends (Some a) known logs old new result = EndsCommand a known logs old new result
@@ -250,10 +260,15 @@ pub record CrowdedIf (options : Options) (status : ℕ) : Type 0 where
 -- Status 3 comes only if the command isn't crowded, no opening failed, and the relation isn't
 -- there, or it is and the log of its recovery isn't; and always then unless an opening failed or
 -- memory was short
-pub record MissingIf (a : Asked) (known : Option Paths) (logs : Option Logs) (reads reads_now status : ℕ) : Type 0 where
-  pub only : status ≡ 3 → (IsMissing known (path_of a) ⊎ (IsThere known (path_of a) × LacksLog a logs))
+pub record MissingIf (a : Asked) (known : Option Paths) (logs : Option Logs)
+    (reads reads_now status : ℕ) : Type 0 where
+  pub only : status ≡ 3
+      → (IsMissing known (path_of a) ⊎ (IsThere known (path_of a) × LacksLog a logs))
       × ¬ IsCrowded (options_of a) × (reads_now ≡ reads)
-  pub always : ¬ IsCrowded (options_of a) → IfSome known (λ paths. IsMissing (Some paths) (path_of a) → (status ≡ 3) ⊎ ((status ≡ 8) ⊎ ((status ≡ 4) × Rose reads reads_now)))
+  pub always : ¬ IsCrowded (options_of a)
+      → IfSome known
+      (λ paths. IsMissing (Some paths) (path_of a)
+      → (status ≡ 3) ⊎ ((status ≡ 8) ⊎ ((status ≡ 4) × Rose reads reads_now)))
   pub always_log : ¬ IsCrowded (options_of a) → IfSome known (λ paths. IfSome logs (λ logs.
       IsThere (Some paths) (path_of a) → LacksLog a (Some logs)
       → (status ≡ 3) ⊎ ((status ≡ 8) ⊎ ((status ≡ 4) × Rose reads reads_now))))
@@ -261,7 +276,8 @@ pub record MissingIf (a : Asked) (known : Option Paths) (logs : Option Logs) (re
 -- Status 10 comes only for a recovery that isn't crowded, of a relation that is there, by a log
 -- whose head is bad, if these are known, and only if no read failed; and always then unless a read
 -- failed or memory was short
-pub record BadLogIf (a : Asked) (known : Option Paths) (logs : Option Logs) (reads reads_now status : ℕ) : Type 0 where
+pub record BadLogIf (a : Asked) (known : Option Paths) (logs : Option Logs)
+    (reads reads_now status : ℕ) : Type 0 where
   pub only : status ≡ 10 → IsThere known (path_of a) × HasBadLog a logs
       × ¬ IsCrowded (options_of a) × (reads_now ≡ reads)
   pub always : ¬ IsCrowded (options_of a) → ¬ Rose reads reads_now
@@ -272,15 +288,21 @@ pub record BadLogIf (a : Asked) (known : Option Paths) (logs : Option Logs) (rea
 -- if they are known, could pass the last position; and always then unless a read failed or memory
 -- was short
 pub record LimitIf (a : Asked) (known : Option Paths) (reads reads_now status : ℕ) : Type 0 where
-  pub only : status ≡ 9 → (is_rewriting a ≡ true) × ¬ IsCrowded (options_of a) × IfSome known (λ paths. IsThere (Some paths) (path_of a) × ArePastLimit (pages_asked a paths))
+  pub only : status ≡ 9
+      → (is_rewriting a ≡ true) × ¬ IsCrowded (options_of a)
+      × IfSome known
+      (λ paths. IsThere (Some paths) (path_of a) × ArePastLimit (pages_asked a paths))
   pub always : is_rewriting a ≡ true → ¬ IsCrowded (options_of a)
-      → IfSome known (λ paths. IsThere (Some paths) (path_of a) → ArePastLimit (pages_asked a paths) → (status ≡ 9) ⊎ ((status ≡ 8) ⊎ ((status ≡ 4) × Rose reads reads_now)))
+      → IfSome known
+      (λ paths. IsThere (Some paths) (path_of a) → ArePastLimit (pages_asked a paths)
+      → (status ≡ 9) ⊎ ((status ≡ 8) ⊎ ((status ≡ 4) × Rose reads reads_now)))
 
 -- the faults of writing are those of a rewrite and of a recovery alone, those of the log of a
 -- rewrite alone, and those of reading of a relation at a path
 pub record FaultIf (request : Option Asked) (old new : FaultCounts) (status : ℕ) : Type 0 where
   pub reads : status ≡ 4 → Rose old.reads new.reads × IsSomeAnd request (λ a. IsSome (path_of a))
-  pub writes : status ≡ 5 → Rose old.writes new.writes × IsSomeAnd request (λ a. is_writing a ≡ true)
+  pub writes : status ≡ 5
+      → Rose old.writes new.writes × IsSomeAnd request (λ a. is_writing a ≡ true)
   pub logs : status ≡ 6 → Rose old.logs new.logs × IsSomeAnd request (λ a. is_rewriting a ≡ true)
   pub outs : status ≡ 7 → Rose old.outs new.outs
 
@@ -290,7 +312,8 @@ pub record Wrote (text : List ℕ) (old new : Option (List ℕ)) (status : ℕ) 
   pub prefix : IfSome old (λ bytes. IsSomeAnd new (GainsPrefix text bytes))
 
 -- the text of a recovery's log, if the logs are known, was put, or a prefix of it
-abbrev pub PutsLogOf : {E : Type 0} → Asked → Option Logs → Option (List ℕ) → Option (List ℕ) → Result Unit E → Type 0
+abbrev pub PutsLogOf : {E : Type 0} → Asked → Option Logs → Option (List ℕ) → Option (List ℕ)
+    → Result Unit E → Type 0
 PutsLogOf (listing l) logs old new result = Unit {0}
 PutsLogOf (rewriting r) logs old new result = Unit {0}
 PutsLogOf (recovering r) logs old new result =
@@ -342,18 +365,22 @@ status_line request limit missing status =
 
 -- the text was put, or a prefix of it and the sink's count of faults rose
 abbrev pub Said : List ℕ → Option (List ℕ) → Option (List ℕ) → ℕ → ℕ → Type 0
-Said text old new faults faults_now = (result : Result Unit Failed) × Puts text old new result × HasCause faults faults_now result
+Said text old new faults faults_now =
+    (result : Result Unit Failed) × Puts text old new result × HasCause faults faults_now result
 
 -- The line of the status was said; that of status 9 with a position limit that was passed, that of
 -- status 3 with the path of a file that isn't there
-pub record SaysStatus (request : Option Asked) (known : Option Paths) (logs : Option Logs) (old new : Option (List ℕ)) (faults faults_now status : ℕ) : Type 0 where
+pub record SaysStatus (request : Option Asked) (known : Option Paths) (logs : Option Logs)
+    (old new : Option (List ℕ)) (faults faults_now status : ℕ) : Type 0 where
   pub limit : PositionLimit
-  pub passed : status ≡ 9 → IsSomeAnd request (λ a. IsOverLimit (option_map (pages_asked a) known) limit)
+  pub passed : status ≡ 9
+      → IsSomeAnd request (λ a. IsOverLimit (option_map (pages_asked a) known) limit)
   pub missing : List ℕ
   pub absent : status ≡ 3 → IsSomeAnd request (λ a. IsAbsent a known logs missing)
   pub said : Said (status_line request limit missing status) old new faults faults_now
 
 -- the line of a refusal was said, and the status is its own
-pub record SaysAs (error : ToolError) (old new : Option (List ℕ)) (faults faults_now status : ℕ) : Type 0 where
+pub record SaysAs (error : ToolError) (old new : Option (List ℕ))
+    (faults faults_now status : ℕ) : Type 0 where
   pub status_is : status ≡ status_of_error error
   pub said : Said (error_line error) old new faults faults_now

@@ -35,7 +35,9 @@ IsCauseOf reads reads_now outs outs_now OutFault = Rose outs outs_now
 IsCauseOf reads reads_now outs outs_now Memory = Unit {0}
 
 -- the counts of faults of reads and of the output never fall, and both stay if all went well
-pub record HasListingCause {T : Type 0} (reads reads_now outs outs_now : ℕ) (result : Result T ListingError) : Type 0 where
+pub record HasListingCause {T : Type 0} (reads reads_now outs outs_now : ℕ)
+    (result : Result T ListingError) : Type 0 where
   pub reads_later : reads ≤ reads_now
   pub outs_later : outs ≤ outs_now
-  pub cause : MatchResult result (λ _. (reads_now ≡ reads) × (outs_now ≡ outs)) (IsCauseOf reads reads_now outs outs_now)
+  pub cause : MatchResult result (λ _. (reads_now ≡ reads) × (outs_now ≡ outs))
+      (IsCauseOf reads reads_now outs outs_now)

@@ -48,7 +48,8 @@ pub record SweepsPast (lanes front : ℕ) (v : View) : Type 0 where
 
 -- A sound page that the lane of a block can have held as the table was opened has a position past
 -- the log's end, which wasn't before one that the view had seen
-pub record IsPastEnd {L G : Type 0} (contents : L → Option Pages) (t : FrameTable L G) (v : View) (lsn end : ℕ) : Type 0 where
+pub record IsPastEnd {L G : Type 0} (contents : L → Option Pages) (t : FrameTable L G) (v : View)
+    (lsn end : ℕ) : Type 0 where
   pub tag : Tag
   pub named : names_block tag ≡ true
   pub listed : has_block (relations_of t) tag ≡ true
@@ -60,7 +61,8 @@ pub record IsPastEnd {L G : Type 0} (contents : L → Option Pages) (t : FrameTa
   pub seen : v.end_seen ≤ end
 
 -- why a pass whose view was v, and is w, ends a rewrite: it met a fault, or has seen the log down
-abbrev pub PassMeets : {L G : Type 0} → (L → Option Pages) → FrameTable L G → View → View → RewriteError → Type 0
+abbrev pub PassMeets : {L G : Type 0} → (L → Option Pages) → FrameTable L G → View → View
+    → RewriteError → Type 0
 PassMeets contents t v w ReadFault = 0 < w.met.reads
 PassMeets contents t v w WriteFault = 0 < w.met.writes
 PassMeets contents t v w LogFault = w.saw_down ≡ true
@@ -68,32 +70,41 @@ PassMeets contents t v w OutFault = ⊥
 PassMeets contents t v w Memory = ⊥
 PassMeets contents t v w (OverLimit (OfPages largest blocks)) = ⊥
 PassMeets contents t v w (OverLimit (OfPage lsn end)) = IsPastEnd contents t v lsn end
-PassMeets contents t v w (OverLimit (OfLog end)) = (last_position < end + record_size) × (end ≤ w.end_seen)
+PassMeets contents t v w (OverLimit (OfLog end)) =
+    (last_position < end + record_size) × (end ≤ w.end_seen)
 
 module _ {L G : Type 0} (contents : L → Option Pages) (m : Manager L G) where
   -- The last pass made a checkpoint, and the others did nothing
   pub record ChecksByLast (ps qs : List PassState) : Type 0 where
     pub counted : length qs ≡ length ps
     pub others : (i : ℕ) → i < length ps - 1 → get_elem? qs i ≡ get_elem? ps i
-    pub last : (p q : PassState) → get_elem? ps (length ps - 1) ≡ some p → get_elem? qs (length ps - 1) ≡ some q → Belongs contents m q × KeepsCallers p q
+    pub last : (p q : PassState) → get_elem? ps (length ps - 1) ≡ some p
+        → get_elem? qs (length ps - 1) ≡ some q → Belongs contents m q × KeepsCallers p q
 
 -- the last one has swept each of so many lanes past the front of each pass, and met no fault
 pub record StoresAll (lanes : ℕ) (ps qs : List PassState) : Type 0 where
   pub upto : ℕ
   pub fronts : EachPass (λ q. q.view.front ≤ upto) qs
-  pub last : (p q : PassState) → get_elem? ps (length ps - 1) ≡ some p → get_elem? qs (length ps - 1) ≡ some q → HasSwept lanes upto q.view × (q.view.met ≡ p.view.met)
+  pub last : (p q : PassState) → get_elem? ps (length ps - 1) ≡ some p
+      → get_elem? qs (length ps - 1) ≡ some q
+      → HasSwept lanes upto q.view × (q.view.met ≡ p.view.met)
 
 -- the last one was refused for this reason
-abbrev pub LastMeets : {L G : Type 0} → (L → Option Pages) → FrameTable L G → List PassState → List PassState → RewriteError → Type 0
-LastMeets contents t ps qs e = (p q : PassState) → get_elem? ps (length ps - 1) ≡ some p → get_elem? qs (length ps - 1) ≡ some q → PassMeets contents t p.view q.view e
+abbrev pub LastMeets : {L G : Type 0} → (L → Option Pages) → FrameTable L G → List PassState
+    → List PassState → RewriteError → Type 0
+LastMeets contents t ps qs e =
+    (p q : PassState) → get_elem? ps (length ps - 1) ≡ some p
+    → get_elem? qs (length ps - 1) ≡ some q → PassMeets contents t p.view q.view e
 
 module _ {L G : Type 0} (contents : L → Option Pages) (m : Manager L G) (fork : Fork) where
   -- The job ended early, for this reason, and nothing was done after it; or it was whole, and the
   -- checkpoint was refused
   abbrev pub EndsEarly : List PassState → List PassState → List PassState → RewriteError → Type 0
   EndsEarly ps qs zs e =
-      ((why : JobError) × (e ≡ rewrite_error why) × (zs ≡ qs) × EndsRewrite contents m 0 fork ps qs why)
-      ⊎ ((why : CheckpointError) × (e ≡ checkpoint_error why) × LastMeets contents m.table qs zs (checkpoint_error why)
+      ((why : JobError) × (e ≡ rewrite_error why) × (zs ≡ qs)
+      × EndsRewrite contents m 0 fork ps qs why)
+      ⊎ ((why : CheckpointError) × (e ≡ checkpoint_error why)
+      × LastMeets contents m.table qs zs (checkpoint_error why)
       × ((counts : Totals) × RewritesFork contents m 0 fork (workers_in ps) (workers_in qs) counts))
 
   module _ (rounds : ℕ) where
@@ -109,7 +120,8 @@ module _ {L G : Type 0} (contents : L → Option Pages) (m : Manager L G) (fork 
 
     -- The passes `ps` made a rewrite, and, if it was whole, the last of them a checkpoint. No other
     -- page was put, and all passes can be given back
-    pub record StoresRewrite (ps zs : List PassState) (end : Result RewriteTotals RewriteError) : Type 0 where
+    pub record StoresRewrite (ps zs : List PassState)
+        (end : Result RewriteTotals RewriteError) : Type 0 where
       -- after the job they were these
       pub qs : List PassState
       pub alone : RewritesAlone contents m 0 fork ps qs zs

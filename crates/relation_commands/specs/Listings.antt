@@ -19,14 +19,19 @@ text_of Dump pages = dump_text pages
 
 -- Lanes after a listing of the blocks of a fork: if its pages are known, they are still in the
 -- lanes, and none of its blocks is one whose last write failed; no write failed
-pub record LeavesLanes {L : Type 0} (contents : L → Option Pages) (failed : L → Marks) (write_faults : L → ℕ) (fork : Fork) (blocks : ℕ) (lanes lanes' : List L) : Type 0 where
-  pub stay : (pages : List Page) → HoldPages fork pages (map contents lanes) → blocks ≡ length pages → HoldPages fork pages (map contents lanes')
-  pub unfailed : (pages : List Page) → HoldPages fork pages (map contents lanes) → blocks ≡ length pages
+pub record LeavesLanes {L : Type 0} (contents : L → Option Pages) (failed : L → Marks)
+    (write_faults : L → ℕ) (fork : Fork) (blocks : ℕ) (lanes lanes' : List L) : Type 0 where
+  pub stay : (pages : List Page) → HoldPages fork pages (map contents lanes) → blocks ≡ length pages
+      → HoldPages fork pages (map contents lanes')
+  pub unfailed : (pages : List Page) → HoldPages fork pages (map contents lanes)
+      → blocks ≡ length pages
       → (block : ℕ) → block < blocks → mark_in (map failed lanes') (tag_at fork block) ≡ false
   pub writes : sum_by write_faults lanes' ≡ 0
 
 -- No block of the relation at a path came to those whose last write failed; at all other paths
 -- these are as they were
-pub record NoneFails (seg_blocks : ℕ) (paths : Paths) (path : List ℕ) (old new : PathMarks) : Type 0 where
+pub record NoneFails (seg_blocks : ℕ) (paths : Paths) (path : List ℕ)
+    (old new : PathMarks) : Type 0 where
   pub others : (other : List ℕ) → bytes_eq other path ≡ false → new other ≡ old other
-  pub here : (block : ℕ) → block < length (relation_of seg_blocks (paths path)) → new path block ≡ true → old path block ≡ true
+  pub here : (block : ℕ) → block < length (relation_of seg_blocks (paths path))
+      → new path block ≡ true → old path block ≡ true

@@ -19,4 +19,5 @@ redone_lines r = recover_lines r.base r.end r.entries r.blocks
 
 -- the text of a recovery by this log
 abbrev pub recover_text : Log → List ℕ
-recover_text log = recover_lines log.base (log_end log) (length log.entries) (block_count log.entries)
+recover_text log =
+    recover_lines log.base (log_end log) (length log.entries) (block_count log.entries)

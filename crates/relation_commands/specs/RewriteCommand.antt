@@ -31,15 +31,19 @@ module _ {L : Type 0} (contents : L → Option Pages) where
   abbrev pub IsSurveyRefusal : RelationFork → List L → ℕ → RewriteError → Type 0
   IsSurveyRefusal relation lanes faults ReadFault = 0 < faults
   IsSurveyRefusal relation lanes faults Memory = faults ≡ 0
-  IsSurveyRefusal relation lanes faults (OverLimit (OfPages largest blocks)) = (faults ≡ 0) × PassesLimit largest blocks
-      × ((pages : List Page) → HavePages contents relation lanes pages → (largest ≡ largest_lsn pages) × (blocks ≡ length pages))
+  IsSurveyRefusal relation lanes faults (OverLimit (OfPages largest blocks)) =
+      (faults ≡ 0) × PassesLimit largest blocks
+      × ((pages : List Page) → HavePages contents relation lanes pages
+      → (largest ≡ largest_lsn pages) × (blocks ≡ length pages))
   IsSurveyRefusal relation lanes faults _ = ⊥
 
-module _ {L : Type 0} (contents : L → Option Pages) (failed : L → Marks) (read_faults write_faults : L → ℕ) where
+module _ {L : Type 0} (contents : L → Option Pages) (failed : L → Marks)
+    (read_faults write_faults : L → ℕ) where
   -- The lanes of the relation that is open, and the position where its log is to begin, once they
   -- were surveyed: no call failed, and no block was written. If the paths are known the relation is
   -- there, its pages stand in the lanes, and no record of theirs passes the last position
-  pub record AreSurveyed (known : Option Paths) (r : LoggedAsked) (relation : RelationFork) (base : ℕ) (lanes : List L) : Type 0 where
+  pub record AreSurveyed (known : Option Paths) (r : LoggedAsked) (relation : RelationFork)
+      (base : ℕ) (lanes : List L) : Type 0 where
     pub count : length lanes ≡ r.options.lanes
     pub reads : sum_by read_faults lanes ≡ 0
     pub writes : sum_by write_faults lanes ≡ 0
@@ -54,7 +58,8 @@ module _ {L : Type 0} (contents : L → Option Pages) (failed : L → Marks) (re
 -- A log was opened at a path, and is still empty; or none was, and all logs are as they were
 abbrev pub OpensLog : {G : Type 0} → Option G → List ℕ → Option Logs → Option Logs → List ℕ → Type 0
 OpensLog None path old new at = new ≡ old
-OpensLog (Some log) path old new at = (new ≡ option_map (with_log path empty_log) old) × IfSome old (λ _. at ≡ path)
+OpensLog (Some log) path old new at =
+    (new ≡ option_map (with_log path empty_log) old) × IfSome old (λ _. at ≡ path)
 
 -- why no log was begun: its opening failed, or a call of it did, as its own count of faults says
 abbrev pub IsLogRefusal : ℕ → ℕ → ℕ → RewriteError → Type 0
@@ -72,7 +77,8 @@ IsFaultOf old new Memory = Unit {0}
 IsFaultOf old new (OverLimit limit) = Unit {0}
 
 -- No count fell, and all stay if all went well
-pub record HasFaultOf {T : Type 0} (old new : FaultCounts) (result : Result T RewriteError) : Type 0 where
+pub record HasFaultOf {T : Type 0} (old new : FaultCounts)
+    (result : Result T RewriteError) : Type 0 where
   pub later : CountsLater old new
   pub cause : MatchResult result (λ _. new ≡ old) (IsFaultOf old new)
 
@@ -98,7 +104,8 @@ rewrite_status (Ok done) = 0
 rewrite_status (Err e) = status_of_error (rewrite_tool_error e)
 
 -- what an end leaves of the files
-abbrev pub LeavesByEnd : {T : Type 0} → LoggedAsked → Result T RewriteError → HostFiles → HostFiles → Type 0
+abbrev pub LeavesByEnd : {T : Type 0} → LoggedAsked → Result T RewriteError → HostFiles → HostFiles
+    → Type 0
 LeavesByEnd r result old new = RewritesFiles r (rewrite_status result) old new
 
 -- why the text isn't out: its put failed, or there was no memory for it

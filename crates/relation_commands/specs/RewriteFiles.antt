@@ -49,13 +49,15 @@ files_in contents failed logs writes faults host =
     files_of (contents host) (failed host) (logs host) (writes host) (faults host)
 
 -- the files became this, if they are known
-abbrev pub BecomesOf : Option HostFiles → Option HostFiles → (HostFiles → HostFiles → Type 0) → Type 0
+abbrev pub BecomesOf : Option HostFiles → Option HostFiles → (HostFiles → HostFiles → Type 0)
+    → Type 0
 BecomesOf old new Leaves = IfSome old (λ files. IsSomeAnd new (Leaves files))
 
 -- the relation that was opened has these pages as its blocks; all its other bytes, and all other
 -- paths, are as they were
 abbrev pub with_blocks : OpenAt → List Page → Paths → Paths
-with_blocks at pages paths = λ path. if bytes_eq path at.path then restored at.seg_blocks (paths path) pages else paths path
+with_blocks at pages paths =
+    λ path. if bytes_eq path at.path then restored at.seg_blocks (paths path) pages else paths path
 
 abbrev pub relation_at : LoggedAsked → OpenAt
 relation_at r = record { path = r.path; seg_blocks = r.options.seg_blocks }
@@ -82,10 +84,12 @@ pub record KeepsFiles (r : LoggedAsked) (old new : HostFiles) : Type 0 where
   pub logs : new.logs ≡ old.logs
 
 -- The relation has these pages now, and this file is at the log's path; all else is as it was
-pub record Changes (r : LoggedAsked) (old new : HostFiles) (after : List Page) (file : StoredLog) : Type 0 where
+pub record Changes (r : LoggedAsked) (old new : HostFiles) (after : List Page)
+    (file : StoredLog) : Type 0 where
   pub paths : new.paths ≡ with_blocks (relation_at r) after old.paths
   pub logs : new.logs ≡ with_log r.log file old.logs
-  pub failed : (other : List ℕ) → bytes_eq other r.path ≡ false → new.failed other ≡ old.failed other
+  pub failed : (other : List ℕ) → bytes_eq other r.path ≡ false
+      → new.failed other ≡ old.failed other
 
 -- these are the first bytes of the head of a log that begins there, or all of them
 pub record IsHeadBegun (base : ℕ) (bytes : List ℕ) : Type 0 where
@@ -126,8 +130,10 @@ pub record IsRewrittenAt (r : LoggedAsked) (old new : HostFiles) : Type 0 where
   pub after : List Page
   pub file : StoredLog
   pub changes : Changes r old new after file
-  pub rewritten : IsRewrittenFile main_rule (names_of (fork_at r old.paths)) (log_base (pages_at r old.paths)) (pages_at r old.paths) after file
-  pub unfailed : (block : ℕ) → block < length (pages_at r old.paths) → new.failed r.path block ≡ false
+  pub rewritten : IsRewrittenFile main_rule (names_of (fork_at r old.paths))
+      (log_base (pages_at r old.paths)) (pages_at r old.paths) after file
+  pub unfailed : (block : ℕ) → block < length (pages_at r old.paths)
+      → new.failed r.path block ≡ false
 
 -- What a rewrite leaves by its status: nothing is written before the log is opened, which no
 -- refusal of the words, the path or the positions is

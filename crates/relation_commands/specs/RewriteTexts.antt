@@ -10,7 +10,9 @@ use Rattle.relation_commands.specs.Limits.{log_base}
 -- the line of the totals, and that of the log, with the positions where it begins and ends
 abbrev pub rewrite_lines : RewriteTotals → ℕ → ℕ → List ℕ
 rewrite_lines totals base end =
-    joined (rewrite_totals_text totals ∷ codes "\nlog " ∷ position_text base ∷ codes " " ∷ position_text end ∷ codes "\n" ∷ [])
+    joined
+    (rewrite_totals_text totals ∷ codes "\nlog " ∷ position_text base ∷ codes " "
+    ∷ position_text end ∷ codes "\n" ∷ [])
 
 -- how many of the pages a rewrite changes
 abbrev pub changed_pages : List Page → ℕ

@@ -61,12 +61,15 @@ IsRewriteCause reads writes logs logs_now OutFault = ⊥
 IsRewriteCause reads writes logs logs_now Memory = Unit {0}
 IsRewriteCause reads writes logs logs_now (OverLimit (OfPages largest blocks)) = ⊥
 IsRewriteCause reads writes logs logs_now (OverLimit (OfPage lsn end)) = end < lsn
-IsRewriteCause reads writes logs logs_now (OverLimit (OfLog end)) = last_position < end + record_size
+IsRewriteCause reads writes logs logs_now (OverLimit (OfLog end)) =
+    last_position < end + record_size
 
 -- No fault was counted if all went well; the log's count never falls
-pub record HasRewriteCause (reads writes logs logs_now : ℕ) (end : Result RewriteTotals RewriteError) : Type 0 where
+pub record HasRewriteCause (reads writes logs logs_now : ℕ)
+    (end : Result RewriteTotals RewriteError) : Type 0 where
   pub logs_later : logs ≤ logs_now
-  pub cause : MatchResult end (λ _. (reads ≡ 0) × (writes ≡ 0) × (logs_now ≡ logs)) (IsRewriteCause reads writes logs logs_now)
+  pub cause : MatchResult end (λ _. (reads ≡ 0) × (writes ≡ 0) × (logs_now ≡ logs))
+      (IsRewriteCause reads writes logs logs_now)
 
 -- the refusals that don't come from positions
 abbrev pub HasPositionsLeft : RewriteError → Type 0
@@ -85,7 +88,8 @@ module _ {L : Type 0} (contents : L → Option Pages) where
 
   -- These are its pages, the contents of all lanes are known, and no page is past the log's
   -- beginning
-  pub record ArePages (r : RelationFork) (base : ℕ) (lanes : List L) (pages : List Page) : Type 0 where
+  pub record ArePages (r : RelationFork) (base : ℕ) (lanes : List L)
+      (pages : List Page) : Type 0 where
     pub have : HavePages r lanes pages
     pub known : All (λ lane. is_some (contents lane) ≡ true) lanes
     pub within : largest_lsn pages ≤ base
@@ -98,23 +102,37 @@ module _ {L : Type 0} (contents : L → Option Pages) where
 abbrev pub failed_after : {L : Type 0} → (L → Marks) → RelationFork → List L → ℕ → Bool
 failed_after failed r lanes block = mark_in (map failed lanes) (tag_at r.fork block)
 
-module _ {L G : Type 0} (contents : L → Option Pages) (failed : L → Marks) (bytes : G → Option (List ℕ)) (synced : G → ℕ)
+module _ {L G : Type 0} (contents : L → Option Pages) (failed : L → Marks)
+    (bytes : G → Option (List ℕ)) (synced : G → ℕ)
     (write_faults : L → ℕ) (log_faults : G → ℕ) where
   -- What a rewrite leaves of the lanes and of the log
-  pub record LeavesRewritten (r : RelationFork) (base : ℕ) (lanes lanes' : List L) (log' : G) (end : Result RewriteTotals RewriteError) : Type 0 where
+  pub record LeavesRewritten (r : RelationFork) (base : ℕ) (lanes lanes' : List L) (log' : G)
+      (end : Result RewriteTotals RewriteError) : Type 0 where
     -- something follows the log's bytes only if a call of the log failed
-    pub either : (pages : List Page) (known : List ℕ) → ArePages contents r base lanes pages → bytes log' ≡ Some known
-        → (x : LeavesEither (rule_of 0 r.fork) (names_of r) base pages (pages_after contents r lanes' pages) (failed_after failed r lanes') (record { bytes = known; synced = synced log' }))
+    pub either : (pages : List Page) (known : List ℕ) → ArePages contents r base lanes pages
+        → bytes log' ≡ Some known
+        → (x : LeavesEither (rule_of 0 r.fork) (names_of r) base pages
+        (pages_after contents r lanes' pages) (failed_after failed r lanes')
+        (record { bytes = known; synced = synced log' }))
         × (x.begins.rest ≢ [] → 0 < log_faults log')
     -- if a block's last write failed, a lane counts it
-    pub marked : (pages : List Page) → ArePages contents r base lanes pages → (block : ℕ) → block < r.blocks
+    pub marked : (pages : List Page) → ArePages contents r base lanes pages → (block : ℕ)
+        → block < r.blocks
         → failed_after failed r lanes' block ≡ true → 0 < sum_by write_faults lanes'
-    pub whole : IfOk end (λ totals. (pages : List Page) (known : List ℕ) → ArePages contents r base lanes pages → bytes log' ≡ Some known
-        → IsRewrittenFile (rule_of 0 r.fork) (names_of r) base pages (pages_after contents r lanes' pages) (record { bytes = known; synced = synced log' }))
-    pub totals : IfOk end (λ totals. (pages : List Page) → ArePages contents r base lanes pages → totals ≡ rewrite_totals_of pages)
+    pub whole : IfOk end
+        (λ totals. (pages : List Page) (known : List ℕ) → ArePages contents r base lanes pages
+        → bytes log' ≡ Some known
+        → IsRewrittenFile (rule_of 0 r.fork) (names_of r) base pages
+        (pages_after contents r lanes' pages) (record { bytes = known; synced = synced log' }))
+    pub totals : IfOk end
+        (λ totals. (pages : List Page) → ArePages contents r base lanes pages
+        → totals ≡ rewrite_totals_of pages)
     -- each block of the relation is still in its lane
     pub held : (pages : List Page) → ArePages contents r base lanes pages
         → HoldPages r.fork (pages_after contents r lanes' pages) (map contents lanes')
-    pub unfailed : OnOk end ((pages : List Page) → ArePages contents r base lanes pages → (block : ℕ) → block < r.blocks → failed_after failed r lanes' block ≡ false)
+    pub unfailed : OnOk end
+        ((pages : List Page) → ArePages contents r base lanes pages → (block : ℕ) → block < r.blocks
+        → failed_after failed r lanes' block ≡ false)
     -- no position is past the last one, or past the log's end
-    pub positions : IfErr end (λ e. (pages : List Page) → ArePages contents r base lanes pages → HasPositionsLeft e)
+    pub positions : IfErr end
+        (λ e. (pages : List Page) → ArePages contents r base lanes pages → HasPositionsLeft e)

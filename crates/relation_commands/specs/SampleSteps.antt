@@ -34,7 +34,8 @@ module _ {L : Type 0} (contents : L → Option Pages) where
 
   -- The relation of these pages was rewritten over its lanes: the scan totals of those that the
   -- lanes have now don't depend on their log positions
-  pub record IsSampleRewritten (relation : RelationFork) (pages : List Page) (rewritten : Rewritten L) : Type 0 where
+  pub record IsSampleRewritten (relation : RelationFork) (pages : List Page)
+      (rewritten : Rewritten L) : Type 0 where
     pub after : List Page
     pub have : HavePages contents relation rewritten.lanes.items after
     pub alike : totals_of after ≡ totals_of (map after_rewrite pages)
@@ -52,4 +53,5 @@ sample_totals_of pages = record {
 
 -- the lines of a sample
 abbrev pub sample_lines : SampleTotals → List ℕ
-sample_lines t = totals_line t.before ++ (rewrite_lines t.rewrite t.log.base t.log.end ++ totals_line t.after)
+sample_lines t =
+    totals_line t.before ++ (rewrite_lines t.rewrite t.log.base t.log.end ++ totals_line t.after)

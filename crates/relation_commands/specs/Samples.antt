@@ -16,11 +16,13 @@ use Rattle.relation_commands.specs.RewriteTexts.{rewrite_text}
 abbrev pub sample_text : ℕ → ℕ → List ℕ
 sample_text seed blocks =
     let pages = sample_relation seed blocks in
-    totals_line (totals_of pages) ++ (rewrite_text pages ++ totals_line (totals_of (map after_rewrite pages)))
+    totals_line (totals_of pages)
+    ++ (rewrite_text pages ++ totals_line (totals_of (map after_rewrite pages)))
 
 -- the cause of each refusal of a sample: it meets no fault but that of the output
 abbrev pub IsSampleRefusal : Options → ℕ → ℕ → ToolError → Type 0
-IsSampleRefusal options outs outs_now (Crowded crowding) = (crowding ≡ crowding_of options) × IsCrowded options
+IsSampleRefusal options outs outs_now (Crowded crowding) =
+    (crowding ≡ crowding_of options) × IsCrowded options
 IsSampleRefusal options outs outs_now OutFault = Rose outs outs_now × ¬ IsCrowded options
 IsSampleRefusal options outs outs_now Memory = Unit {0}
 IsSampleRefusal options outs outs_now _ = ⊥

@@ -25,7 +25,8 @@ log_of m = m.table.table.shared.key.log.value
 
 -- The manager has the blocks of this fork and no others, and a log that begins at `base`; these are
 -- all its passes, of which none has done anything
-pub record IsStarted {L G : Type 0} (contents : L → Option Pages) (r : RelationFork) (base : ℕ) (m : Manager L G) (ps : List PassState) : Type 0 where
+pub record IsStarted {L G : Type 0} (contents : L → Option Pages) (r : RelationFork) (base : ℕ)
+    (m : Manager L G) (ps : List PassState) : Type 0 where
   pub entries : relations_of m.table ≡ relation_entry r ∷ []
   pub catalog : IsCatalogOf r.fork r.blocks (relations_of m.table)
   pub counted : length (opened_of m.table) ≡ lanes_in m.table

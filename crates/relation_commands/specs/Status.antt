@@ -40,7 +40,8 @@ status_of (Ok done) = 0
 status_of (Err error) = status_of_error error
 
 abbrev pub crowding_text : Crowding → List ℕ
-crowding_text c = joined (decimal c.backends ∷ codes " backends, " ∷ decimal c.frames ∷ codes " frames" ∷ [])
+crowding_text c =
+    joined (decimal c.backends ∷ codes " backends, " ∷ decimal c.frames ∷ codes " frames" ∷ [])
 
 abbrev pub usage_text : List ℕ
 usage_text = codes "usage: scan PATH, dump PATH, rewrite PATH --log FILE, sample SEED BLOCKS"
@@ -56,8 +57,10 @@ bad_log_text path = codes "bad log: " ++ path
 
 -- a position of a page and the number of blocks, or the log's end, or the log's end alone
 abbrev pub position_limit_text : PositionLimit → List ℕ
-position_limit_text (OfPages page blocks) = joined (codes "page " ∷ position_text page ∷ codes ", blocks " ∷ decimal blocks ∷ [])
-position_limit_text (OfPage lsn end) = joined (codes "page " ∷ position_text lsn ∷ codes ", end " ∷ position_text end ∷ [])
+position_limit_text (OfPages page blocks) =
+    joined (codes "page " ∷ position_text page ∷ codes ", blocks " ∷ decimal blocks ∷ [])
+position_limit_text (OfPage lsn end) =
+    joined (codes "page " ∷ position_text lsn ∷ codes ", end " ∷ position_text end ∷ [])
 position_limit_text (OfLog end) = codes "end " ++ position_text end
 
 abbrev pub limit_text : PositionLimit → List ℕ

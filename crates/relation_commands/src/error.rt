@@ -22,7 +22,8 @@ pub struct Crowding {
 /// How crowded the backends would be, if they need more frames: each pins one, and two are kept
 /// besides.
 pub(crate) fn crowding_in(options: &Options) -> Option<Crowding>
-    ensures crowded { IfSome result (λ crowding. (crowding ≡ crowding_of options.now) × IsCrowded options.now) }
+    ensures crowded { IfSome result
+        (λ crowding. (crowding ≡ crowding_of options.now) × IsCrowded options.now) }
     ensures roomy { result ≡ None → ¬ IsCrowded options.now }
 {
     let Options {

@@ -47,8 +47,10 @@ impl fmt::Display for PositionLimit {
 /// blocks: at that position, rounded up to a multiple of 8. It is refused if a record of each block
 /// could pass the last position.
 pub(crate) fn log_base(largest: Lsn, blocks: u32) -> Result<Lsn, PositionLimit>
-    ensures base { IfOk result (λ base. (base ≡ rounded_up largest) × (base + 8224 * blocks ≤ last_position)) }
-    ensures over { IfErr result (λ limit. (limit ≡ PositionLimit.OfPages largest blocks) × PassesLimit largest blocks) }
+    ensures base { IfOk result
+        (λ base. (base ≡ rounded_up largest) × (base + 8224 * blocks ≤ last_position)) }
+    ensures over { IfErr result
+        (λ limit. (limit ≡ PositionLimit.OfPages largest blocks) × PassesLimit largest blocks) }
 {
     let over = PositionLimit::OfPages { largest, blocks };
     // Tested before it is rounded up, which a position near 2^64 couldn't be.

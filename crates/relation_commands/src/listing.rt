@@ -121,7 +121,8 @@ fn list_blocks<L: BlockLane + Send, R: Threads + Wait + Sync, O: Sink + Send, T:
     requires several { 2 ≤ vec_len passes }
     requires few { vec_len passes ≤ 64 }
     requires free { HaveNoTokens L.contents manager.now passes.items }
-    ensures passes { ReadParts L.contents manager.now 0 listed.relation.fork (workers_in passes.items) (workers_in result.passes.items) }
+    ensures passes { ReadParts L.contents manager.now 0 listed.relation.fork
+        (workers_in passes.items) (workers_in result.passes.items) }
     ensures last { StaysBeside L.contents manager.now passes.items result.passes.items }
     ensures met { OnOk result.end (MeetNothing passes.items result.passes.items) }
     // Beside them the last pass made so many rounds of the background writer.
@@ -134,7 +135,9 @@ fn list_blocks<L: BlockLane + Send, R: Threads + Wait + Sync, O: Sink + Send, T:
         → IfOk result.end (λ totals. scan_totals_in totals ≡ totals_of pages) }
     ensures quiet { OnOk result.end (O.faults out.new ≡ O.faults out.old) }
     ensures later { O.faults out.old ≤ O.faults out.new }
-    ensures cause { IfErr result.end (EndsJob L.contents manager.now 0 listed.relation.fork passes.items result.passes.items (O.faults out.old) (O.faults out.new)) }
+    ensures cause { IfErr result.end
+        (EndsJob L.contents manager.now 0 listed.relation.fork passes.items result.passes.items
+        (O.faults out.old) (O.faults out.new)) }
 {
     let (rel, fork) = (RelNo(0), listed.relation.fork);
     let mut work = Rounds::new(listed.rounds);
@@ -158,8 +161,10 @@ fn list_and_close<L: BlockLane + Send, R: Threads + Wait + Sync, O: Sink + Send,
     requires reads { sum_by L.read_faults (opened_of manager.table) ≡ 0 }
     requires writes { sum_by L.write_faults (opened_of manager.table) ≡ 0 }
     ensures count { length result.lanes.items ≡ length (opened_of manager.table) }
-    ensures leaves { LeavesLanes L.contents L.failed_writes L.write_faults listed.relation.fork listed.relation.blocks (opened_of manager.table) result.lanes.items }
-    ensures cause { HasListingCause 0 (sum_by L.read_faults result.lanes.items) (O.faults out.old) (O.faults out.new) result.end }
+    ensures leaves { LeavesLanes L.contents L.failed_writes L.write_faults listed.relation.fork
+        listed.relation.blocks (opened_of manager.table) result.lanes.items }
+    ensures cause { HasListingCause 0 (sum_by L.read_faults result.lanes.items) (O.faults out.old)
+        (O.faults out.new) result.end }
     ensures text { (pages : List Page) → HoldPages listed.relation.fork pages (map L.contents (opened_of manager.table)) → listed.relation.blocks ≡ length pages
         → Puts (text_of listed.listing pages) (O.bytes out.old) (O.bytes out.new) (as_done result.end) }
     ensures totals { (pages : List Page) → HoldPages listed.relation.fork pages (map L.contents (opened_of manager.table)) → listed.relation.blocks ≡ length pages
@@ -189,11 +194,14 @@ pub(crate) fn list<L: BlockLane + Send, R: Threads + Wait + Sync, O: Sink + Send
     requires reads { sum_by L.read_faults lanes.items ≡ 0 }
     requires writes { sum_by L.write_faults lanes.items ≡ 0 }
     requires unmarked { All (λ lane. L.failed_writes lane ≡ no_marks) lanes.items }
-    requires has { HasBlocks listed.relation.fork listed.relation.blocks (map L.contents lanes.items) }
+    requires has { HasBlocks listed.relation.fork listed.relation.blocks
+        (map L.contents lanes.items) }
     requires base { (listed.base % 8 ≡ 0) × (listed.base ≤ 2 ^ 62) }
     ensures count { length result.lanes.items ≡ length lanes.items }
-    ensures leaves { LeavesLanes L.contents L.failed_writes L.write_faults listed.relation.fork listed.relation.blocks lanes.items result.lanes.items }
-    ensures cause { HasListingCause 0 (sum_by L.read_faults result.lanes.items) (O.faults out.old) (O.faults out.new) result.end }
+    ensures leaves { LeavesLanes L.contents L.failed_writes L.write_faults listed.relation.fork
+        listed.relation.blocks lanes.items result.lanes.items }
+    ensures cause { HasListingCause 0 (sum_by L.read_faults result.lanes.items) (O.faults out.old)
+        (O.faults out.new) result.end }
     ensures text { (pages : List Page) → HoldPages listed.relation.fork pages (map L.contents lanes.items) → listed.relation.blocks ≡ length pages
         → Puts (text_of listed.listing pages) (O.bytes out.old) (O.bytes out.new) (as_done result.end) }
     ensures totals { (pages : List Page) → HoldPages listed.relation.fork pages (map L.contents lanes.items) → listed.relation.blocks ≡ length pages

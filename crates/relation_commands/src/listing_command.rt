@@ -31,15 +31,24 @@ fn list_opened<H: Host, R: Threads + Wait + Sync, O: Sink + Send, G: Gate + Sync
     out: &mut O,
     gate: &G,
 ) -> Result<(), ListingError>
-    requires open_at { IfSome (H.contents host.old) (λ _. H.open_at host.old ≡ record { path = request.now.path.now; seg_blocks = request.now.options.seg_blocks }) }
+    requires open_at { IfSome (H.contents host.old)
+        (λ _. H.open_at host.old
+        ≡ record { path = request.now.path.now; seg_blocks = request.now.options.seg_blocks }) }
     requires range { HasOptionsInRange request.now.options }
-    requires opened { IsOpened H.Lane.contents H.Lane.failed_writes H.Lane.unsynced H.Lane.room H.Lane.read_faults H.Lane.write_faults (H.contents host.old) (H.room host.old request.now.path.now request.now.options.seg_blocks) request.now.path.now (fork_of request.now.path.now) request.now.options.seg_blocks request.now.options.lanes opened }
+    requires opened { IsOpened H.Lane.contents H.Lane.failed_writes H.Lane.unsynced H.Lane.room
+        H.Lane.read_faults H.Lane.write_faults (H.contents host.old)
+        (H.room host.old request.now.path.now request.now.options.seg_blocks) request.now.path.now
+        (fork_of request.now.path.now) request.now.options.seg_blocks
+        request.now.options.lanes opened }
     ensures contents { H.contents host.new ≡ H.contents host.old }
-    ensures failed { IfSome (H.contents host.old) (λ paths. NoneFails request.now.options.seg_blocks paths request.now.path.now (H.failed_writes host.old) (H.failed_writes host.new)) }
+    ensures failed { IfSome (H.contents host.old)
+        (λ paths. NoneFails request.now.options.seg_blocks paths request.now.path.now
+        (H.failed_writes host.old) (H.failed_writes host.new)) }
     ensures writes { H.write_faults host.new ≡ H.write_faults host.old }
     ensures logs { H.logs host.new ≡ H.logs host.old }
     ensures log_faults { H.log_faults host.new ≡ H.log_faults host.old }
-    ensures cause { HasListingCause (H.read_faults host.old) (H.read_faults host.new) (O.faults out.old) (O.faults out.new) result }
+    ensures cause { HasListingCause (H.read_faults host.old) (H.read_faults host.new)
+        (O.faults out.old) (O.faults out.new) result }
     ensures text { IfSome (H.contents host.old) (λ paths.
         Puts (text_of request.now.listing (pages_asked (asked (Request.List request.now)) paths))
         (O.bytes out.old) (O.bytes out.new) result) }
@@ -73,7 +82,9 @@ pub fn list_relation<'a, H: Host, R: Threads + Wait + Sync, O: Sink + Send, G: G
 ) -> Result<(), ToolError<'a>>
     requires { HasOptionsInRange request.now.options }
     ensures contents { H.contents host.new ≡ H.contents host.old }
-    ensures failed { IfSome (H.contents host.old) (λ paths. NoneFails request.now.options.seg_blocks paths request.now.path.now (H.failed_writes host.old) (H.failed_writes host.new)) }
+    ensures failed { IfSome (H.contents host.old)
+        (λ paths. NoneFails request.now.options.seg_blocks paths request.now.path.now
+        (H.failed_writes host.old) (H.failed_writes host.new)) }
     ensures writes { H.write_faults host.new ≡ H.write_faults host.old }
     ensures logs { H.logs host.new ≡ H.logs host.old }
     ensures log_faults { H.log_faults host.new ≡ H.log_faults host.old }

@@ -50,10 +50,14 @@ fn survey_lanes<L: BlockLane>(
     requires some { 0 < length lanes.old }
     requires has { HasBlocks relation.fork relation.blocks (map L.contents lanes.old) }
     requires reads { sum_by L.read_faults lanes.old ≡ 0 }
-    ensures same { AreOnlyRead L.contents L.failed_writes L.unsynced L.write_faults lanes.old lanes.new }
+    ensures same { AreOnlyRead L.contents L.failed_writes L.unsynced L.write_faults
+        lanes.old lanes.new }
     ensures quiet { OnOk result (sum_by L.read_faults lanes.new ≡ 0) }
-    ensures largest { IfOk result (λ largest. (pages : List Page) → HavePages L.contents relation lanes.old pages → largest ≡ largest_lsn pages) }
-    ensures cause { IfErr result (IsSurveyRefusal L.contents relation lanes.old (sum_by L.read_faults lanes.new)) }
+    ensures largest { IfOk result
+        (λ largest. (pages : List Page) → HavePages L.contents relation lanes.old pages
+        → largest ≡ largest_lsn pages) }
+    ensures cause { IfErr result
+        (IsSurveyRefusal L.contents relation lanes.old (sum_by L.read_faults lanes.new)) }
 {
     let Ok(catalog) = relation.catalog(alloc) else {
         return Err(RewriteError::Memory);
@@ -76,11 +80,16 @@ pub(crate) fn survey_base<L: BlockLane>(
     requires some { 0 < length lanes.old }
     requires has { HasBlocks relation.fork relation.blocks (map L.contents lanes.old) }
     requires reads { sum_by L.read_faults lanes.old ≡ 0 }
-    ensures same { AreOnlyRead L.contents L.failed_writes L.unsynced L.write_faults lanes.old lanes.new }
+    ensures same { AreOnlyRead L.contents L.failed_writes L.unsynced L.write_faults
+        lanes.old lanes.new }
     ensures quiet { OnOk result (sum_by L.read_faults lanes.new ≡ 0) }
-    ensures within { IfOk result (λ base. (base % 8 ≡ 0) × (base + 8224 * relation.blocks ≤ 2 ^ 62)) }
-    ensures base { IfOk result (λ base. (pages : List Page) → HavePages L.contents relation lanes.old pages → base ≡ log_base pages) }
-    ensures cause { IfErr result (IsSurveyRefusal L.contents relation lanes.old (sum_by L.read_faults lanes.new)) }
+    ensures within { IfOk result
+        (λ base. (base % 8 ≡ 0) × (base + 8224 * relation.blocks ≤ 2 ^ 62)) }
+    ensures base { IfOk result
+        (λ base. (pages : List Page) → HavePages L.contents relation lanes.old pages
+        → base ≡ log_base pages) }
+    ensures cause { IfErr result
+        (IsSurveyRefusal L.contents relation lanes.old (sum_by L.read_faults lanes.new)) }
 {
     let largest = match survey_lanes(alloc, relation, lanes) {
         Ok(largest) => largest,
@@ -117,13 +126,22 @@ fn open_log<H: Host>(
 ) -> Result<H::Log, LogRefused<H::Log>>
     ensures begun { IfOk result (IsNewLog (devices H.Lane.BlockLane H.Log.LogDevice) base) }
     ensures quiet { IfOk result (λ log. H.Log.faults log ≡ 0) }
-    ensures logs { MatchResult result (λ log. OpensLog (Some log) path.now (H.logs host.old) (H.logs host.new) (H.log_at host.new)) (λ refused. OpensLog refused.log path.now (H.logs host.old) (H.logs host.new) (H.log_at host.new)) }
-    ensures head { IfErr result (λ refused. IfSome refused.log (λ log. (0 < H.Log.faults log) × IfSome (H.Log.bytes log) (IsHeadBegun base))) }
+    ensures logs { MatchResult result
+        (λ log. OpensLog (Some log) path.now (H.logs host.old) (H.logs host.new)
+        (H.log_at host.new))
+        (λ refused. OpensLog refused.log path.now (H.logs host.old) (H.logs host.new)
+        (H.log_at host.new)) }
+    ensures head { IfErr result
+        (λ refused. IfSome refused.log
+        (λ log. (0 < H.Log.faults log) × IfSome (H.Log.bytes log) (IsHeadBegun base))) }
     ensures counted { OnOk result (H.log_faults host.new ≡ H.log_faults host.old) }
     ensures later { H.log_faults host.old ≤ H.log_faults host.new }
-    ensures cause { IfErr result (λ refused. IsLogRefusal (H.log_faults host.old) (H.log_faults host.new) (option_map_or H.Log.faults refused.log 0) refused.error) }
+    ensures cause { IfErr result
+        (λ refused. IsLogRefusal (H.log_faults host.old) (H.log_faults host.new)
+        (option_map_or H.Log.faults refused.log 0) refused.error) }
     ensures contents { H.contents host.new ≡ H.contents host.old }
-    ensures failed { IfSome (H.contents host.old) (λ _. H.failed_writes host.new ≡ H.failed_writes host.old) }
+    ensures failed { IfSome (H.contents host.old)
+        (λ _. H.failed_writes host.new ≡ H.failed_writes host.old) }
     ensures open_at { IfSome (H.contents host.old) (λ _. H.open_at host.new ≡ H.open_at host.old) }
     ensures reads { H.read_faults host.new ≡ H.read_faults host.old }
     ensures writes { H.write_faults host.new ≡ H.write_faults host.old }
@@ -163,8 +181,11 @@ fn rewrite_and_give_back<H: Host, R: Threads + Wait + Sync, T: Gate + Sync>(
     requires surveyed { AreSurveyed H.Lane.contents H.Lane.failed_writes H.Lane.read_faults H.Lane.write_faults (H.contents host.old) (rewrite_asked request.now) relation base lanes.items }
     ensures cause { HasFaultOf (counts (H.read_faults host.old) (H.write_faults host.old) (H.log_faults host.old) 0)
         (counts (H.read_faults host.new) (H.write_faults host.new) (H.log_faults host.new) 0) result }
-    ensures limit { IfErr result (MeetsLimit (option_map (pages_at (rewrite_asked request.now)) (H.contents host.old))) }
-    ensures totals { IfOk result (λ totals. IfSome (H.contents host.old) (λ paths. totals ≡ rewrite_totals_of (pages_at (rewrite_asked request.now) paths))) }
+    ensures limit { IfErr result
+        (MeetsLimit (option_map (pages_at (rewrite_asked request.now)) (H.contents host.old))) }
+    ensures totals { IfOk result
+        (λ totals. IfSome (H.contents host.old)
+        (λ paths. totals ≡ rewrite_totals_of (pages_at (rewrite_asked request.now) paths))) }
     ensures files { let files = files_in H.contents H.failed_writes H.logs
         H.write_faults H.log_faults in
         BecomesOf (files host.old) (files host.new)
@@ -193,7 +214,9 @@ fn put_totals<O: Sink>(
     base: Lsn,
     out: &mut O,
 ) -> Result<(), RewriteError>
-    ensures text { base + 8224 * totals.now.changed < 2 ^ 64 → Puts (rewrite_lines totals.now base (base + 8224 * totals.now.changed)) (O.bytes out.old) (O.bytes out.new) result }
+    ensures text { base + 8224 * totals.now.changed < 2 ^ 64
+        → Puts (rewrite_lines totals.now base (base + 8224 * totals.now.changed)) (O.bytes out.old)
+        (O.bytes out.new) result }
     ensures later { O.faults out.old ≤ O.faults out.new }
     ensures quiet { OnOk result (O.faults out.new ≡ O.faults out.old) }
     ensures cause { IfErr result (IsPutRefusal (O.faults out.old) (O.faults out.new)) }
@@ -224,12 +247,15 @@ fn rewrite_surveyed<H: Host, R: Threads + Wait + Sync, O: Sink, T: Gate + Sync>(
     requires surveyed { AreSurveyed H.Lane.contents H.Lane.failed_writes H.Lane.read_faults H.Lane.write_faults (H.contents host.old) (rewrite_asked request.now) relation base lanes.items }
     ensures cause { HasFaultOf (counts (H.read_faults host.old) (H.write_faults host.old) (H.log_faults host.old) (O.faults out.old))
         (counts (H.read_faults host.new) (H.write_faults host.new) (H.log_faults host.new) (O.faults out.new)) result }
-    ensures limit { StaysBelowLimit (option_map (pages_at (rewrite_asked request.now)) (H.contents host.old)) result }
+    ensures limit { StaysBelowLimit
+        (option_map (pages_at (rewrite_asked request.now)) (H.contents host.old)) result }
     ensures files { let files = files_in H.contents H.failed_writes H.logs
         H.write_faults H.log_faults in
         BecomesOf (files host.old) (files host.new)
         (LeavesByEnd (rewrite_asked request.now) result) }
-    ensures text { IfSome (H.contents host.old) (λ paths. Puts (rewrite_text (pages_at (rewrite_asked request.now) paths)) (O.bytes out.old) (O.bytes out.new) result) }
+    ensures text { IfSome (H.contents host.old)
+        (λ paths. Puts (rewrite_text (pages_at (rewrite_asked request.now) paths)) (O.bytes out.old)
+        (O.bytes out.new) result) }
     ensures silent { IfErr result
         (λ e. e ≢ RewriteError.OutFault → O.bytes out.new ≡ O.bytes out.old) }
 {
@@ -254,12 +280,15 @@ fn rewrite_opened<H: Host, R: Threads + Wait + Sync, O: Sink, G: Gate + Sync>(
     requires opened { IsOpened H.Lane.contents H.Lane.failed_writes H.Lane.unsynced H.Lane.room H.Lane.read_faults H.Lane.write_faults (H.contents host.old) (H.room host.old request.now.path.now request.now.options.seg_blocks) request.now.path.now (fork_of request.now.path.now) request.now.options.seg_blocks request.now.options.lanes opened }
     ensures cause { HasFaultOf (counts (H.read_faults host.old) (H.write_faults host.old) (H.log_faults host.old) (O.faults out.old))
         (counts (H.read_faults host.new) (H.write_faults host.new) (H.log_faults host.new) (O.faults out.new)) result }
-    ensures limit { StaysBelowLimit (option_map (pages_at (rewrite_asked request.now)) (H.contents host.old)) result }
+    ensures limit { StaysBelowLimit
+        (option_map (pages_at (rewrite_asked request.now)) (H.contents host.old)) result }
     ensures files { let files = files_in H.contents H.failed_writes H.logs
         H.write_faults H.log_faults in
         BecomesOf (files host.old) (files host.new)
         (LeavesByEnd (rewrite_asked request.now) result) }
-    ensures text { IfSome (H.contents host.old) (λ paths. Puts (rewrite_text (pages_at (rewrite_asked request.now) paths)) (O.bytes out.old) (O.bytes out.new) result) }
+    ensures text { IfSome (H.contents host.old)
+        (λ paths. Puts (rewrite_text (pages_at (rewrite_asked request.now) paths)) (O.bytes out.old)
+        (O.bytes out.new) result) }
     ensures silent { IfErr result
         (λ e. e ≢ RewriteError.OutFault → O.bytes out.new ≡ O.bytes out.old) }
 {
@@ -297,7 +326,9 @@ pub fn rewrite_relation<'a, H: Host, R: Threads + Wait + Sync, O: Sink, G: Gate 
         H.write_faults H.log_faults in
         BecomesOf (files host.old) (files host.new)
         (RewritesFiles (rewrite_asked request.now) (status_of result)) }
-    ensures text { IfSome (H.contents host.old) (λ paths. Puts (rewrite_text (pages_at (rewrite_asked request.now) paths)) (O.bytes out.old) (O.bytes out.new) result) }
+    ensures text { IfSome (H.contents host.old)
+        (λ paths. Puts (rewrite_text (pages_at (rewrite_asked request.now) paths)) (O.bytes out.old)
+        (O.bytes out.new) result) }
     ensures silent { IfErr result (λ e. status_of_error e ≢ 7 → O.bytes out.new ≡ O.bytes out.old) }
 {
     let RewriteRequest { path, options, .. } = *request;

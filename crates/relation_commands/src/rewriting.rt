@@ -134,7 +134,9 @@ fn checkpoint_past<L: BlockLane, G: LogDevice, R: Wait>(
     ensures callers { KeepsCallers pass.old pass.new }
     ensures swept { OnOk result (SweepsPast (lanes_in manager.now.table) front pass.new.view) }
     ensures met { OnOk result (pass.new.view.met ≡ pass.old.view.met) }
-    ensures cause { IfErr result (λ why. PassMeets L.contents manager.now.table pass.old.view pass.new.view (checkpoint_error why)) }
+    ensures cause { IfErr result
+        (λ why. PassMeets L.contents manager.now.table pass.old.view pass.new.view
+        (checkpoint_error why)) }
 {
     for _ in rt.forever() {
         match checkpoint(manager, rt, pass) {
@@ -158,10 +160,14 @@ fn checkpoint_all<L: BlockLane, G: LogDevice, R: Wait>(
 ) -> Result<(), CheckpointError>
     requires some { 0 < vec_len passes.old }
     requires free { HaveNoTokens L.contents manager.now passes.old.items }
-    requires unlocked { (last : PassState) → get_elem? passes.old.items (length passes.old.items - 1) ≡ some last → HasNoLock last }
+    requires unlocked { (last : PassState)
+        → get_elem? passes.old.items (length passes.old.items - 1) ≡ some last → HasNoLock last }
     ensures passes { ChecksByLast L.contents manager.now passes.old.items passes.new.items }
-    ensures swept { OnOk result (StoresAll (lanes_in manager.now.table) passes.old.items passes.new.items) }
-    ensures cause { IfErr result (λ why. LastMeets L.contents manager.now.table passes.old.items passes.new.items (checkpoint_error why)) }
+    ensures swept { OnOk result
+        (StoresAll (lanes_in manager.now.table) passes.old.items passes.new.items) }
+    ensures cause { IfErr result
+        (λ why. LastMeets L.contents manager.now.table passes.old.items passes.new.items
+        (checkpoint_error why)) }
 {
     let front = furthest_front(passes);
     let mut last = passes.take_last();
@@ -192,8 +198,10 @@ fn rewrite_and_store<
     rounds: u32,
     gate: &T,
 ) -> StoredRewrite
-    requires started { IsStarted L.contents relation (base_of manager.now.table) manager.now passes.items }
-    ensures stores { StoresRewrite L.contents manager.now relation.fork rounds passes.items result.passes.items result.end }
+    requires started { IsStarted L.contents relation (base_of manager.now.table)
+        manager.now passes.items }
+    ensures stores { StoresRewrite L.contents manager.now relation.fork rounds passes.items
+        result.passes.items result.end }
 {
     let fork = relation.fork;
     let mut beside = Rounds::new(rounds);
@@ -248,8 +256,12 @@ fn rewrite_and_close<
     requires writes { sum_by L.write_faults (opened_of manager.table) ≡ 0 }
     requires logs { G.faults (log_of manager) ≡ 0 }
     ensures count { length result.lanes.items ≡ length (opened_of manager.table) }
-    ensures cause { HasRewriteCause (sum_by L.read_faults result.lanes.items) (sum_by L.write_faults result.lanes.items) (G.faults (log_of manager)) (G.faults result.log) result.end }
-    ensures leaves { LeavesRewritten L.contents L.failed_writes G.bytes G.synced L.write_faults G.faults relation (base_of manager.table) (opened_of manager.table) result.lanes.items result.log result.end }
+    ensures cause { HasRewriteCause (sum_by L.read_faults result.lanes.items)
+        (sum_by L.write_faults result.lanes.items) (G.faults (log_of manager))
+        (G.faults result.log) result.end }
+    ensures leaves { LeavesRewritten L.contents L.failed_writes G.bytes G.synced L.write_faults
+        G.faults relation (base_of manager.table) (opened_of manager.table) result.lanes.items
+        result.log result.end }
 {
     all_positions();
     rewrite_closes(&manager);
@@ -287,8 +299,10 @@ pub(crate) fn rewrite_lanes<
     requires log { IsNewLog (devices L.BlockLane G.LogDevice) base log }
     requires log_faults { G.faults log ≡ 0 }
     ensures count { length result.lanes.items ≡ length lanes.items }
-    ensures cause { HasRewriteCause (sum_by L.read_faults result.lanes.items) (sum_by L.write_faults result.lanes.items) (G.faults log) (G.faults result.log) result.end }
-    ensures leaves { LeavesRewritten L.contents L.failed_writes G.bytes G.synced L.write_faults G.faults relation base lanes.items result.lanes.items result.log result.end }
+    ensures cause { HasRewriteCause (sum_by L.read_faults result.lanes.items)
+        (sum_by L.write_faults result.lanes.items) (G.faults log) (G.faults result.log) result.end }
+    ensures leaves { LeavesRewritten L.contents L.failed_writes G.bytes G.synced L.write_faults
+        G.faults relation base lanes.items result.lanes.items result.log result.end }
 {
     match start(alloc, options, relation, lanes, log, base) {
         Ok((manager, passes)) => {

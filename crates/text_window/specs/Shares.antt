@@ -14,5 +14,7 @@ module _ {N A : Type 0} where
 
   -- The parts of the other ones were added, and what they counted
   pub record IsMerged (s other t : Shares N A) : Type 0 where
-    pub parts : (t.delivered.parts ≡ s.delivered.parts + other.delivered.parts) × (t.above.parts ≡ s.above.parts + other.above.parts)
-    pub amounts : (t.delivered.amount ≡ s.delivered.amount + other.delivered.amount) × (t.above.amount ≡ s.above.amount + other.above.amount)
+    pub parts : (t.delivered.parts ≡ s.delivered.parts + other.delivered.parts)
+        × (t.above.parts ≡ s.above.parts + other.above.parts)
+    pub amounts : (t.delivered.amount ≡ s.delivered.amount + other.delivered.amount)
+        × (t.above.amount ≡ s.above.amount + other.above.amount)

@@ -20,7 +20,8 @@ pub record Job : Type 0 where
 -- the texts of the first chunks, so many, one after the other
 abbrev pub AreFirstTexts : (ℕ → List ℕ → Type 0) → ℕ → List ℕ → Type 0
 AreFirstTexts texts zero t = t ≡ []
-AreFirstTexts texts (suc n) t = (a : List ℕ) × (x : List ℕ) × (t ≡ a ++ x) × AreFirstTexts texts n a × texts n x
+AreFirstTexts texts (suc n) t =
+    (a : List ℕ) × (x : List ℕ) × (t ≡ a ++ x) × AreFirstTexts texts n a × texts n x
 
 -- this may be the text of the chunk: nothing of it was read past some place up to the largest
 abbrev pub IsTextBy : (ℕ → ℕ → List ℕ → Type 0) → ℕ → ℕ → List ℕ → Type 0
@@ -56,7 +57,9 @@ pub record WindowState : Type 0 where
 
 -- the window has a free slot for the text of this chunk
 abbrev pub HasFreeSlot : WindowState → ℕ → Type 0
-HasFreeSlot s chunk = (s.next ≤ chunk) × (chunk - s.next < length s.waiting) × (slice_index_or s.waiting (chunk - s.next) None ≡ None)
+HasFreeSlot s chunk =
+    (s.next ≤ chunk) × (chunk - s.next < length s.waiting)
+    × (slice_index_or s.waiting (chunk - s.next) None ≡ None)
 
 -- the window once this worker failed: the first stop stays
 abbrev pub stopped_for : ℕ → WindowState → WindowState
@@ -67,7 +70,8 @@ module _ (texts : ℕ → ℕ → List ℕ → Type 0) (job : Job) where
   abbrev pub AreWaiting : ℕ → ℕ → List (Option (List ℕ)) → Type 0
   AreWaiting largest c [] = Unit {0}
   AreWaiting largest c (None ∷ ws) = AreWaiting largest (c + 1) ws
-  AreWaiting largest c (Some t ∷ ws) = (c < job.chunks) × IsTextBy texts largest c t × AreWaiting largest (c + 1) ws
+  AreWaiting largest c (Some t ∷ ws) =
+      (c < job.chunks) × IsTextBy texts largest c t × AreWaiting largest (c + 1) ws
 
   -- The sink has the texts of the first n chunks
   pub record HasPut (largest n : ℕ) (bytes : Option (List ℕ)) : Type 0 where
@@ -91,7 +95,8 @@ module _ (texts : ℕ → ℕ → List ℕ → Type 0) (job : Job) where
   HasPutSome largest false bytes = (n : ℕ) × (n ≤ job.chunks) × HasPut largest n bytes
 
   -- A stream of texts that goes on
-  pub record IsStream (largest next : ℕ) (waiting : List (Option (List ℕ))) (bytes : Option (List ℕ)) : Type 0 where
+  pub record IsStream (largest next : ℕ) (waiting : List (Option (List ℕ)))
+      (bytes : Option (List ℕ)) : Type 0 where
     pub wide : length waiting ≡ job.width
     pub some : 0 < job.width
     pub within : next ≤ job.chunks
@@ -99,27 +104,31 @@ module _ (texts : ℕ → ℕ → List ℕ → Type 0) (job : Job) where
     pub put : HasPut largest next bytes
 
   -- A stream of texts that goes on no more, since a put failed
-  pub record IsBroken (largest next : ℕ) (waiting : List (Option (List ℕ))) (bytes : Option (List ℕ)) : Type 0 where
+  pub record IsBroken (largest next : ℕ) (waiting : List (Option (List ℕ)))
+      (bytes : Option (List ℕ)) : Type 0 where
     pub wide : length waiting ≡ job.width
     pub each : AreWaiting largest next waiting
     pub within : next < job.chunks
     pub put : HasPutPart largest next bytes
 
   -- What holds of a window whenever its lock is free
-  pub record IsWindow (stop : Option Stop) (largest next : ℕ) (waiting : List (Option (List ℕ))) (bytes : Option (List ℕ)) (faults delivered above : ℕ) : Type 0 where
+  pub record IsWindow (stop : Option Stop) (largest next : ℕ) (waiting : List (Option (List ℕ)))
+      (bytes : Option (List ℕ)) (faults delivered above : ℕ) : Type 0 where
     pub few : job.chunks < 2 ^ 32
     pub lowest : job.base ≤ largest
     pub first : slice_index_or waiting 0 None ≡ None
     pub at_base : above ≡ 0 → largest ≡ job.base
     pub course : MatchBool (is_output stop)
         (IsBroken largest next waiting bytes × Rose job.faults faults)
-        (IsStream largest next waiting bytes × (faults ≡ job.faults) × (delivered ≡ next + waiting_count waiting))
+        (IsStream largest next waiting bytes × (faults ≡ job.faults)
+        × (delivered ≡ next + waiting_count waiting))
 
   -- What the sink has after a job in which `delivered` texts were delivered, `above` of them read
   -- past the base: the texts of some first chunks, and, if a put failed, maybe a prefix of the next
   -- one; those of all chunks, if no put failed and as many texts were delivered. Nothing of them
   -- was read past this place, which is the base if no text was
-  pub record IsFinished (delivered above : ℕ) (output : Bool) (bytes : Option (List ℕ)) : Type 0 where
+  pub record IsFinished (delivered above : ℕ) (output : Bool)
+      (bytes : Option (List ℕ)) : Type 0 where
     pub place : ℕ
     pub at_base : above ≡ 0 → place ≡ job.base
     pub some : HasPutSome place output bytes
