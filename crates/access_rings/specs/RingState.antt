@@ -21,7 +21,7 @@ full_size BulkRead = 32
 full_size BulkWrite = 2048
 full_size Vacuum = 32
 
--- how many places a ring has in a pool of so many frames: at most an eighth of the pool
+-- how many places a ring has in a pool of this many frames: at most an eighth of the pool
 abbrev pub ring_size : RingKind → ℕ → ℕ
 ring_size kind frames = min (full_size kind) (frames / 8)
 

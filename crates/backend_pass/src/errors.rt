@@ -43,7 +43,7 @@ pub enum ReadError {
     /// Callers have as many tokens of the pass as they may.
     #[error("a pass gives at most 8 tokens")]
     PinsFull,
-    /// Each of so many frames was seen pinned. The census has their words.
+    /// Each frame, of this many, was seen pinned. The census has their words.
     #[error("each of {frames} frames is pinned")]
     NoUnpinned { frames: u32 },
     /// The lane failed to read the page of this block.

@@ -92,7 +92,7 @@ pub(crate) fn show_block<L: BlockLane, G: LogDevice>(_table: &FrameTable<L, G>, 
     ensures listed { has_block (relations_of _table.now) _tag ≡ true }
 {}
 
-/// Writes the page of a frame of which callers have tokens, from the seat of a pass.
+/// Writes the page of a frame that callers hold tokens of, from the seat of a pass.
 fn flush_seated<L: BlockLane, G: LogDevice, R: Wait>(
     table: &FrameTable<L, G>,
     rt: &R,

@@ -20,7 +20,7 @@ pub(crate) struct PassMemory {
 }
 
 impl PassMemory {
-    /// For a pool of so many frames.
+    /// For a pool of this many frames.
     pub(crate) fn take(alloc: Global, frames: u32) -> Result<PassMemory, AllocError>
         ensures { IfOk result (λ memory. memory.census ≡ new_census frames) }
     {

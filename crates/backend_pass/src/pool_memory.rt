@@ -17,7 +17,7 @@ pub(crate) struct PoolMemory {
     pub(crate) passes: Vec<Pass>,
 }
 
-/// The memory of so many passes.
+/// The memory of this many passes.
 fn take_memories(alloc: Global, frames: u32, count: u32) -> Result<Vec<PassMemory>, AllocError>
     ensures counted { IfOk result (λ memories. vec_len memories ≡ count) }
     ensures fresh { IfOk result (λ memories. AreForFrames frames memories.items) }

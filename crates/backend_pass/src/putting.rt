@@ -44,7 +44,7 @@ impl Shown {
     }
 }
 
-/// Puts a page into a frame of which callers have a token and the content lock exclusively, from
+/// Puts a page into a frame of which callers hold a token and the exclusive content lock, from
 /// the seat of a pass.
 fn put_seated<L: BlockLane, G: LogDevice, R: Wait>(
     table: &FrameTable<L, G>,

@@ -16,7 +16,7 @@ use Rattle.backend_pass.specs.declared.errors.FlushError.{FlushError}
 use Rattle.backend_pass.specs.FrameFlushes.{frame_refusal}
 use Rattle.bg_writer.specs.declared.reports.Round.{Round}
 
--- how many pages were written for a frame, and for frames, by what came of them
+-- how many pages were written for a frame, by its result
 abbrev pub pages_written_for : Synced → ℕ
 pages_written_for Written = 1
 pages_written_for Skipped = 0

@@ -22,7 +22,7 @@ use std::sync::Wait;
 /// How many pages a round writes at most (`bgwriter_lru_maxpages`).
 pub const MOST_WRITES: u32 = 100;
 
-/// The frame that stands so many places past the clock's hand.
+/// The frame that stands this many places past the clock's hand.
 fn frame_past(hand: u64, places: u32, frames: u32) -> u32
     requires { places < frames }
     ensures { result ≡ (hand + places) % frames }
@@ -63,7 +63,7 @@ pub fn round<L: BlockLane, G: LogDevice, R: Wait>(
 
     ensures cause { IfErr result (RefusesFrame L.contents manager.now.table pass.old pass.new) }
 
-    // So many pages went to lanes.
+    // This many pages went to lanes.
     ensures written { IfOk result (λ round. WritesPages round.written pass.old.view pass.new.view) }
     ensures met { pass.new.view.met ≡ met_flushing (frame_answer result) pass.old.view.met }
 

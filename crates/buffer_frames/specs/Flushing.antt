@@ -192,14 +192,14 @@ module _ {L G : Type 0} (contents : L → Option Pages) (t : FrameTable L G) whe
     pub calls : Made (syncs_refused why) v w
     pub shows : LogShows why tag page v w
 
-  -- what came of a write of a page that was copied
+  -- the result of a write of a page that was copied
   abbrev pub WriteAnswer : ℕ → Tag → Page → View → View → Result Unit FrameFlushError → Type 0
   WriteAnswer q tag page v w (Ok done) = WentToLane true q (packed_tag tag) page v w
   WriteAnswer q tag page v w (Err (Log why)) = LogRefuses why tag page v w
   WriteAnswer q tag page v w (Err (WriteFault failed)) =
       (failed ≡ tag) × WentToLane false q (packed_tag tag) page v w
 
-  -- what came of a flush of the frame f
+  -- the result of a flush of the frame f
   abbrev pub FlushAnswer : ℕ → Tag → ℕ → View → View → Result FlushedPage FrameFlushError → Type 0
   FlushAnswer q tag f v w (Ok flush.Written) =
       CopiesAnd (λ page a b. WriteAnswer q tag page a b (Ok tt)) f v w
@@ -236,7 +236,7 @@ module _ {L G : Type 0} (contents : L → Option Pages) (t : FrameTable L G) whe
     rejected : {u : View} → SharesDirty f v u → RejectsVictim f from_ring before after u w
         → Made [] v w → SparesVictim f from_ring before after v w
 
-  -- what came of a victim that has this tag
+  -- the answer for a victim that has this tag
   abbrev pub VictimAnswer : ℕ → Tag → ℕ → Bool → Option RingState → Option RingState
       → View → View → Result VictimPage FrameFlushError → Type 0
   VictimAnswer q tag f from_ring before after v w (Ok Clean) = (after ≡ before)

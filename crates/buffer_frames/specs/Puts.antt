@@ -85,7 +85,7 @@ pub record PutRefused (relations : List RelEntry) (f : ℕ) (tag : Tag) (page : 
   pub front : w.front ≡ v.front
   pub shows : RefusalShows why w
 
--- what came of a put
+-- the result of a put
 abbrev pub PutAnswer : List RelEntry → ℕ → Tag → Page → View → View → Result ℕ InsertError → Type 0
 PutAnswer relations f tag page v w (Ok lsn) = DidPut relations f tag page lsn v w
 PutAnswer relations f tag page v w (Err why) = PutRefused relations f tag page why v w

@@ -84,7 +84,7 @@ pub data SeesClean (f : ℕ) (v w : View) : Type 0 where
   by_load : SeesNotDirty f v w → Made [] v w → SeesClean f v w
   by_word : FindsClean f v w → SeesClean f v w
 
--- what came of a frame, by what came of its flush
+-- the result for a frame, by that of its flush
 abbrev pub synced_of : Result FlushedPage FrameFlushError → Result Synced FrameFlushError
 synced_of (Ok flush.Written) = Ok Written
 synced_of (Ok flush.Clean) = Ok Clean
@@ -150,14 +150,15 @@ module _ {L G : Type 0} (contents : L → Option Pages) (t : FrameTable L G) whe
     pub listed : has_block (relations_of t) tag ≡ true
     pub answer : FlushAnswer contents t (lane_number tag (lanes_in t)) tag f v w r
 
-  -- what came of a frame that was pinned to be written
+  -- the answer for a frame that was pinned to be written
   abbrev pub PinnedAnswer : ℕ → View → View → Result Synced FrameFlushError → Type 0
   PinnedAnswer f v w (Ok Skipped) = ⊥
   PinnedAnswer f v w (Ok Clean) = SeesClean f v w
   PinnedAnswer f v w (Ok Written) = WritesBlock f v w (Ok flush.Written)
   PinnedAnswer f v w (Err why) = WritesBlock f v w (Err why)
 
-  -- what came of the frame f, whose state word was `word` at the look that led to the view `looked`
+  -- the answer for the frame f, whose state word was `word` at the look that led to the view
+  -- `looked`
   abbrev pub SyncAnswer : SyncOnly → ℕ → ℕ → View → View → View → Result Synced FrameFlushError
       → Type 0
   SyncAnswer only word f v looked w (Ok Skipped) =
@@ -211,7 +212,7 @@ pages_written [] = 0
 pages_written (LaneWrite lane tag page true ∷ calls) = 1 + pages_written calls
 pages_written (call ∷ calls) = pages_written calls
 
--- The calls of devices are syncs of the log and writes of lanes, and so many pages were written
+-- The calls of devices are syncs of the log and writes of lanes, and this many pages were written
 pub record WritesPages (n : ℕ) (v w : View) : Type 0 where
   pub made : List DeviceCall
   pub calls : Made made v w
@@ -223,7 +224,7 @@ pub record WritesPages (n : ℕ) (v w : View) : Type 0 where
 abbrev pub synced_work : ℕ → Bool → View → View
 synced_work lane done v = record (work_of v) { device_calls = v.device_calls ++ LaneSync lane done ∷ []; met = met_lane_write done v.met; dirtied_or_synced = true }
 
--- The last step to the view left the latch of this lane, one of so many. Nothing else that it has
+-- The last step to the view left the latch of this lane, one of `lanes`. Nothing else that it has
 -- of latches was changed, as how far each lane is swept
 pub record LeavesLane (lanes lane : ℕ) (w : View) : Type 0 where
   pub before : View

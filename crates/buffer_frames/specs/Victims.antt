@@ -27,7 +27,7 @@ module _ {L G : Type 0} (contents : L → Option Pages) (t : FrameTable L G) whe
       × FindsAllPinned contents t entry v c w d
   VictimRefused entry v c w d (Flush why) = LeavesDirty contents t why entry v c w d
 
-  -- what came of one try to free a frame
+  -- the result of one try to free a frame
   abbrev pub FreedAnswer : Tokens → View → ChoiceState → View → ChoiceState → Freed → Type 0
   FreedAnswer held v c w d (Ready pin) = (pin.frame < frames_of t) × HasVictim pin.frame held w
       × InvalidatesVictim contents t pin.frame v c w d
@@ -35,7 +35,7 @@ module _ {L G : Type 0} (contents : L → Option Pages) (t : FrameTable L G) whe
       × ((f : ℕ) × GivesVictimUp contents t f v c w d)
   FreedAnswer held v c w d (Refused why) = LinksRest held w × VictimRefused v v c w d why
 
-  -- what came of all tries to free a frame and bring the tag's block there
+  -- the result of all tries to free a frame and bring the tag's block there
   abbrev pub ClaimAnswer : Tag → Tokens → Bool → View → ChoiceState → View → ChoiceState
       → Result Pin VictimError → Type 0
   ClaimAnswer tag held ring v c w d (Ok pin) =

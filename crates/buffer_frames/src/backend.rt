@@ -9,8 +9,12 @@ use page_layout::Page;
 /// buffer don't change them.
 #[derive(Drop)]
 pub struct Backend {
+    /// Its pass of the clock's free list.
     pub queue: QueuePass,
+    /// Room for the words of a choice that finds each frame pinned.
     pub census: Census,
+    /// Room for a page that is read or written.
     pub page: Page,
+    /// What its last look-up saw of the block's hint, and how many latches of partitions it took.
     pub lookups: Sought,
 }

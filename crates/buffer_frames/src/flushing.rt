@@ -293,7 +293,7 @@ pub fn flush_pinned<L: BlockLane, G: LogDevice, R: Wait>(
     flush_shared(table, rt, seat, held, frame, tag, page)
 }
 
-/// Writes the page of a frame of which callers have tokens if it is dirty (`FlushOneBuffer`).
+/// Writes the page of a frame that callers hold tokens of, if it is dirty (`FlushOneBuffer`).
 pub fn flush_frame<L: BlockLane, G: LogDevice, R: Wait>(
     table: &FrameTable<L, G>,
     rt: &R,

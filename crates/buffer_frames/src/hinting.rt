@@ -89,7 +89,7 @@ fn refused_hint(why: TryPin) -> HintSeen
     }
 }
 
-/// Pins the frame that a hint names, of which callers have no pin, if it has the block.
+/// Pins the frame that a hint names, and that callers hold no pin of, if it has the block.
 fn try_hinted<L: BlockLane, G: LogDevice, R: Wait>(
     table: &FrameTable<L, G>,
     rt: &R,

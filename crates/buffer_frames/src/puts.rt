@@ -52,7 +52,7 @@ fn apply<L: BlockLane, G: LogDevice>(
     page_back(table, seat, frame, image);
 }
 
-/// Marks a frame dirty of which callers have a token and the content lock exclusively, inserts the
+/// Marks a frame dirty of which callers hold a token and the exclusive content lock, inserts the
 /// page into the log, and copies it into the frame.
 pub fn put_locked<L: BlockLane, G: LogDevice, R: Wait>(
     table: &FrameTable<L, G>,

@@ -38,7 +38,7 @@ pub enum SyncOnly {
     Needed,
 }
 
-/// What came of a frame.
+/// The result for a frame.
 #[derive(Clone, Copy, PartialEq, Eq, Debug)]
 pub enum Synced {
     /// Its state word said that it need not be written.
@@ -104,7 +104,7 @@ fn look_under<L: BlockLane, G: LogDevice, R: Wait>(
     table.look(seat, frame)
 }
 
-/// What came of a frame, by what came of its flush.
+/// The result for a frame, by that of its flush.
 fn synced_by(flushed: Result<FlushedPage, FrameFlushError>) -> Result<Synced, FrameFlushError>
     ensures { result ≡ synced_of flushed }
 {

@@ -40,7 +40,7 @@ use thiserror::Error;
 /// Why no frame was freed for a block.
 #[derive(Clone, Copy, PartialEq, Eq, Debug, Error)]
 pub enum VictimError {
-    /// Each of so many frames was seen pinned. The census has their words.
+    /// Each frame, of this many, was seen pinned. The census has their words.
     #[error("each of {frames} frames is pinned")]
     NoUnpinned { frames: u32 },
     /// The page of a dirty frame was not written.
@@ -48,7 +48,7 @@ pub enum VictimError {
     Flush(FrameFlushError),
 }
 
-/// What came of one try to free a frame.
+/// The result of one try to free a frame.
 pub(crate) enum Freed {
     /// The frame is a victim without a tag.
     Ready(Pin),

@@ -34,7 +34,7 @@ pub record IsMarked (marked : List MarkedFrame) (f : ℕ) : Type 0 where
 abbrev pub AreMarked : List MarkedFrame → View → Type 0
 AreMarked marked v = (f : ℕ) → (link v f).left_to_write ≡ true → IsMarked marked f
 
--- the list is of frames of a pool of so many
+-- the listed frames are of a pool with this many frames
 abbrev pub AreInside : ℕ → List MarkedFrame → Type 0
 AreInside frames marked = All (λ m. m.frame < frames) marked
 
@@ -52,7 +52,7 @@ pub data NotesInOrder (v : View) : ℕ → View → List MarkedFrame → Type 0 
       → NotesInOrder v m.frame u noted → NotesBlock m.frame tag u w → m.tag ≡ packed_tag tag
       → NotesInOrder v (m.frame + 1) w (noted ++ m ∷ [])
 
--- The dirty ones of so many frames were noted, and no device was called. The list is of these and
+-- The dirty ones of this many frames were noted, and no device was called. The list is of these and
 -- no other, by packed tag
 pub record ListsDirty (frames : ℕ) (marked : List MarkedFrame) (v w : View) : Type 0 where
   pub noted : List MarkedFrame

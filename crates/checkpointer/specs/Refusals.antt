@@ -66,7 +66,7 @@ IsDownOrFault (log.LogDown at) = Unit {0}
 IsDownOrFault (log.LogShort lsn end) = ⊥
 
 module _ {L G : Type 0} (contents : L → Option Pages) (m : Manager L G) where
-  -- A checkpoint began at `upto`, and wrote the frames that it marked, so many pages, up to this
+  -- A checkpoint began at `upto`, and wrote the frames that it marked, this many pages, up to this
   -- one, whose page was not written
   pub record StopsAtFrame (upto : ℕ) (v w : View) (why : FlushError) : Type 0 where
     pub frame : ℕ

@@ -27,7 +27,7 @@ IsFlush (LogSync done) = done ≡ true
 IsFlush (LaneWrite lane tag page done) = done ≡ true
 IsFlush _ = ⊥
 
--- how many pages are written by what came of a frame
+-- how many pages were written for a frame, by its result
 abbrev pub pages_by : Synced → ℕ
 pages_by Written = 1
 pages_by Skipped = 0
@@ -37,14 +37,14 @@ pages_by Clean = 0
 abbrev pub answered_count : ℕ → ℕ
 answered_count n = min n 4294967295
 
--- The calls of devices that were made are flushes, by which so many pages were written
+-- The calls of devices that were made are flushes, by which this many pages were written
 pub record FlushesPages (n : ℕ) (v w : View) : Type 0 where
   pub made : List DeviceCall
   pub calls : Made made v w
   pub each : All IsFlush made
   pub counted : answered_count (pages_written made) ≡ n
 
--- the syncs of so many lanes, from lane 0 on
+-- the syncs of this many lanes, from lane 0 on
 abbrev pub syncs_below : ℕ → List DeviceCall
 syncs_below zero = []
 syncs_below (suc n) = syncs_below n ++ LaneSync n true ∷ []

@@ -46,7 +46,7 @@ module _ {L G : Type 0} (contents : L → Option Pages) (t : FrameTable L G) whe
     pub needed : SyncsWhileNeeded f turn w
 
   -- A checkpoint began at `upto` in the view v, noted the dirty frames, and wrote these and no
-  -- other, in the order of their tags: so many pages
+  -- other, in the order of their tags: n pages
   pub record MarksAndWrites (upto n : ℕ) (v w : View) : Type 0 where
     pub marked : List MarkedFrame
     pub listed : View

@@ -18,7 +18,7 @@ use log_device::LogDevice;
 use segment_store::BlockLane;
 use std::sync::Wait;
 
-/// How many pages are written by what came of a frame.
+/// How many pages were written for a frame, by its result.
 fn pages(synced: Synced) -> u32
     ensures { result ≡ pages_by synced }
 {

@@ -31,7 +31,7 @@ pub struct Claims {
 }
 
 impl Claims {
-    /// The claims of so many chunks, none claimed yet, and a seat that has the parts of all
+    /// The claims of this many chunks, none claimed yet, and a seat that has the parts of all
     /// workers.
     pub fn build(
         alloc: Global,

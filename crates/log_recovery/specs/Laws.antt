@@ -48,7 +48,7 @@ pub record IsWritten (relations : List RelEntry) (e : Entry) : Type 0 where
 abbrev pub AreWritten : List RelEntry → List Entry → Type 0
 AreWritten relations es = (k : ℕ) (e : Entry) → get_elem? es k ≡ some e → IsWritten relations e
 
--- What a beginning of a log's bytes is read as, which ends so many bytes after the position `from`:
+-- What a beginning of a log's bytes is read as, which ends `left` bytes after the position `from`:
 -- the first entries, each other one of which ends later; or all, and one more whose record is all
 -- that stands behind the log
 pub data LeftRead (from : ℕ) (es : List Entry) (rest : List ℕ) (left : ℕ)

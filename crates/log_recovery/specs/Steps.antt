@@ -114,7 +114,7 @@ module _ {L : Type 0} (contents : L → Option Pages) (failed : L → Marks) whe
     pub upto : IsUpto log.base log.entries p
     pub lanes : Redoes contents failed log.entries old new
 
--- Lanes are synced one after another, so many so far
+-- Lanes are synced one after another, this many so far
 pub record IsSyncing {L : Type 0} (contents : L → Option Pages) (failed unsynced places : L → Marks)
     (reads writes : L → ℕ) (count : ℕ) (old new : List L) : Type 0 where
   pub synced : (k : ℕ) (d : L) → k < count → unsynced (get_or new k d) ≡ no_marks

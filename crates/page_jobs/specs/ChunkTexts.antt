@@ -16,7 +16,7 @@ use Rattle.page_jobs.specs.Parts.{AllReads, AreKnown, blocks_in}
 use Rattle.page_jobs.specs.Printed.{BlockRead, reads_lines}
 use Rattle.page_jobs.specs.Reads.{IsWithinFront}
 
--- the job of a window for so many blocks and workers, over a log that begins at this base, and a
+-- the job of a window for this many blocks and workers, over a log that begins at this base, and a
 -- sink as it is before the job
 abbrev pub job_of : ℕ → ℕ → ℕ → Option (List ℕ) → ℕ → Job
 job_of blocks workers base before faults = record { chunks = chunk_count blocks; width = 2 * workers; base = base; before = before; faults = faults }

@@ -34,14 +34,14 @@ abbrev pub Ascend : List ℕ → Type 0
 Ascend [] = Unit {0}
 Ascend (c ∷ cs) = ((i d : ℕ) → get_elem? cs i ≡ some d → c < d) × Ascend cs
 
--- The chunks that a pass claimed, and what came of their blocks, one after the other.
+-- The chunks that a pass claimed, and the results for their blocks, one after the other.
 -- So calls, places and outcomes are told by one list of block numbers, and no clause speaks of
 -- ranges. After a fault the items are those of the first blocks.
 pub record Claimed (A : Type 0) : Type 0 where
   pub chunks : List ℕ
   pub items : List A
 
--- what came of the blocks of several passes, one pass after the other
+-- the results for the blocks of several passes, one pass after the other
 abbrev pub items_in_all : {A : Type 0} → List (Claimed A) → List A
 items_in_all [] = []
 items_in_all (c ∷ cs) = c.items ++ items_in_all cs
@@ -61,8 +61,8 @@ pub record CoversChunks {A : Type 0} (n : ℕ) (c : Claimed A) : Type 0 where
 abbrev pub CoversAll : {A : Type 0} → ℕ → Claimed A → Type 0
 CoversAll n c = length c.items ≡ length (blocks_in_all n c.chunks)
 
--- the passes claimed the first chunks of a fork of n blocks, so many, each once: whatever the
--- weights, those of the claimed chunks sum to those of these
+-- the passes claimed the first chunks of a fork of n blocks, `many` of them, each once: whatever
+-- the weights, those of the claimed chunks sum to those of these
 abbrev pub AreFirstClaimed : {A : Type 0} → ℕ → List (Claimed A) → Type 0
 AreFirstClaimed n cs =
     (many : ℕ) × (many ≤ chunk_count n)

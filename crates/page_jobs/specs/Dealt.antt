@@ -30,7 +30,7 @@ use Rattle.page_jobs.specs.Printed.{totals_line}
 use Rattle.page_jobs.specs.Reads.{HasNoTokens}
 use Rattle.page_jobs.specs.Working.{CanBegin, ClaimsNothing, WorksChunks}
 
--- The claims of the first seat, with so many parts left to give
+-- The claims of the first seat, with this many parts left to give
 pub record IsDealing (chunks workers parts : ℕ) (c : Claimant) : Type 0 where
   pub chunks_are : c.chunks ≡ chunks
   pub workers_are : c.workers ≡ workers
@@ -78,7 +78,7 @@ module _ {K : Type 0} (begins : K → Type 0)
       ((k : K) × begins k × WorksChunks does closes n x.seat.me.0.drawn p x.pass k x.task x.end)
       × HaveDone ps xs
 
--- The passes are dealt out, with claims of the chunks of so many blocks
+-- The passes are dealt out, with claims of the chunks of this many blocks
 pub record IsDealtOut {K : Type 0} (begins : K → Type 0) (blocks : ℕ) (ps : List PassState)
     (d : Dealt K) : Type 0 where
   pub chunks : d.claims.chunks ≡ chunk_count blocks

@@ -16,7 +16,7 @@ MeetNothing ps qs =
     (w : ℕ) (p q : PassState) → get_elem? ps w ≡ some p → get_elem? qs w ≡ some q
     → q.view.met ≡ p.view.met
 
--- The catalogue has so many blocks of this fork of its first relation, and no other block
+-- The catalogue has this many blocks of this fork of its first relation, and no other block
 pub record IsCatalogOf (fork : Fork) (blocks : ℕ) (catalog : List RelEntry) : Type 0 where
   pub counted : blocks_at catalog 0 fork ≡ blocks
   pub alone : (tag : Tag) → has_block catalog tag ≡ true → tag ≡ tag_at fork tag.block

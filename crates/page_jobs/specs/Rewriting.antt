@@ -135,7 +135,7 @@ module _ {L G : Type 0} (contents : L → Option Pages) (m : Manager L G) where
   FollowsRule rel fork number (changed b i p n k) =
       (i ≡ number) × (is_sound_page p ≡ true) × ((rule_of rel fork).changes p ≡ true) × (n < k)
 
-  -- What came of a sound page of a block, between these two states of the pass
+  -- The outcome of a sound page of a block, between these two states of the pass
   pub record RewritesPage (tag : Tag) (p q : PassState)
       (r : Result PageRewrite InsertError) : Type 0 where
     pub outcome : Outcome
@@ -208,7 +208,7 @@ module _ {L G : Type 0} (contents : L → Option Pages) (m : Manager L G) (rel :
     pub ended : EachOutcome IsEnded os
     pub met : q.view.met ≡ p.view.met
 
-  -- A worker has dealt with these blocks, and counted what came of them
+  -- A worker has dealt with these blocks, and counted their outcomes
   pub record CountsRewrites (blocks : List ℕ) (p q : PassState) (t u : RewriteTotals)
       (end : Result Unit JobError) : Type 0 where
     pub outcomes : List Outcome

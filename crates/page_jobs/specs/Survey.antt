@@ -75,7 +75,7 @@ module _ {L : Type 0} (contents : L → Option Pages) (failed_writes unsynced : 
 
 module _ {L : Type 0} (contents : L → Option Pages) (failed_writes unsynced : L → Marks)
     (read_faults write_faults calls : L → ℕ) where
-  -- Each of these blocks, so many, was read, and no read failed
+  -- Each of these blocks was read, and no read failed
   pub record Surveys (blocks : Tag → Type 0) (count : ℕ) (old new : List L)
       (largest : ℕ) : Type 0 where
     pub same : AreOnlyRead contents failed_writes unsynced write_faults old new
@@ -96,11 +96,11 @@ module _ {L : Type 0} (contents : L → Option Pages) (failed_writes unsynced : 
 abbrev pub AreOfBlock : Tag → Tag → Type 0
 AreOfBlock tag other = other ≡ tag
 
--- the first blocks of a fork, so many
+-- the first `count` blocks of a fork
 abbrev pub AreOfFork : ℕ → Fork → ℕ → Tag → Type 0
 AreOfFork rel fork count tag = (tag.rel.0 ≡ rel) × (tag.fork ≡ fork) × (tag.block < count)
 
--- the blocks of a relation's first forks, so many
+-- the blocks of a relation's first `forks` forks
 abbrev pub AreOfForks : List RelEntry → ℕ → ℕ → Tag → Type 0
 AreOfForks catalog rel forks tag =
     (tag.rel.0 ≡ rel) × (fork_number tag.fork < forks) × IsListed catalog tag
@@ -109,6 +109,6 @@ AreOfForks catalog rel forks tag =
 abbrev pub AreOfRelation : List RelEntry → ℕ → Tag → Type 0
 AreOfRelation catalog rel tag = (tag.rel.0 ≡ rel) × IsListed catalog tag
 
--- the blocks of the catalogue's first relations, so many
+-- the blocks of the catalogue's first `relations` relations
 abbrev pub AreOfRelations : List RelEntry → ℕ → Tag → Type 0
 AreOfRelations catalog relations tag = (tag.rel.0 < relations) × IsListed catalog tag

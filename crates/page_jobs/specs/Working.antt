@@ -10,14 +10,14 @@ use Rattle.page_jobs.specs.declared.working.Worker.{Worker}
 use Rattle.page_jobs.specs.Blocks.{blocks_from}
 use Rattle.page_jobs.specs.Chunks.{Ascend, blocks_of, chunk_count, chunk_size, chunk_start}
 
--- A task can count up to so many blocks more; one that begins, those of any fork
+-- A task can count up to this many blocks more; one that begins, those of any fork
 abbrev pub CanCount : {K : Type 0} → (K → ℕ → Type 0) → K → ℕ → Type 0
 CanCount fits k most = (n : ℕ) → n ≤ most → fits k n
 
 abbrev pub CanBegin : {K : Type 0} → (K → ℕ → Type 0) → K → Type 0
 CanBegin fits k = CanCount fits k (2 ^ 32)
 
--- The claims of a worker that begins, of so many chunks and workers
+-- The claims of a worker that begins, of this many chunks and workers
 pub record ClaimsNothing (chunks workers : ℕ) (c : Claimant) : Type 0 where
   pub chunks_are : c.chunks ≡ chunks
   pub workers_are : c.workers ≡ workers

@@ -137,7 +137,7 @@ struct Dealt<K> {
     workers: Vec<Worker<K>>,
 }
 
-/// Each pass becomes a worker, which claims chunks of so many blocks.
+/// Each pass becomes a worker, which claims chunks of this many blocks.
 fn deal_out<K: JobTask>(
     alloc: Global,
     blocks: u32,

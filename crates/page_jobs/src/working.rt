@@ -46,7 +46,7 @@ pub(crate) trait JobTask {
     // The first one is the job's task, and the second one that of a worker that begins.
     ghost begins: { Self → Self → Type 0 };
 
-    // So many workers can still begin.
+    // This many workers can still begin.
     ghost deals: { ℕ → Self → Type 0 };
 
     // The third one is what the job's task, the first one, is after a worker gave the second one
@@ -79,10 +79,10 @@ pub(crate) trait BlockTask<L: BlockLane, G: LogDevice, W> {
     // It can begin a chunk of the fork.
     ghost opens: { Manager L G → ℕ → Fork → Self → Type 0 };
 
-    // It can count so many blocks more.
+    // It can count this many blocks more.
     ghost fits: { Self → ℕ → Type 0 };
 
-    /// The ring to read with, for a fork of so many blocks and a table of so many frames.
+    /// The ring to read with, for a fork of this many blocks and a table of this many frames.
     fn ring(&self, alloc: Global, blocks: u32, frames: u32) -> Result<Option<Ring>, AllocError>
         requires { (16 ≤ frames) × (frames ≤ 4096) };
 
@@ -144,7 +144,7 @@ pub(crate) struct Worker<K> {
     pub(crate) end: Result<(), JobError>,
 }
 
-/// How many chunks so many blocks have.
+/// How many chunks this many blocks have.
 pub(crate) fn chunk_count(blocks: u32) -> u32
     ensures { result ≡ chunk_count blocks }
 {

@@ -103,7 +103,7 @@ rewrite_totals_text t =
     ∷ codes " same " ∷ decimal t.same ∷ codes " skipped " ∷ decimal t.skipped ∷ codes " new "
     ∷ decimal t.new ∷ codes " invalid " ∷ decimal t.invalid ∷ codes " dead " ∷ decimal t.dead ∷ [])
 
--- no number is above what so many pages can give, each with fewer than 65536 line pointers
+-- no number is above what this many pages can give, each with fewer than 65536 line pointers
 pub record IsRewriteWithin (t : RewriteTotals) (blocks : ℕ) : Type 0 where
   pub blocks_are : t.blocks ≡ blocks
   pub changed : t.changed ≤ blocks

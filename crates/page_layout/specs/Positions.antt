@@ -8,7 +8,7 @@ abbrev pub DiffersInPosition : List ℕ → List ℕ → Type 0
 DiffersInPosition page other =
     (other ≡ page) ⊎ (IsUsedPage page × ((lsn : ℕ) × (other ≡ with_lsn lsn page)))
 
--- two lists of pages, in which this is so block by block
+-- two lists of pages that differ at most in their log positions, block by block
 pub record DifferInPositions (pages others : List (List ℕ)) : Type 0 where
   pub count : length others ≡ length pages
   pub each : (block : ℕ) (page other : List ℕ) → slice_get pages block ≡ Some page

@@ -97,7 +97,7 @@ scan_lines_from block (page ∷ pages) = scan_line_of block page ++ scan_lines_f
 unfoldable pub scan_text : List (List ℕ) → List ℕ
 scan_text pages = scan_lines_from 0 pages ++ (totals_text (totals_of pages) ++ codes "\n")
 
--- no number is above what so many pages can give, each with fewer than 65536 line pointers
+-- no number is above what this many pages can give, each with fewer than 65536 line pointers
 pub record IsWithin (t : ScanTotals) (blocks : ℕ) : Type 0 where
   pub blocks_are : t.blocks ≡ blocks
   pub used : t.used ≤ blocks

@@ -11,7 +11,7 @@ use crate::page::Page;
 pub enum Rewrite {
     /// Rewritten, it is the same in all bytes.
     Same,
-    /// Rewritten, it is another page; so many of its line pointers were dead.
+    /// Rewritten, it is another page, and this many of its line pointers were dead.
     Changed { dead: u16 },
     /// It is left alone: it has a checksum, a special space or a lower end within the header, an
     /// item that reaches out of the items' space, or more items than fit after the line pointers.

@@ -40,7 +40,7 @@ use Rattle.relation_commands.specs.declared.rewriting.RewriteError.TheVariants.{
 use Rattle.relation_commands.specs.Rewriting.{checkpoint_error, rewrite_error, rewrite_totals_in}
 use Rattle.relation_commands.specs.Rounds.{MakesRounds}
 
--- The view has swept each of so many lanes up to a position that is at least this one
+-- The view has swept each of this many lanes up to a position that is at least this one
 pub record SweepsPast (lanes front : ℕ) (v : View) : Type 0 where
   pub upto : ℕ
   pub past : front ≤ upto
@@ -81,7 +81,7 @@ module _ {L G : Type 0} (contents : L → Option Pages) (m : Manager L G) where
     pub last : (p q : PassState) → get_elem? ps (length ps - 1) ≡ some p
         → get_elem? qs (length ps - 1) ≡ some q → Belongs contents m q × KeepsCallers p q
 
--- the last one has swept each of so many lanes past the front of each pass, and met no fault
+-- the last one has swept each of this many lanes past the front of each pass, and met no fault
 pub record StoresAll (lanes : ℕ) (ps qs : List PassState) : Type 0 where
   pub upto : ℕ
   pub fronts : EachPass (λ q. q.view.front ≤ upto) qs
@@ -109,7 +109,7 @@ module _ {L G : Type 0} (contents : L → Option Pages) (m : Manager L G) (fork 
 
   module _ (rounds : ℕ) where
     -- The passes `ps`, which were `qs` after the job, rewrote all blocks, beside which the last one
-    -- made so many rounds, and then, as `zs`, have stored what was logged; none met a fault
+    -- made this many rounds, and then, as `zs`, have stored what was logged; none met a fault
     pub record StoresWhole (ps qs zs : List PassState) (totals : RewriteTotals) : Type 0 where
       pub counts : Totals
       pub all : RewritesFork contents m 0 fork (workers_in ps) (workers_in qs) counts

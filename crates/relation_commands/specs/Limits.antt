@@ -23,6 +23,6 @@ rounded_up lsn = (lsn + 7) / 8 * 8
 unfoldable pub log_base : List Page → ℕ
 log_base pages = rounded_up (largest_lsn pages)
 
--- a record of each of so many blocks could pass the last position
+-- a record of each of this many blocks could pass the last position
 abbrev pub PassesLimit : ℕ → ℕ → Type 0
 PassesLimit largest blocks = last_position < rounded_up largest + record_size * blocks

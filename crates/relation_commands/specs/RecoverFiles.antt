@@ -47,7 +47,7 @@ AreFirstIn r logs es = IsSomeAnd (logs r.log) (λ file. (HasBadHead file.bytes �
     × ((log : Log) → IsLogOf (catalog_of r.path) file.bytes log
     → (rest : List Entry) × (log.entries ≡ es ++ rest)))
 
--- the relation that was opened is longer by so many new pages; all other paths are as they were
+-- the relation that was opened is longer by this many new pages; all other paths are as they were
 abbrev pub with_more : OpenAt → ℕ → Paths → Paths
 with_more at n paths = λ path. if bytes_eq path at.path
     then extended at.seg_blocks (length (relation_of at.seg_blocks (paths path))) n (paths path)

@@ -104,7 +104,7 @@ pub record LosesFiles (r : LoggedAsked) (log : Log) (file : StoredLog) (after : 
   pub there : left.logs r.log ≡ Some kept
   pub loss : IsLostFrom log file after (pages_at r left.paths) (done.failed r.path) kept.bytes
 
--- the recovery by a rewrite's log, over so many lanes
+-- the recovery by a rewrite's log, over this many lanes
 abbrev pub recovery_of : LoggedAsked → ℕ → LoggedAsked
 recovery_of r lanes = record {
   path = r.path;

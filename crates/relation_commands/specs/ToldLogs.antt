@@ -26,7 +26,7 @@ LogsAreTold = (relations : List RelEntry) → IsCatalogue relations
     → (a.base ≡ b.base) × (without_backends a.entries ≡ without_backends b.entries)
     × (rest ≡ more)
 
--- how the log of the relation at a path names its blocks, of which there are so many
+-- how the log of the relation at a path names its blocks, of which there are this many
 abbrev pub names_at : List ℕ → ℕ → ℕ → List ℕ
 names_at path blocks = names_of (record {
   number = unwrap_or (relation_number path) 0;

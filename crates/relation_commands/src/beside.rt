@@ -9,7 +9,7 @@ use page_jobs::Beside;
 use segment_store::BlockLane;
 use std::sync::Wait;
 
-/// So many rounds of the background writer.
+/// This many rounds of the background writer.
 #[derive(Drop)]
 pub(crate) struct Rounds {
     count: u32,

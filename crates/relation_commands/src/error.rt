@@ -12,7 +12,7 @@ use segment_store::HostError;
 use std::alloc::{AllocError, Global};
 use std::fmt;
 
-/// So many backends, which need more frames than these.
+/// This many backends, which need more frames than these.
 #[derive(Clone, Copy, PartialEq, Eq, Debug)]
 pub struct Crowding {
     pub backends: u32,

@@ -125,7 +125,7 @@ fn list_blocks<L: BlockLane + Send, R: Threads + Wait + Sync, O: Sink + Send, T:
         (workers_in passes.items) (workers_in result.passes.items) }
     ensures last { StaysBeside L.contents manager.now passes.items result.passes.items }
     ensures met { OnOk result.end (MeetNothing passes.items result.passes.items) }
-    // Beside them the last pass made so many rounds of the background writer.
+    // Beside them the last pass made this many rounds of the background writer.
     ensures beside { OnOk result.end (LastDid
         (λ p q. MakesRounds L.contents manager.now listed.rounds p q (Ok tt))
         passes.items result.passes.items) }

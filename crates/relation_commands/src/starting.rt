@@ -55,7 +55,7 @@ impl RelationFork {
     }
 }
 
-/// A log in memory that begins at `base`, with room for so many records.
+/// A log in memory that begins at `base`, with room for this many records.
 pub(crate) fn new_log(alloc: Global, base: Lsn, records: u32) -> Result<MemLog, AllocError>
     ensures bytes { IfOk result (λ log. log.sink.bytes ≡ head_bytes base) }
     ensures synced { IfOk result (λ log. log.synced ≡ 0) }

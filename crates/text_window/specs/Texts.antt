@@ -17,7 +17,7 @@ pub record Job : Type 0 where
   pub before : Option (List ℕ)
   pub faults : ℕ
 
--- the texts of the first chunks, so many, one after the other
+-- the texts of the first n chunks, one after the other
 abbrev pub AreFirstTexts : (ℕ → List ℕ → Type 0) → ℕ → List ℕ → Type 0
 AreFirstTexts texts zero t = t ≡ []
 AreFirstTexts texts (suc n) t =
