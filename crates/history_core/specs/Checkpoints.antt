@@ -68,6 +68,6 @@ pub record HasStored (p : Page) (t : State) : Type 0 where
 abbrev pub CheckpointRuns : Type 0
 CheckpointRuns = (p : Page) → IsPut p
     → (t : State)
-        × Run (miss ++ fill ++ change p ++ flush p ++ begin ++ write p ++ drop ++ sync ++ join)
-            miss_start t
-        × HasStored p t
+    × Run (miss ++ fill ++ change p ++ flush p ++ begin ++ write p ++ drop ++ sync ++ join)
+    miss_start t
+    × HasStored p t

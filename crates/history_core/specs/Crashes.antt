@@ -55,7 +55,7 @@ StartsSynced s tag = s.unsynced_at_start tag ≡ false
 abbrev pub CanRedo : State → List Entry → ℕ → Type 0
 CanRedo s es tag = HasWholePage es tag
     ⊎ ((is_block s.pool.core tag ≡ true) × (s.known tag ≡ true) × StartsSynced s tag
-        × RangesStartAtBase s es tag)
+    × RangesStartAtBase s es tag)
 
 -- What redo makes of a block: the page that the surviving entries make of the one at the start.
 -- Excepted are only blocks whose frame a backend marked dirty with no entry made

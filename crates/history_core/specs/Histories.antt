@@ -208,7 +208,7 @@ pub record WriteStands (s t : State) (f : ℕ) (p : Page) (change : Change)
   -- the calls grow by the write, at the log's new end, with what is known of its record
   pub added : w.calls
       ≡ v.calls ++ Write v.number (s.pool.core.frame f).tag p t.end
-          (logged_as change v.log.redo (link v f).copied) ∷ []
+      (logged_as change v.log.redo (link v f).copied) ∷ []
   -- the backend's front is the log's new end
   pub front : w.front ≡ t.end
   -- the page's position in the log is the write's place
@@ -245,13 +245,13 @@ pub record SizeStands (s : State) (fork : ℕ) (v w : View) : Type 0 where
 abbrev pub SizesStand : State → Type 0
 SizesStand s = (i fork : ℕ) (t : State) → Step (read_size i fork) s t
     → (v : View) × (w : View) × (get_elem? s.pool.core.views i ≡ some v)
-        × (get_elem? t.pool.core.views i ≡ some w) × SizeStands s fork v w
+    × (get_elem? t.pool.core.views i ≡ some w) × SizeStands s fork v w
 
 -- each `read` stands at the log's end, with the page that the backend had copied
 abbrev pub ReadsStand : State → Type 0
 ReadsStand s = (i f : ℕ) (t : State) → Step (read i f) s t
     → (v : View) × (w : View) × (get_elem? s.pool.core.views i ≡ some v)
-        × (get_elem? t.pool.core.views i ≡ some w) × ReadStands s f v w
+    × (get_elem? t.pool.core.views i ≡ some w) × ReadStands s f v w
 
 -- the page of a read whose place is the log's base is what its lane held at the start, if the
 -- lane's contents are known
@@ -275,7 +275,7 @@ SyncsCover s = (tag : ℕ) → unsynced s tag ≡ false → synced_upto s tag �
 abbrev pub WritesStand : State → Type 0
 WritesStand s = (i f : ℕ) (p : Page) (c : Change) (t : State) → Step (enter i f p c) s t
     → (v : View) × (w : View) × (get_elem? s.pool.core.views i ≡ some v)
-        × (get_elem? t.pool.core.views i ≡ some w) × WriteStands s t f p c v w
+    × (get_elem? t.pool.core.views i ≡ some w) × WriteStands s t f p c v w
 
 -- Log before data: the position of the page that goes to a lane, or was to go there when the write
 -- failed, is at most the flushed position as the backend had loaded it before the lane went out,
@@ -302,7 +302,7 @@ abbrev pub LanesGoOutFlushed : State → Type 0
 LanesGoOutFlushed s = (i n : ℕ) (taken : TakenLane) (t : State)
     → Step (lane i n (lane_out taken)) s t
     → (v : View) × (w : View) × (get_elem? s.pool.core.views i ≡ some v)
-        × (get_elem? t.pool.core.views i ≡ some w) × ((lane_hold w n).flushed ≡ v.flushed)
+    × (get_elem? t.pool.core.views i ≡ some w) × ((lane_hold w n).flushed ≡ v.flushed)
 
 -- the flushed position that a backend has loaded is at most the flushed position
 abbrev pub LoadedIsFlushed : State → Type 0

@@ -141,4 +141,4 @@ pub record IsFlushedCell (origin : ℕ → Option Page) (log : Log) (flushed tag
   -- block's after the entries that it has, or the block is new to the lane
   pub is_cell : h.known ≡ true → h.failed ≡ false
       → (h.stored ≡ cell origin (cut h.stored_upto log.entries) tag)
-          ⊎ IsUnwrittenNew log.entries tag h
+      ⊎ IsUnwrittenNew log.entries tag h

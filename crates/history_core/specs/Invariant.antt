@@ -24,7 +24,7 @@ use Rattle.grid.specs.Shape.{Grid, total}
 abbrev pub HasNumber : View → ℕ → Type 0
 HasNumber v number = number ≢ v.number
     → (k : ℕ) × (c : JoinedCheckpoint) × (get_elem? v.joined_checkpoints k ≡ some c)
-        × (c.number ≡ number)
+    × (c.number ≡ number)
 
 -- What holds of the calls of a view
 pub record CallsLaw (known : ℕ → Bool) (origin : ℕ → Option Page) (sizes : ℕ → ℕ) (log : Log)
