@@ -1,6 +1,6 @@
 -- What the law says in the field's words.
-use Rattle.std.proofs.Common.{◌≡◌, ◌≢◌, ℕ, ◌+◌, ◌<◌, ◌≤◌, Bool, true, false, cond, List, Option, Some, None, sym, refl, ap, subst, ◌∙◌, arith}
-use Rattle.std.specs.Prelude.{count_by, if◌then◌else◌}
+use Rattle.std.proofs.Common.{◌≡◌, ◌≢◌, ℕ, ◌+◌, ◌<◌, ◌≤◌, true, cond, List, Option, Some, None, sym, refl, ap, subst, ◌∙◌, arith}
+use Rattle.std.specs.Prelude.{count_by}
 use mathlib.Core.Logic.{dite}
 use mathlib.Core.Option.{some, some-injective}
 use native.Mathlib.Decide.{ℕ_discrete}
@@ -24,6 +24,7 @@ use Rattle.grid.proofs.Grids.{Relinks}
 use Rattle.pin_core.specs.Kinds.{unpin}
 use Rattle.pin_core.specs.Steps as pin_steps
 use Rattle.pin_core.specs.Schedules.{IsHandedOut}
+use Rattle.pin_core.proofs.Tallies.{flag_count}
 use Rattle.pin_core.proofs.Stepping.{tags_stay}
 use Rattle.pin_core.proofs.Schedules as pin_schedules
 use Rattle.pin_core.proofs.Schedules.{PinStays, view_stays, tag_there}
@@ -70,10 +71,6 @@ one_worker : (o : Io) → work_weight o ≡ cond (is_working o) 1 0
 one_worker Quiet = refl
 one_worker Input = refl
 one_worker Output = refl
-
-pub flag_count : (b : Bool) → flag_weight b ≡ (if b then 1 else 0)
-flag_count true = refl
-flag_count false = refl
 
 -- an exclusive lock has its entry applied, or not
 applied_or_not : (b : Block) (fr : Frame) (l : Link) → PageLink b fr l → exclusive_weight l.content ≡ weigh applied_locks l + weigh unapplied_locks l

@@ -1,5 +1,6 @@
 -- The law holds at the start.
-use Rattle.std.proofs.Common.{◌≡◌, ℕ, Bool, true, false, cond, [], ◌∷◌, Option, None, sym, ap, ◌∙◌, subst, arith}
+use Rattle.std.proofs.Common.{◌≡◌, ℕ, Bool, cond, [], ◌∷◌, Option, None, sym, ap, ◌∙◌, subst, arith}
+use Rattle.std.proofs.lemmas.Bool.{false≢true}
 use Rattle.pin_core.specs.declared.view.Link.{Link}
 use Rattle.pin_core.specs.declared.view.View.{View}
 use Rattle.pin_core.specs.State.{Config, CanOpen, Page, link, first_view, empty_frame, no_tag}
@@ -21,9 +22,6 @@ no_sums base n p m f k = let e : weigh k (link (first_view base n p m) f) ≡ 0 
 empty_frame_law : (b : Block) (p : Page) (t : Tally → ℕ) → ((k : Tally) → t k ≡ 0) → PageFrame b (empty_frame p) t
 empty_frame_law b p t e = grind (arith, e sharers, e applied_locks, e unapplied_locks, e copies, e works, e outs, e (waits_as 0))
 
-flags_differ : false ≡ true → ⊥
-flags_differ e = absurd (cc)
-
 pub opens : (c : Config) (origin : ℕ → Option Page) (page : Page) → CanOpen c → PageInvariant (opening c origin page)
 opens c origin page can = let base = c.base in let n = c.frames in let p = c.partitions in let m = c.lanes in let w : View = first_view base n p m in let b : Block = block_of (below_sizes c.sizes origin) no_tag in record {
   core = pins.opens c page can;
@@ -33,6 +31,6 @@ opens c origin page can = let base = c.base in let n = c.frames in let p = c.par
     cells = λ i v f there below. subst (λ (x : View). PageLink b (empty_frame page) (link x f)) (at_only w v i there).0 (new_link b 0 base n p m f (empty_frame page));
   };
   waits = λ i v there. subst WaitsOnce (at_only w v i there).0 (waits_first base n p m);
-  noted = λ i f v there below e. absurd (flags_differ (sym (ap (λ (z : Link). z.noted) (link_new n p m 0 base f)) ∙ ap (λ (z : View). (link z f).noted) (at_only w v i there).0 ∙ e));
+  noted = λ i f v there below e. absurd (false≢true (sym (ap (λ (z : Link). z.noted) (link_new n p m 0 base f)) ∙ ap (λ (z : View). (link z f).noted) (at_only w v i there).0 ∙ e));
   gone = λ tag e. ap (λ (x : Bool). cond x (origin tag) None) e;
 }

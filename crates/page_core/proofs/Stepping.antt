@@ -1,20 +1,19 @@
 -- Each step keeps the law, and so does each list of steps.
-use Rattle.std.proofs.Common.{◌≡◌, ◌≢◌, ◌⊎◌, ℕ, ◌+◌, ◌<◌, ◌≤◌, Bool, true, false, cond, nat_lt, List, [], ◌∷◌, ◌++◌, Option, Some, None, length, set, length-set, get_or-set_same, get_or-set_other, sym, refl, ap, ◌∙◌, subst, ⊎_elim, arith}
-use Rattle.std.proofs.lemmas.Bool.{le-ltb, lt-ltb}
+use Rattle.std.proofs.Common.{◌≡◌, ◌≢◌, ℕ, ◌+◌, ◌<◌, ◌≤◌, Bool, true, false, cond, nat_lt, List, [], ◌∷◌, ◌++◌, Option, Some, None, length, set, length-set, get_or-set_same, get_or-set_other, sym, refl, ap, ◌∙◌, subst, ⊎_elim, arith}
+use Rattle.std.proofs.lemmas.Bool.{false≢true, le-ltb, lt-ltb}
 use mathlib.Core.Logic.{dite}
 use mathlib.Core.Option.{some}
 use native.Mathlib.Decide.{ℕ_discrete}
 use lib.ListN.{get_elem?}
 use Rattle.pin_core.specs.declared.view.Content.TheVariants.{Exclusive}
 use Rattle.pin_core.specs.declared.view.Io.TheVariants.{Quiet, Input}
-use Rattle.pin_core.specs.declared.view.SizeRight.TheVariants as size_right
 use Rattle.pin_core.specs.declared.view.Link.{Link}
 use Rattle.pin_core.specs.declared.view.View.{View}
 use Rattle.pin_core.specs.State.{Frame, Page, no_tag, tag_fork, tag_block, is_block, is_cut, idle, link, hold, local, new_view, emptied_view, joined_view}
 use Rattle.pin_core.specs.State as below
 use Rattle.pin_core.specs.Tallies.{frame_shape}
 use Rattle.pin_core.specs.Tallies as pins_tallies
-use Rattle.pin_core.specs.Sizes.{SizeKind, load_size, share_size, exclude_size, unshare_size, unexclude_size, pass_frame, store_size, enter_extension, enter_cut, SizesLaw, SizeAllowed, CanEnterExtension, CanEnterCut, size_after, extended_link, view_sized, state_sized}
+use Rattle.pin_core.specs.Sizes.{SizeKind, load_size, share_size, exclude_size, unshare_size, unexclude_size, pass_frame, store_size, enter_extension, enter_cut, SizesLaw, SizeAllowed, CanEnterExtension, CanEnterCut, extended_link, view_sized, state_sized}
 use Rattle.pin_core.specs.Invariant as pins
 use Rattle.pin_core.specs.Kinds as pin_kinds
 use Rattle.pin_core.specs.Turns.{view_turned}
@@ -23,7 +22,7 @@ use Rattle.pin_core.specs.Steps.{HoldsNothingAt}
 use Rattle.pin_core.proofs.Views.{link_new}
 use Rattle.pin_core.proofs.Stepping as pin_stepping
 use Rattle.pin_core.proofs.Stepping.{tags_stay, local_keeps, sized_links, sized_alike}
-use Rattle.pin_core.proofs.Sizing.{excludes_others, new_block, grown_block, here_logged, other_logged, logged_kept, below_cut}
+use Rattle.pin_core.proofs.Sizing.{rights_differ, excludes_others, new_block, grown_block, here_logged, other_logged, logged_kept, below_cut}
 use Rattle.pin_core.proofs.SizeSteps.{frames_keep, step_keeps_law}
 use Rattle.pin_core.proofs.SizeSchedules.{no_exclusive}
 use Rattle.page_core.specs.State.{Block, State, block_of, zero_page}
@@ -50,12 +49,6 @@ to_pins n frame block views g = record { columns = g.columns; cells = g.cells }
 -- both laws of a state
 pub knows : (s : State) → PageInvariant s → Grid page_shape known s.core.frames s.core.frame (block_of s.logged) s.core.views
 knows s h = both_grids (to_pages s.core.frames s.core.frame (block_of s.logged) s.core.views h.core.grid) h.pages
-
-flags_differ : false ≡ true → ⊥
-flags_differ e = absurd (cc)
-
-rights_differ : size_right.Unheld ≡ size_right.Exclusive → ⊥
-rights_differ e = absurd (cc)
 
 -- a block that a view notes isn't there yet, and has no page
 pub noted_outside : (s : State) (h : PageInvariant s) (i f : ℕ) (v : View) → get_elem? s.core.views i ≡ some v → f < s.core.frames → (link v f).noted ≡ true → is_block s.core (s.core.frame f).tag ≡ false
@@ -174,13 +167,13 @@ module _ (s : State) (h : PageInvariant s) (i f : ℕ) (v : View) (there : get_e
           where
             by_note : (y : Bool) → l.noted ≡ y → ⊥
             by_note true e = one_noter s h i j f v u other there here inside e noted
-            by_note false e = flags_differ (sym (noted_outside s h j f u here inside noted) ∙ may.block e)
+            by_note false e = false≢true (sym (noted_outside s h j f u here inside noted) ∙ may.block e)
 
     gone_after : AllowedAround k s v f → (tag : ℕ) → is_block s.core tag ≡ false → logged' tag ≡ None
     gone_after around tag e = ⊎_elim
         (λ (same : block_after k b ≡ b). put_same s.logged fr.tag (block_after k b).logged tag (ap (λ (x : Block). x.logged) same) ∙ h.gone tag e)
         (λ (x : (p : Page) × (k ≡ make_entry p)). let may : MayMakeEntry s v f = subst (λ (y : Kind). AllowedAround y s v f) x.1 around in
-        put_else s.logged fr.tag (block_after k b).logged tag (λ same. flags_differ (sym e ∙ ap (λ (z : ℕ). is_block s.core z) same ∙ may.block)) ∙ h.gone tag e) (entry_or k b)
+        put_else s.logged fr.tag (block_after k b).logged tag (λ same. false≢true (sym e ∙ ap (λ (z : ℕ). is_block s.core z) same ∙ may.block)) ∙ h.gone tag e) (entry_or k b)
 
     pub kind_step_keeps : AllowedAround k s v f → PageInvariant (state_after k s i f v)
     kind_step_keeps around = record {
@@ -307,8 +300,8 @@ module _ (s : State) (h : PageInvariant s) (i fork : ℕ) (v : View) (there : ge
   -- a block that isn't there after the step has no page
   gone_sized : (k : SizeKind) → SizeAllowed k s.core v fork → (tag : ℕ) → is_block (state_sized k s.core i fork v) tag ≡ false → logged_sized k fork s tag ≡ None
   gone_sized (enter_extension f end) a tag e = let new = new_block s.core h.sizes i fork v there h.core live f end a in
-      put_else s.logged (s.core.frame f).tag (Some zero_page) tag (λ same. flags_differ (sym e ∙ ap (is_block (state_sized (enter_extension f end) s.core i fork v)) same ∙ new))
-      ∙ h.gone tag (was_not (is_block s.core tag) (λ x. flags_differ (sym e ∙ grown_block s.core h.sizes i fork v there h.core live f end a tag x)))
+      put_else s.logged (s.core.frame f).tag (Some zero_page) tag (λ same. false≢true (sym e ∙ ap (is_block (state_sized (enter_extension f end) s.core i fork v)) same ∙ new))
+      ∙ h.gone tag (was_not (is_block s.core tag) (λ x. false≢true (sym e ∙ grown_block s.core h.sizes i fork v there h.core live f end a tag x)))
     where
       was_not : (b : Bool) → (b ≡ true → ⊥) → b ≡ false
       was_not true n = absurd (n refl)
@@ -318,7 +311,7 @@ module _ (s : State) (h : PageInvariant s) (i fork : ℕ) (v : View) (there : ge
       by_cut : (b : Bool) → is_cut fork n tag ≡ b → cond b None (s.logged tag) ≡ None
       by_cut true x = refl
       by_cut false x = h.gone tag (dite (ℕ_discrete (tag_fork tag) fork)
-          (λ same. absurd (flags_differ (sym e ∙ ap (nat_lt (tag_block tag)) (here_logged s.core h.sizes i fork v there (enter_cut n end) (tag_fork tag) same) ∙ lt-ltb (tag_block tag) n (below_cut n tag same x))))
+          (λ same. absurd (false≢true (sym e ∙ ap (nat_lt (tag_block tag)) (here_logged s.core h.sizes i fork v there (enter_cut n end) (tag_fork tag) same) ∙ lt-ltb (tag_block tag) n (below_cut n tag same x))))
           (λ o. ap (nat_lt (tag_block tag)) (sym (other_logged s.core h.sizes i fork v there (enter_cut n end) (tag_fork tag) o)) ∙ e))
   gone_sized load_size a tag e = h.gone tag (ap (nat_lt (tag_block tag)) (sym (logged_kept s.core fork load_size (tag_fork tag) refl)) ∙ e)
   gone_sized share_size a tag e = h.gone tag (ap (nat_lt (tag_block tag)) (sym (logged_kept s.core fork share_size (tag_fork tag) refl)) ∙ e)
@@ -421,29 +414,26 @@ module _ (s : State) (h : PageInvariant s) (i f : ℕ) (v : View) (there : get_e
   noted_pins : NotedPages (record s { core = pin_steps.state_after k s.core i f v })
   noted_pins = noted_change s h.noted i v view_now (put s.core.frame f (pin_kinds.frame_after k frame_here)) (pin_steps.state_after k s.core i f v).partition s.core.size s.logged there noted_own_pins noted_other_pins
 
+quiet_not_input : Quiet ≡ Input → ⊥
+quiet_not_input e = absurd (cc)
+
 noted_split : (s : State) → NotedPages s → (number base n p m : ℕ) → NotedPages (record s { core = record s.core { views = s.core.views ++ new_view number base n p m ∷ [] } })
 noted_split s h number base n p m i f v there below e = let b : View = new_view number base n p m in ⊎_elim
     (λ (x : get_elem? s.core.views i ≡ some v). let law = h i f v x below e in record {
       page = law.page;
-      alone = λ j u other here. ⊎_elim (λ (y : get_elem? s.core.views j ≡ some u). law.alone j u other y) (λ (y : (b ≡ u) × (j ≡ length s.core.views)). λ is. idle_input (sym (ap (λ (z : Link). z.io) (link_new n p m number base f)) ∙ ap (λ (z : View). (link z f).io) y.0 ∙ is)) (at_end s.core.views b u j here);
+      alone = λ j u other here. ⊎_elim (λ (y : get_elem? s.core.views j ≡ some u). law.alone j u other y) (λ (y : (b ≡ u) × (j ≡ length s.core.views)). λ is. quiet_not_input (sym (ap (λ (z : Link). z.io) (link_new n p m number base f)) ∙ ap (λ (z : View). (link z f).io) y.0 ∙ is)) (at_end s.core.views b u j here);
     })
-    (λ (x : (b ≡ v) × (i ≡ length s.core.views)). absurd (flags_differ (sym (ap (λ (z : Link). z.noted) (link_new n p m number base f)) ∙ ap (λ (z : View). (link z f).noted) x.0 ∙ e))) (at_end s.core.views b v i there)
-  where
-    idle_input : Quiet ≡ Input → ⊥
-    idle_input e = absurd (cc)
+    (λ (x : (b ≡ v) × (i ≡ length s.core.views)). absurd (false≢true (sym (ap (λ (z : Link). z.noted) (link_new n p m number base f)) ∙ ap (λ (z : View). (link z f).noted) x.0 ∙ e))) (at_end s.core.views b v i there)
 
 noted_after : (s : State) (h : PageInvariant s) {e : pin_steps.Event} {core' : below.State} → pin_steps.Step e s.core core' → NotedPages (record { core = core'; logged = logged_by e s })
 noted_after s h (pin_steps.touches i f k v there live inside a around) = noted_pins s h i f v there live inside k a
 noted_after s h (pin_steps.turns i p k v there live below a) = noted_less s h.noted i v (view_turned k p (hold v p) v) _ s.core.size s.logged there (λ f e. (e, refl)) (λ f e. e)
 noted_after s h (pin_steps.sized i fork k v there live a) = noted_less s h.noted i v (view_sized k fork s.core v) s.core.partition _ (logged_sized k fork s) there
-    (λ f e. sized_links s.core h.core i fork v there live (λ l m. m.noted ≡ true → (l.noted ≡ true) × (m.read ≡ l.read)) k a (λ l x. (x, refl)) (λ l known x. (x, refl)) (λ g end b e x. absurd (flags_differ x)) f e)
+    (λ f e. sized_links s.core h.core i fork v there live (λ l m. m.noted ≡ true → (l.noted ≡ true) × (m.read ≡ l.read)) k a (λ l x. (x, refl)) (λ l known x. (x, refl)) (λ g end b e x. absurd (false≢true x)) f e)
     (λ f e. sized_links s.core h.core i fork v there live (λ l m. m.io ≡ Input → l.io ≡ Input) k a (λ l x. x) (λ l known x. x) (λ g end b e x. x) f e)
 noted_after s h (pin_steps.splits v there room) = let w : View = record v { next = v.next + 1 } in noted_split (record s { core = record s.core { views = set s.core.views 0 w } }) (noted_less s h.noted 0 v w s.core.partition s.core.size s.logged there (λ f e. (e, refl)) (λ f e. e)) v.next s.core.base (length v.links) (length v.partitions) (length v.lanes)
 noted_after s h (pin_steps.joins j v u there other here live free) = let w : View = joined_view v u in noted_less (record s { core = record s.core { views = set s.core.views 0 w } }) (noted_less s h.noted 0 v w s.core.partition s.core.size s.logged there (λ f e. (e, refl)) (λ f e. e)) j u emptied_view s.core.partition s.core.size s.logged (set_else s.core.views 0 j w other ∙ here)
-    (λ f e. absurd (flags_differ (sym (ap (λ (z : Link). z.noted) (link_new 0 0 0 0 0 f)) ∙ e))) (λ f e. absurd (idle_input (sym (ap (λ (z : Link). z.io) (link_new 0 0 0 0 0 f)) ∙ e)))
-  where
-    idle_input : Quiet ≡ Input → ⊥
-    idle_input e = absurd (cc)
+    (λ f e. absurd (false≢true (sym (ap (λ (z : Link). z.noted) (link_new 0 0 0 0 0 f)) ∙ e))) (λ f e. absurd (quiet_not_input (sym (ap (λ (z : Link). z.io) (link_new 0 0 0 0 0 f)) ∙ e)))
 
 gone_below : (s : State) (h : PageInvariant s) {e : pin_steps.Event} {core' : below.State} → pin_steps.Step e s.core core' → (tag : ℕ) → is_block core' tag ≡ false → logged_by e s tag ≡ None
 gone_below s h (pin_steps.touches i f k v there live inside a around) tag e = h.gone tag e
