@@ -1,6 +1,6 @@
 -- Each step keeps the law, and so does each list of steps.
 use Rattle.std.proofs.Common.{◌≡◌, ◌≢◌, ℕ, ◌+◌, ◌<◌, ◌≤◌, Bool, true, false, cond, nat_lt, List, [], ◌∷◌, ◌++◌, Option, Some, None, length, set, length-set, get_or-set_same, get_or-set_other, sym, refl, ap, ◌∙◌, subst, ⊎_elim, arith}
-use Rattle.std.proofs.lemmas.Bool.{false≢true, le-ltb, lt-ltb}
+use Rattle.std.proofs.lemmas.Bool.{false≢true, false_from_ne_true, le-ltb, lt-ltb}
 use mathlib.Core.Logic.{dite}
 use mathlib.Core.Option.{some}
 use native.Mathlib.Decide.{ℕ_discrete}
@@ -301,11 +301,7 @@ module _ (s : State) (h : PageInvariant s) (i fork : ℕ) (v : View) (there : ge
   gone_sized : (k : SizeKind) → SizeAllowed k s.core v fork → (tag : ℕ) → is_block (state_sized k s.core i fork v) tag ≡ false → logged_sized k fork s tag ≡ None
   gone_sized (enter_extension f end) a tag e = let new = new_block s.core h.sizes i fork v there h.core live f end a in
       put_else s.logged (s.core.frame f).tag (Some zero_page) tag (λ same. false≢true (sym e ∙ ap (is_block (state_sized (enter_extension f end) s.core i fork v)) same ∙ new))
-      ∙ h.gone tag (was_not (is_block s.core tag) (λ x. false≢true (sym e ∙ grown_block s.core h.sizes i fork v there h.core live f end a tag x)))
-    where
-      was_not : (b : Bool) → (b ≡ true → ⊥) → b ≡ false
-      was_not true n = absurd (n refl)
-      was_not false n = refl
+      ∙ h.gone tag (false_from_ne_true (is_block s.core tag) (λ x. false≢true (sym e ∙ grown_block s.core h.sizes i fork v there h.core live f end a tag x)))
   gone_sized (enter_cut n end) a tag e = by_cut (is_cut fork n tag) refl
     where
       by_cut : (b : Bool) → is_cut fork n tag ≡ b → cond b None (s.logged tag) ≡ None

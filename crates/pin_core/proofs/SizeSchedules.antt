@@ -1,6 +1,6 @@
 -- What the law of sizes says in the field's words.
-use Rattle.std.proofs.Common.{◌≡◌, ◌≢◌, ℕ, suc, ◌<◌, Bool, true, false, cond, None, sym, refl, ◌∙◌, ⊎_elim, arith}
-use Rattle.std.proofs.lemmas.Bool.{false≢true}
+use Rattle.std.proofs.Common.{◌≡◌, ◌≢◌, ℕ, suc, ◌<◌, true, false, cond, None, sym, refl, ◌∙◌, ⊎_elim, arith}
+use Rattle.std.proofs.lemmas.Bool.{false≢true, false_from_ne_true}
 use mathlib.Core.Option.{some}
 use lib.ListN.{get_elem?}
 use Rattle.pin_core.specs.declared.view.SizeRight.{SizeRight}
@@ -79,11 +79,7 @@ module _ (s : State) (h : SizesLaw s) (quiet : s.resizes ≡ false) where
 
   -- no view notes a frame
   pub none_noted : (i f : ℕ) (v : View) → get_elem? s.views i ≡ some v → f < s.frames → (link v f).noted ≡ false
-  none_noted i f v there below = by_flag (link v f).noted refl
-    where
-      by_flag : (b : Bool) → (link v f).noted ≡ b → b ≡ false
-      by_flag true e = absurd (no_exclusive i (tag_fork (s.frame f).tag) v there (h.noted i f v there below e).may.right)
-      by_flag false e = refl
+  none_noted i f v there below = false_from_ne_true (link v f).noted (λ e. no_exclusive i (tag_fork (s.frame f).tag) v there (h.noted i f v there below e).may.right)
 
   -- no size changes
   pub same_sizes : (i fork : ℕ) (v : View) (k : SizeKind) → get_elem? s.views i ≡ some v → SizeAllowed k s v fork → (g : ℕ) → (put s.size fork (size_after k (s.size fork)) g).logged ≡ (s.size g).logged
