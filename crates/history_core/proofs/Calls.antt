@@ -14,7 +14,7 @@ use Rattle.pin_core.specs.declared.view.JoinedCheckpoint.{JoinedCheckpoint}
 use Rattle.pin_core.specs.declared.view.WriteRecord.{WriteRecord}
 use Rattle.pin_core.specs.declared.view.View.{View}
 use Rattle.pin_core.specs.State.{Page, emptied_view, joined_view, kept_checkpoint}
-use Rattle.history_core.specs.Log.{sizes_after, Entry, Log, LogLaw, image, tag_in, end_of, log_end, cell, cut, change_size, record_size, IsLegal, IsLegalRead, place_of, backend_of, write_weight, weight_at, writes_in, writes_at, HasPlace, AreInOrder}
+use Rattle.history_core.specs.Log.{sizes_after, Entry, Log, LogLaw, image, tag_in, end_of, log_end, cell, cut, change_size, record_size, IsLegal, place_of, backend_of, write_weight, weight_at, writes_in, writes_at, HasPlace, AreInOrder}
 use Rattle.history_core.specs.Invariant.{HasNumber, CallsLaw, KeptLaw, HistoryLaw}
 use Rattle.grid.specs.Shape.{total}
 use Rattle.grid.proofs.Lists.{at_set, at_end, at_longer, set_else, set_here}
@@ -321,6 +321,10 @@ module _ (known : ℕ → Bool) (origin : ℕ → Option Page) (sizes : ℕ → 
         loaded = let x = c.loaded in let y = d.loaded in omega arith;
       }
 
+-- a view makes one call more: what is summed over its calls
+call_more : (v w : View) (call : Call) → w.calls ≡ v.calls ++ call ∷ [] → (g : Call → ℕ) → total g w.calls ≡ total g v.calls + g call
+call_more v w call calls g = ap (total g) calls ∙ total-snoc g v.calls call
+
 -- A call that writes nothing gets its place, the log's end
 module _ (known : ℕ → Bool) (origin : ℕ → Option Page) (sizes : ℕ → ℕ) (log : Log) (flushed : ℕ) (views : List View) (h : HistoryLaw known origin sizes log flushed views) (logged : LogLaw log) (i : ℕ) (v w : View) (there : get_elem? views i ≡ some v) (call : Call) (placed : place_of call ≡ log_end log) (maker : backend_of call ≡ v.number) (unwritten : write_weight call ≡ 0) (none_at : (p : ℕ) → weight_at p call ≡ 0) (legal : IsLegal known origin sizes log call)
     (e : Entry) (calls : w.calls ≡ v.calls ++ call ∷ []) (front : w.front ≡ log_end log) (emptied : w.emptied ≡ v.emptied) (loaded : w.flushed ≡ v.flushed) (number : w.number ≡ v.number) (kept : w.joined_checkpoints ≡ v.joined_checkpoints) where
@@ -328,13 +332,10 @@ module _ (known : ℕ → Bool) (origin : ℕ → Option Page) (sizes : ℕ → 
   history_placed = record {
     calls = λ j u at. ⊎_elim (λ (t : (j ≡ i) × (w ≡ u)). subst (CallsLaw known origin sizes log flushed) t.1 here) (λ (t : (j ≢ i) × (get_elem? views j ≡ some u)). h.calls j u t.1) (at_set views i j w u at);
     kept = kept_set views h.kept i v w there kept emptied;
-    counted = let s = more write_weight in let z = unwritten in omega (arith, total-set (λ (x : View). writes_in x.calls) views i v w there, h.counted);
-    once = λ k x at. let p : ℕ = end_of x in let s = more (weight_at p) in let z = none_at p in omega (arith, total-set (λ (y : View). writes_at p y.calls) views i v w there, h.once k x at);
+    counted = let s = call_more v w call calls write_weight in let z = unwritten in omega (arith, total-set (λ (x : View). writes_in x.calls) views i v w there, h.counted);
+    once = λ k x at. let p : ℕ = end_of x in let s = call_more v w call calls (weight_at p) in let z = none_at p in omega (arith, total-set (λ (y : View). writes_at p y.calls) views i v w there, h.once k x at);
   }
     where
-      more : (g : Call → ℕ) → total g w.calls ≡ total g v.calls + g call
-      more g = ap (total g) calls ∙ total-snoc g v.calls call
-
       here : CallsLaw known origin sizes log flushed w
       here = let c = h.calls i v there in record {
         legal = λ k x at. ⊎_elim (λ (t : get_elem? v.calls k ≡ some x). c.legal k x t) (λ (t : (call ≡ x) × (k ≡ length v.calls)). subst (IsLegal known origin sizes log) t.0 legal) (at_end v.calls call x k (subst (λ (l : List Call). get_elem? l k ≡ some x) calls at));
@@ -367,9 +368,6 @@ module _ (known : ℕ → Bool) (origin : ℕ → Option Page) (sizes : ℕ → 
     (calls : w.calls ≡ v.calls ++ call ∷ []) (front : w.front ≡ end_of e) (emptied : w.emptied ≡ v.emptied) (loaded : w.flushed ≡ v.flushed) (number : w.number ≡ v.number) (kept : w.joined_checkpoints ≡ v.joined_checkpoints) where
   abbrev longer : Log
   longer = record log { entries = log.entries ++ e ∷ [] }
-
-  more : (g : Call → ℕ) → total g w.calls ≡ total g v.calls + g call
-  more g = ap (total g) calls ∙ total-snoc g v.calls call
 
   -- no write has the new place yet
   none_yet : (j : ℕ) (u : View) → get_elem? views j ≡ some u → writes_at (end_of e) u.calls ≡ 0
@@ -411,8 +409,8 @@ module _ (known : ℕ → Bool) (origin : ℕ → Option Page) (sizes : ℕ → 
   history_entered = record {
     calls = λ j u at. ⊎_elim (λ (t : (j ≡ i) × (w ≡ u)). subst (CallsLaw known origin sizes longer flushed) t.1 here) (λ (t : (j ≢ i) × (get_elem? views j ≡ some u)). later j u (h.calls j u t.1)) (at_set views i j w u at);
     kept = kept_set views h.kept i v w there kept emptied;
-    counted = let s = more write_weight in let z = written in omega (arith, total-set (λ (x : View). writes_in x.calls) views i v w there, length-append log.entries (e ∷ []), h.counted);
-    once = λ k x at. let p : ℕ = end_of x in let s = more (weight_at p) in let sums = total-set (λ (y : View). writes_at p y.calls) views i v w there in ⊎_elim
+    counted = let s = call_more v w call calls write_weight in let z = written in omega (arith, total-set (λ (x : View). writes_in x.calls) views i v w there, length-append log.entries (e ∷ []), h.counted);
+    once = λ k x at. let p : ℕ = end_of x in let s = call_more v w call calls (weight_at p) in let sums = total-set (λ (y : View). writes_at p y.calls) views i v w there in ⊎_elim
         (λ (t : get_elem? log.entries k ≡ some x). let low = ends_below log e logged k x t in let z : weight_at p call ≡ 0 = written_at p ∙ ap (λ (b : Bool). cond b 1 0) (ne_eqb (end_of e) p (λ q. omega (arith, some_size e.change))) in let was = h.once k x t in omega arith)
         (λ (t : (e ≡ x) × (k ≡ length log.entries)). let same : end_of e ≡ p = ap end_of t.0 in let z : weight_at p call ≡ 1 = written_at p ∙ ap (λ (b : Bool). cond b 1 0) (eq-eqb (end_of e) p same) in
         let none : total (λ (y : View). writes_at p y.calls) views ≡ 0 = total-none (λ (y : View). writes_at p y.calls) views (λ j u q. subst (λ (n : ℕ). writes_at n u.calls ≡ 0) same (none_yet j u q)) in omega arith)

@@ -1,5 +1,6 @@
 -- Each step keeps the law of marks.
 use Rattle.std.proofs.Common.{◌≡◌, ◌≢◌, ℕ, ◌+◌, ◌<◌, ◌≤◌, Bool, true, false, ◌||◌, List, [], ◌∷◌, length, set, sym, refl, ap, ◌∙◌, subst, ⊎_elim, arith, zero, suc, slice_index_or}
+use Rattle.std.proofs.lemmas.Bool.{both_ways}
 use mathlib.Core.Logic.{dite}
 use mathlib.Core.Option.{some}
 use native.Mathlib.Decide.{ℕ_discrete}
@@ -237,7 +238,7 @@ module _ (s : State) (h : HistoryInvariant s) (m : MarksLaw s) where
   -- a write needs a dirty frame
   writes_marks : (i q f : ℕ) (k : LaneKind) (v : View) → get_elem? views i ≡ some v → f < s.pool.core.frames → MayWriteLane k s q f (lane_hold v q) (link v f) → MarksLaw (record s { pool = pool_after begin_write s.pool i f (laned k q v (paged begin_write s.pool f v)); lane = put s.lane q (lane_after k (s.lane q)) })
   writes_marks i q f k v there inside x none = let w : View = laned k q v (paged begin_write s.pool f v) in let quiet = m (none_before views i v w there (more_of k x) none) in
-      absurd (dirty_now ((h.pool.pages.cells i v f there inside).output (output_of k x)).0 (quiet.frames f inside))
+      absurd (both_ways _ (quiet.frames f inside) ((h.pool.pages.cells i v f there inside).output (output_of k x)).0)
     where
       output_of : (k : LaneKind) → MayWriteLane k s q f (lane_hold v q) (link v f) → (link v f).io ≡ Output
       output_of (lane_kinds.write_block g tag p) (at, x) = x.right.right
@@ -250,9 +251,6 @@ module _ (s : State) (h : HistoryInvariant s) (m : MarksLaw s) where
       output_of lane_kinds.sync_lane x = absurd x
       output_of (lane_kinds.fail_sync faults) x = absurd x
       output_of (lane_kinds.lane_back noted) x = absurd x
-
-      dirty_now : {b : Bool} → b ≡ true → b ≡ false → ⊥
-      dirty_now a e = cc
 
       more_of : (k : LaneKind) → MayWriteLane k s q f (lane_hold v q) (link v f) → mark_weight v ≤ mark_weight (laned k q v (paged begin_write s.pool f v))
       more_of k x = let a = or_more v.dirtied_or_synced false in let b = or_more (v.dirtied_or_synced || false) (syncs k) in omega arith

@@ -195,6 +195,12 @@ forgets k ln h free = record {
   others = λ t u m q c le e. e.1;
 }
 
+idle_none : (k : CountTally) → count_weigh k no_lane ≡ 0
+idle_none holders = refl
+idle_none failed_reads = refl
+idle_none failed_writes = refl
+idle_none unfailed = refl
+
 pools_counts : (s : State) (h : HistoryInvariant s) (m : LanesCounted s) → {e : pin_steps.Event} {core' : _} → pin_steps.Step e s.pool.core core' → Counted s.lanes s.lane s.flushed core'.views
 pools_counts s h m (pin_steps.touches i f k v there live inside a around) = unlaned_counts s h m i v (pin_kinds.view_after k s.pool.core.partition_of f (s.pool.core.frame f) (link v f) v) there refl refl refl refl
 pools_counts s h m (pin_steps.turns i p k v there live below a) = unlaned_counts s h m i v (view_turned k p (hold v p) v) there refl refl refl refl
@@ -209,12 +215,6 @@ pools_counts s h m (pin_steps.splits v there room) = let w : View = record v { n
       writes_rose = λ e. x.writes_rose (omega arith);
     }
   where
-    idle_none : (k : CountTally) → count_weigh k no_lane ≡ 0
-    idle_none holders = refl
-    idle_none failed_reads = refl
-    idle_none failed_writes = refl
-    idle_none unfailed = refl
-
     new_none : (k : CountTally) (number base a p l g : ℕ) → count_weigh k (lane_hold (new_view number base a p l) g) ≡ 0
     new_none k number base a p l g = ap (count_weigh k) (lane_new a p l number base g) ∙ idle_none k
 pools_counts s h m (pin_steps.joins j v u there other here live free) = let w : View = joined_view v u in let vs : List View = set s.pool.core.views 0 w in let also = set_else s.pool.core.views 0 j w other ∙ here in let us : List View = set vs j emptied_view in
@@ -286,12 +286,6 @@ lane_counts_open c store page = let w : View = first_view c.base c.frames c.part
   writes_rose = λ e. absurd (let x = one_total (λ (v : View). v.met.writes) w refl in omega arith);
 }
   where
-    idle_none : (k : CountTally) → count_weigh k no_lane ≡ 0
-    idle_none holders = refl
-    idle_none failed_reads = refl
-    idle_none failed_writes = refl
-    idle_none unfailed = refl
-
     none_at : (q : ℕ) (k : CountTally) → total (λ (v : View). count_weigh k (lane_hold v q)) (first_view c.base c.frames c.partitions c.lanes ∷ []) ≡ 0
     none_at q k = one_total (λ (v : View). count_weigh k (lane_hold v q)) (first_view c.base c.frames c.partitions c.lanes) (ap (count_weigh k) (lane_new c.frames c.partitions c.lanes 0 c.base q) ∙ idle_none k)
 

@@ -30,10 +30,6 @@ more k d = record k { met = sum_of_met k.met d }
 abbrev pub Keeps_by : LaneKind → Known → FailedCalls → ℕ → ℕ → Lane → LaneHold → Type 0
 Keeps_by kind k d loaded swept ln h = Keeps count_shape known count_part k (more k d) tt tt ln h (lane_after kind ln) (lane_hold_after kind loaded swept h)
 
--- a count that a failed call makes rise
-count_fails : (start now later out met d : ℕ) → CountLaw start now out met → Rises now later → CountLaw start later (out + 1) (met + d)
-count_fails start now later out met d c rises = record { least = risen_least start now later c.least rises; is_met = λ e. absurd (omega arith) }
-
 -- a count that stays, where the failed calls out and the faults counted don't get fewer
 pub count_stays : (start now out met d out' : ℕ) → out ≤ out' → CountLaw start now out met → CountLaw start now out' (met + d)
 count_stays start now out met d out' le c = record { least = c.least; is_met = λ e lt. let x = c.is_met (omega arith) lt in omega arith }

@@ -1,7 +1,7 @@
 -- What redo makes of what a crash leaves.
 use Rattle.std.proofs.Common.{◌≡◌, ◌≢◌, ◌⊎◌, inl, inr, ℕ, zero, suc, ◌<◌, ◌≤◌, Bool, true, false, List, [], ◌∷◌, ◌++◌, length, Option, Some, sym, refl, ap, ◌∙◌, subst, ⊎_elim, arith}
 use Rattle.std.proofs.lemmas.Option.{same_Some}
-use Rattle.std.proofs.lemmas.Bool.{cases_lt}
+use Rattle.std.proofs.lemmas.Bool.{cases_lt, cases_Bool}
 use mathlib.Core.Logic.{dite}
 use native.Mathlib.Decide.{ℕ_discrete}
 use mathlib.Core.Option.{some, some-ne-none, some-injective}
@@ -16,19 +16,19 @@ use Rattle.pin_core.specs.State.{Config, Frame, Page, link, lane_hold, is_block}
 use Rattle.page_core.specs.State.{Block, block_of}
 use Rattle.page_core.specs.Tallies.{Tally, sharers, applied_locks, unapplied_locks, weigh, page_shape}
 use Rattle.page_core.specs.Invariant.{PageFrame}
-use Rattle.history_core.specs.Log.{is_of_page, AreOfPages, Entry, Change, Span, image, ranges, resize, IsChange, AreValid, IsEntryOf, end_of, tag_in, changed_page, page_after, cell}
+use Rattle.history_core.specs.Log.{is_of_page, AreOfPages, Entry, Change, Span, image, ranges, resize, IsEntryOf, end_of, tag_in, changed_page, page_after, cell}
 use Rattle.history_core.specs.State.{Lane, State, Store, opening, stored_upto, failed, unsynced}
 use Rattle.history_core.specs.Lanes as lane_kinds
 use Rattle.history_core.specs.Lanes.{LaneKind, lane_after}
 use Rattle.history_core.specs.Invariant.{HistoryInvariant}
 use Rattle.history_core.specs.Laws.{Laws}
 use Rattle.history_core.specs.Steps.{Event, MayWriteLane, LaneAlone, new_entry, Step, pools, lanes, writes, notes, logs, enters, reads, words, reads_size}
-use Rattle.history_core.specs.Words.{WordKind, raise_flushed, number_after, word_at, word_set, flushed_word}
 use Rattle.history_core.specs.Unentered.{IsEntered, IsFlushedEntered, IsUnentered, IsHeldUnentered, DirtyHaveEntries, WrittenHaveEntries}
 use Rattle.history_core.specs.Redo.{CanFollow, HasWholePage, StartsAtBase, RedoLaw}
 use Rattle.history_core.specs.Crashes.{Survives, first, one_more, Crashed, IsExcepted, CrashesRedo, StartsSynced}
 use Rattle.history_core.proofs.Calls.{at_both}
 use Rattle.history_core.proofs.Histories.{loaded, is_out}
+use Rattle.history_core.proofs.Lasting.{flushed_more}
 use Rattle.history_core.proofs.Logs.{is_of, changed_image, cell_absent, after_none, each_entry, starts_above}
 use Rattle.history_core.proofs.Owing.{output_position}
 use Rattle.history_core.proofs.Always.{KeptByLaws, always}
@@ -128,10 +128,6 @@ module _ (s : State) (h : Laws s) (dirty : DirtyHaveEntries s) (fails : Bool) (m
       (λ (e : tag ≡ (s.pool.core.frame f).tag). subst (HasEntry fails s) (sym e) (⊎_elim (λ (y : IsFlushedEntered s.log.entries s.flushed (s.pool.core.frame f).tag). inl y) (λ (y : IsUnentered s (s.pool.core.frame f).tag). inr (inl y)) (written_now i q f k v there low inside by x)))
       (λ (o : tag ≢ (s.pool.core.frame f).tag). m tag (at_lane q (lane_after k (s.lane q)) tag (subst (λ (y : Lane). IsLost fails y tag) (λ j. lane j (lane_of j tag)) lost) (λ e y. lost_else fails k q f (lane_hold v q) (link v f) (s.lane q) tag x o y))))
 
-raised_up : (k : WordKind) (s : State) → s.flushed ≤ word_set (word_at k) (number_after k s) s flushed_word
-raised_up raise_flushed s = omega arith
-raised_up _ s = omega arith
-
 by_step : (fails : Bool) {e : Event} {s t : State} → Step e s t → ((tag : ℕ) → IsUnentered s tag → IsUnentered t tag) → Laws s → DirtyHaveEntries s → HaveEntries fails s → HaveEntries fails t
 by_step fails {t = t} (pools {s = s} x a) noted h d m = λ tag lost. later s h d fails m t noted tag (λ k e of. of) (omega arith) (m tag lost)
 by_step fails {t = t} (lanes {s = s} i q k v there live low a alone) noted h d m = λ tag lost. later s h d fails m t noted tag (λ n e of. of) (omega arith) (m tag (at_lane s h d fails m q (lane_after k (s.lane q)) tag lost (λ e y. lost_before fails k s q (lane_hold v q) (s.lane q) tag alone y)))
@@ -141,7 +137,7 @@ by_step fails {t = t} (logs {s = s} i k v there live a record_is) noted h d m = 
 by_step fails {t = t} (enters {s = s} i f p c v there live inside x) noted h d m = λ tag lost. later s h d fails m t noted tag (λ n e of. record { there = at_longer s.log.entries (new_entry s v.number c ∷ []) n e of.there; of = of.of }) (omega arith) (m tag lost)
 by_step fails {t = t} (reads {s = s} i f z p v there live inside a) noted h d m = λ tag lost. later s h d fails m t noted tag (λ n e of. of) (omega arith) (m tag lost)
 by_step fails {t = t} (reads_size {s = s} i fork v there live a) noted h d m = λ tag lost. later s h d fails m t noted tag (λ n e of. of) (omega arith) (m tag lost)
-by_step fails {t = t} (words {s = s} i k v there live a) noted h d m = λ tag lost. later s h d fails m t noted tag (λ n e of. of) (raised_up k s) (m tag lost)
+by_step fails {t = t} (words {s = s} i k v there live a) noted h d m = λ tag lost. later s h d fails m t noted tag (λ n e of. of) (flushed_more k s) (m tag lost)
 
 -- what is shown by induction: of dirty frames, and of what was written
 record BothHaveEntries (s : State) : Type 0 where
@@ -203,10 +199,6 @@ at_shorter (z ∷ l) m zero k x y at lt there = at
 at_shorter (z ∷ l) m (suc j) zero x y at lt there = absurd (omega arith)
 at_shorter (z ∷ l) m (suc j) (suc k) x y at lt there = at_shorter l m j k x y at (omega arith) there
 
-either_way : (b : Bool) {A : Type 0} → (b ≡ true → A) → (b ≡ false → A) → A
-either_way true x y = x refl
-either_way false x y = y refl
-
 -- what redo can do after the log's entries is of a page, since no resize is appended yet
 follows_page : (s : State) (c : Change) → CanFollow s c → is_of_page c ≡ true
 follows_page s (image t q) x = refl
@@ -267,9 +259,10 @@ module _ (s : State) (h : HistoryInvariant s) where
     redone pages es c tag (inl (k, e, p, at, is)) = inl (same_after tag k es e p (pages tag) (s.origin tag) at is)
     redone pages es c tag (inr (block, known, synced, based)) = ⊎_elim
         (λ (t : IsEntered es tag). inl (by_entry pages es tag (λ k e spans at is. whole_left redo es c.log tag k e spans known at is (based k e spans at is)) t.0 t.1 t.1.change refl t.2.there t.2.of))
-        (λ (none : (k : ℕ) (e : Entry) → IsEntryOf es tag k e → ⊥). either_way (unsynced s tag)
-        (λ written. inr (excepted pages es c tag synced none (inl written)))
-        (λ kept. either_way (failed s tag) (λ bad. inr (excepted pages es c tag synced none (inr bad))) (λ done. inl (by_none pages es c tag block known none kept done))))
+        (λ (none : (k : ℕ) (e : Entry) → IsEntryOf es tag k e → ⊥). ⊎_elim
+        (λ (written : unsynced s tag ≡ true). inr (excepted pages es c tag synced none (inl written)))
+        (λ (kept : unsynced s tag ≡ false). ⊎_elim (λ (bad : failed s tag ≡ true). inr (excepted pages es c tag synced none (inr bad))) (λ (done : failed s tag ≡ false). inl (by_none pages es c tag block known none kept done)) (cases_Bool (failed s tag)))
+        (cases_Bool (unsynced s tag)))
         (entry_or_none es tag)
 
 pub crashes_redo : (s : State) → Laws s → CrashesRedo s

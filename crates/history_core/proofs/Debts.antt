@@ -1,5 +1,6 @@
 -- What a change of a frame, of the lanes or of a view makes of the debts of checkpoints.
-use Rattle.std.proofs.Common.{◌≡◌, ◌≢◌, ◌⊎◌, ℕ, ◌<◌, ◌≤◌, Bool, true, false, ◌||◌, ◌&&◌, not, List, set, Option, sym, refl, ◌∙◌, subst, ⊎_elim, arith}
+use Rattle.std.proofs.Common.{◌≡◌, ◌≢◌, ℕ, ◌<◌, ◌≤◌, Bool, true, false, ◌||◌, ◌&&◌, not, List, set, Option, sym, refl, ◌∙◌, subst, ⊎_elim, arith}
+use Rattle.std.proofs.lemmas.Bool.{both_ways}
 use mathlib.Core.Logic.{dite}
 use mathlib.Core.Option.{some}
 use native.Mathlib.Decide.{ℕ_discrete}
@@ -21,9 +22,6 @@ use Rattle.history_core.proofs.Blocks.{unframed_put}
 use Rattle.history_core.proofs.Logs.{entry_at}
 use Rattle.grid.specs.Shape.{put}
 use Rattle.grid.proofs.Lists.{at_set, put_at, put_else}
-
-apart : {b : Bool} → b ≡ true → b ≡ false → ⊥
-apart y n = cc
 
 -- How a frame may change
 pub data FrameMoves (t : Taken) (fr fr' : Frame) : Type 0 where
@@ -118,7 +116,7 @@ module _ (t : Taken) where
   module _ (fr : Frame) (b : Block) (l : Link) (upto : ℕ) where
     pub pages_move : (k : Kind) → IsPlain k → Allowed k b fr l → LinkDebt t fr upto l → FrameMoves t fr (frame_after k b fr)
     pages_move kinds.load_content x a h = stays refl (λ e. e) (λ e. e)
-    pages_move kinds.mark_dirty x a h = stays refl (λ e. e) (λ e. absurd (apart refl e))
+    pages_move kinds.mark_dirty x a h = stays refl (λ e. e) (λ e. absurd (both_ways _ e refl))
     pages_move kinds.share x a h = stays refl (λ e. e) (λ e. e)
     pages_move kinds.exclude x a h = stays refl (λ e. e) (λ e. e)
     pages_move kinds.unshare x a h = stays refl (λ e. e) (λ e. e)
@@ -232,8 +230,8 @@ module _ (t : Taken) (n : ℕ) (frame : ℕ → Frame) (end : ℕ) (logged : ℕ
     kept = λ k f c at below. d.kept k f c (subst (λ (y : List JoinedCheckpoint). get_elem? y k ≡ some c) kept at) below;
   })
 
--- The lanes change: no block's entries go, and a block's last write is good only where it was, or where all its entries are in the lane now
-module _ (t t' : Taken) (same : t'.entries ≡ t.entries) (grows : (tag : ℕ) → t.upto tag ≤ t'.upto tag) (good : (tag : ℕ) → t'.failed tag ≡ false → (t.failed tag ≡ false) ⊎ IsCurrent t' tag) where
+-- The lanes change, and no block's entries leave its lane
+module _ (t t' : Taken) (same : t'.entries ≡ t.entries) (grows : (tag : ℕ) → t.upto tag ≤ t'.upto tag) where
   still_there : (tag k : ℕ) (e : Entry) → IsEntryOf t'.entries tag k e → IsEntryOf t.entries tag k e
   still_there tag k e of = subst (λ (y : List Entry). IsEntryOf y tag k e) same of
 

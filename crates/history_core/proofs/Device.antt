@@ -22,10 +22,10 @@ risen start before now h r = grind (arith, h, r)
 
 module _ (w : Written) (d : Device) (saw : Bool) (h : LogHold) where
   -- the holder of the latch is the only one that may have appended a record
-  none_else : (t : LogTally → ℕ) → DeviceLaw w d t → LogLink w d saw h → ((k : LogTally) → log_weigh k h ≤ t k) → h.held ≡ true → h.appended ≡ None → t appenders ≡ 0
+  pub none_else : (t : LogTally → ℕ) → DeviceLaw w d t → LogLink w d saw h → ((k : LogTally) → log_weigh k h ≤ t k) → h.held ≡ true → h.appended ≡ None → t appenders ≡ 0
   none_else t q c le held none = grind (arith, q, c, le holders, held, none)
 
-  holds : LogLink w d saw h → h.out ≢ None → h.held ≡ true
+  pub holds : LogLink w d saw h → h.out ≢ None → h.held ≡ true
   holds c out = grind (arith, c, out)
 
   -- what follows the log's bytes, if the log isn't down

@@ -1,5 +1,5 @@
 -- Each entry of a block is of one of the relations' blocks.
-use Rattle.std.proofs.Common.{◌≡◌, ℕ, Bool, true, nat_lt, Some, sym, ap, ◌∙◌, subst, ⊎_elim}
+use Rattle.std.proofs.Common.{◌≡◌, ℕ, true, nat_lt, Some, sym, ap, ◌∙◌, subst, ⊎_elim}
 use Rattle.std.proofs.lemmas.Option.{same_Some}
 use mathlib.Core.Option.{some-ne-none}
 use Rattle.pin_core.specs.State.{is_block, tag_block, tag_fork}
@@ -7,7 +7,7 @@ use Rattle.history_core.specs.Log.{IsEntryOf, tag_in}
 use Rattle.history_core.specs.State.{State}
 use Rattle.history_core.specs.Laws.{Laws}
 use Rattle.history_core.specs.Histories.{EntriesAreOfBlocks}
-use Rattle.history_core.specs.Steps.{Event, Step, pools, lanes, writes, notes, logs, enters, reads, words, new_entry, reads_size}
+use Rattle.history_core.specs.Steps.{pools, lanes, writes, notes, logs, enters, reads, words, new_entry, reads_size}
 use Rattle.history_core.proofs.Always.{KeptByLaws, always}
 use Rattle.history_core.proofs.Logs.{entry_longer}
 use Rattle.history_core.proofs.Stepping.{named, of_block, frame_block, pool_sizes}

@@ -1,5 +1,5 @@
 -- What the law says in the field's words.
-use Rattle.std.proofs.Common.{◌≡◌, ◌≢◌, ◌⊎◌, ℕ, zero, suc, ◌+◌, ◌<◌, ◌≤◌, Bool, true, false, cond, List, [], ◌∷◌, ◌++◌, length, Option, Some, None, get_or-set_same, inl, inr, sym, refl, ◌∙◌, subst, ⊎_elim, arith, lit<, ap}
+use Rattle.std.proofs.Common.{◌≡◌, ◌≢◌, ◌⊎◌, ℕ, zero, suc, ◌+◌, ◌<◌, ◌≤◌, Bool, true, false, List, [], ◌∷◌, ◌++◌, length, Option, Some, None, get_or-set_same, inl, inr, sym, refl, ◌∙◌, subst, ⊎_elim, arith, lit<, ap}
 use mathlib.Core.Logic.{dite}
 use mathlib.Core.Option.{some}
 use native.Mathlib.Decide.{ℕ_discrete}
@@ -14,7 +14,7 @@ use Rattle.pin_core.specs.Tallies.{flag_weight, some_weight}
 use Rattle.pin_core.specs.declared.view.LoadedWord.TheVariants as seen
 use Rattle.page_core.specs.Kinds.{make_entry}
 use Rattle.page_core.proofs.Histories as pages
-use Rattle.page_core.proofs.Histories.{flag_count}
+use Rattle.pin_core.proofs.Tallies.{flag_count}
 use Rattle.pin_core.proofs.Sizing.{shared_finds}
 use Rattle.history_core.specs.Log.{sizes_after, Entry, head_size, Change, image, ranges, resize, is_image, change_size, changed_page, end_of, cell, cut}
 use Rattle.history_core.specs.State.{Lane, State, stored}
@@ -36,10 +36,6 @@ use Rattle.grid.proofs.Sums.{total-count, total-none, total-same, total-add}
 
 pub reached : (s : State) → IsReached s → HistoryInvariant s
 reached s r = run_keeps r.run (opens r.config r.store r.page r.opens r.stores)
-
-flag_cond : (b : Bool) → flag_weight b ≡ cond b 1 0
-flag_cond true = refl
-flag_cond false = refl
 
 -- a view with a record appended holds the latch
 weigh_split : (a : Option (List ℕ)) (b : Bool) → (b ≡ false → a ≡ None) → flag_weight b ≡ resting_weight a b + some_weight a
@@ -215,7 +211,7 @@ module _ (s : State) (h : HistoryInvariant s) where
   log_held = let views = s.pool.core.views in let column = h.device.columns 0 (lit< tt) in
       let same = total-same (λ (v : View). flag_weight v.log.held) (λ (v : View). log_weigh log.holders v.log + log_weigh appenders v.log) views (λ i v there. weigh_split v.log.appended v.log.held (λ e. ((h.device.cells i v 0 there (lit< tt)).resting e).1)) in
       let sums = total-add (λ (v : View). log_weigh log.holders v.log + log_weigh appenders v.log) (λ (v : View). log_weigh log.holders v.log) (λ (v : View). log_weigh appenders v.log) (λ v. refl) views in
-      sym (total-count (λ (v : View). flag_weight v.log.held) holds_log (λ v. flag_cond v.log.held) views) ∙ same ∙ sums ∙ sym column.taken ∙ flag_count s.device.taken
+      sym (total-count (λ (v : View). flag_weight v.log.held) holds_log (λ v. flag_count v.log.held) views) ∙ same ∙ sums ∙ sym column.taken ∙ flag_count s.device.taken
 
   pub lanes_hold : LanesHoldFlushedPages s
   lanes_hold = h.flushed_cells
@@ -239,7 +235,7 @@ module _ (s : State) (h : HistoryInvariant s) where
   words m = record { ends = h.ends; bytes = bytes_length s.names s.log h.named h.log ∙ ap (λ (n : ℕ). head_size + n) (sym h.ends); limit = h.limit; flushed_from = h.flushed_from; flushed_to = h.flushed_to; redo_from = m.highest.from; redo_to = m.within }
 
   pub held : LanesAreHeld s
-  held n below = sym (total-count (λ (v : View). flag_weight (lane_hold v n).held) (holds_lane n) (λ v. flag_cond (lane_hold v n).held) s.pool.core.views) ∙ sym (h.lanes.columns n below).taken ∙ flag_count (s.lane n).taken
+  held n below = sym (total-count (λ (v : View). flag_weight (lane_hold v n).held) (holds_lane n) (λ v. flag_count (lane_hold v n).held) s.pool.core.views) ∙ sym (h.lanes.columns n below).taken ∙ flag_count (s.lane n).taken
 
   pub device_holds : RestLaw s → DeviceHoldsLog s
   device_holds m = let d = h.device.columns 0 (lit< tt) in record {

@@ -1,7 +1,6 @@
 -- What no step changes, and what only grows.
 use Rattle.std.proofs.Common.{◌≡◌, ◌≢◌, ℕ, ◌≤◌, List, [], ◌∷◌, ◌++◌, length, None, append-nil, sym, refl, ◌∙◌, lit<, arith}
 use Rattle.pin_core.specs.State as pins
-use Rattle.pin_core.specs.Sizes.{view_sized}
 use Rattle.pin_core.specs.Steps as pin_steps
 use Rattle.page_core.specs.State as page
 use Rattle.page_core.specs.Steps as page_steps
@@ -66,7 +65,7 @@ unlogged : {s t : State} → t.log.entries ≡ s.log.entries → t.end ≡ s.end
 unlogged {s = s} entries end flushed redo d = record { added = []; entries = entries ∙ sym (append-nil s.log.entries); end = omega arith; flushed = flushed; redo = redo; rest = d.rest; bytes = d.bytes; synced = d.synced; down = d.down }
 
 -- a kind at a word raises the flushed position, or leaves it
-flushed_more : (k : WordKind) (s : State) → s.flushed ≤ word_set (word_at k) (number_after k s) s flushed_word
+pub flushed_more : (k : WordKind) (s : State) → s.flushed ≤ word_set (word_at k) (number_after k s) s flushed_word
 flushed_more raise_flushed s = omega arith
 flushed_more _ s = omega arith
 

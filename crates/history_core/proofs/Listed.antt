@@ -1,5 +1,5 @@
 -- Each pin that knows its frame's tag and has seen BM_VALID has its block listed.
-use Rattle.std.proofs.Common.{◌≡◌, ◌≢◌, ◌⊎◌, ℕ, zero, suc, ◌+◌, ◌<◌, Bool, true, false, List, [], ◌∷◌, ◌++◌, map, length, Option, Some, None, set, sym, refl, ap, ◌∙◌, subst, ⊎_elim, arith}
+use Rattle.std.proofs.Common.{◌≡◌, ◌≢◌, ℕ, zero, suc, ◌+◌, ◌<◌, Bool, true, false, List, [], ◌∷◌, ◌++◌, map, length, Option, Some, None, set, sym, refl, ap, ◌∙◌, subst, ⊎_elim}
 use Rattle.std.specs.Prelude.{nat_eq, not, ◌||◌, ◌&&◌}
 use Rattle.std.proofs.lemmas.Option.{same_Some}
 use mathlib.Core.Logic.{dite}
@@ -30,7 +30,7 @@ use Rattle.history_core.specs.Device.{view_logged}
 use Rattle.history_core.specs.State.{State}
 use Rattle.history_core.specs.Laws.{Laws}
 use Rattle.history_core.specs.Residents.{ListsResident, PinsAreListed}
-use Rattle.history_core.specs.Steps.{Event, stepped, looked, logged_noting, pool_noting, paged, laned, has_read, has_seen_size, has_written, Step, pools, lanes, writes, notes, logs, enters, reads, reads_size, words, after_word}
+use Rattle.history_core.specs.Steps.{stepped, looked, logged_noting, pool_noting, paged, laned, has_read, has_seen_size, has_written, pools, lanes, writes, notes, logs, enters, reads, reads_size, words, after_word}
 use Rattle.history_core.specs.Words.{word_of, word_at}
 use Rattle.history_core.proofs.Always.{KeptByLaws, always}
 use Rattle.history_core.proofs.Stepping.{relinks}

@@ -1,9 +1,9 @@
 -- Each step keeps the law of the count of the log's faults.
 use Rattle.std.proofs.Common.{◌≡◌, ◌≢◌, ℕ, ◌+◌, ◌<◌, ◌≤◌, Bool, true, false, List, [], ◌∷◌, ◌++◌, length, set, Option, Some, None, sym, refl, ap, ◌∙◌, subst, ⊎_elim, arith, lit<}
-use Rattle.std.proofs.lemmas.Bool.{cases_lt}
+use Rattle.std.proofs.lemmas.Bool.{cases_lt, both_ways, false≢true}
 use Rattle.std.proofs.lemmas.Option.{same_Some}
 use mathlib.Core.Logic.{dite}
-use mathlib.Core.Option.{some}
+use mathlib.Core.Option.{some, some-injective}
 use native.Mathlib.Decide.{ℕ_discrete}
 use lib.ListN.{get_elem?}
 use Rattle.pin_core.specs.declared.view.LaneChange.{LaneChange}
@@ -39,12 +39,6 @@ use Rattle.grid.proofs.Sums.{total-set, total-snoc, terms_le}
 abbrev logs_of : View → ℕ
 logs_of v = v.met.logs
 
-apart : {b : Bool} → b ≡ true → b ≡ false → ⊥
-apart y n = cc
-
-pub some_same : {A : Type 0} {a b : A} → some a ≡ some b → a ≡ b
-some_same e = cc
-
 -- the views where view i has become w: this one, and the others
 pub by_view : (views : List View) (i : ℕ) (v w : View) → get_elem? views i ≡ some v → (P : View → Type 0) → P w → ((j : ℕ) (u : View) → j ≢ i → get_elem? views j ≡ some u → P u) → (j : ℕ) (u : View) → get_elem? (set views i w) j ≡ some u → P u
 by_view views i v w there P here else j u e = ⊎_elim (λ (t : (j ≡ i) × (w ≡ u)). subst P t.1 here) (λ (t : (j ≢ i) × (get_elem? views j ≡ some u)). else j u t.0 t.1) (at_set views i j w u e)
@@ -56,7 +50,7 @@ none_out a b = cc
 module _ (start : ℕ) (d d' : Device) (views : List View) (m : LogCounted start d views) (i : ℕ) (v w : View) (there : get_elem? views i ≡ some v) where
   -- where no view has a failed call out after the change, and this one had none before
   none_before : NoneFailedOut (set views i w) → is_failed v.log.change ≡ false → NoneFailedOut views
-  none_before none here j u e = dite (ℕ_discrete j i) (λ same. ap (λ (x : View). is_failed x.log.change) (some_same (sym e ∙ ap (get_elem? views) same ∙ there)) ∙ here) (λ other. none j u (set_else views i j w other ∙ e))
+  none_before none here j u e = dite (ℕ_discrete j i) (λ same. ap (λ (x : View). is_failed x.log.change) (some-injective _ _ (sym e ∙ ap (get_elem? views) same ∙ there)) ∙ here) (λ other. none j u (set_else views i j w other ∙ e))
 
   -- neither the count of faults nor what is counted changes, nor whether the call failed that is out
   keeps_counts : d'.faults ≡ d.faults → w.met.logs ≡ v.met.logs → is_failed w.log.change ≡ is_failed v.log.change → ((taken : TakenLog) → w.log.out ≡ Some taken → FaultsOut taken d w.log.change × (start < taken.faults → 0 < (all_met views).logs)) → LogCounted start d' (set views i w)
@@ -72,10 +66,10 @@ module _ (start : ℕ) (d d' : Device) (views : List View) (m : LogCounted start
   fails_counts : start ≤ d.faults → Rises d.faults d'.faults → w.met.logs ≡ v.met.logs → is_failed v.log.change ≡ false → is_failed w.log.change ≡ true → w.log.out ≡ v.log.out → ((j : ℕ) (u : View) → j ≢ i → get_elem? views j ≡ some u → u.log.out ≡ None) → LogCounted start d' (set views i w)
   fails_counts least rises met good bad out alone = let sums = total-set logs_of views i v w there in let same : (all_met (set views i w)).logs ≡ (all_met views).logs = omega arith in let later : HasRisen start d'.faults = risen start d.faults d'.faults least rises in record {
     rose = λ e. later;
-    is_met = λ none lt. absurd (apart bad (none i w (set_here views i v w there)));
+    is_met = λ none lt. absurd (both_ways _ (none i w (set_here views i v w there)) bad);
     out_rose = λ j u e z. later;
     counts = λ j u taken e is. by_view views i v w there (λ (x : View). (taken : TakenLog) → x.log.out ≡ Some taken → FaultsOut taken d' x.log.change)
-        (λ t z. let x = m.counts i v t there (sym out ∙ z) in record { same = λ y. absurd (apart bad y); failed = λ y. subst (λ (n : ℕ). Rises n d'.faults) (x.same good) rises }) (λ k x o at t z. absurd (none_out (alone k x o at) z)) j u e taken is;
+        (λ t z. let x = m.counts i v t there (sym out ∙ z) in record { same = λ y. absurd (both_ways _ y bad); failed = λ y. subst (λ (n : ℕ). Rises n d'.faults) (x.same good) rises }) (λ k x o at t z. absurd (none_out (alone k x o at) z)) j u e taken is;
     taken = λ j u taken e is lt. let x = by_view views i v w there (λ (x : View). (taken : TakenLog) → x.log.out ≡ Some taken → start < taken.faults → 0 < (all_met views).logs) (λ t z. m.taken i v t there (sym out ∙ z)) (λ k x o at t z. m.taken k x t at z) j u e taken is lt in omega arith;
   }
 
@@ -84,7 +78,7 @@ module _ (start : ℕ) (d d' : Device) (views : List View) (m : LogCounted start
   back_counts noted taken out faults met good home failed rose = let sums = total-set logs_of views i v w there in let same : (all_met (set views i w)).logs ≡ (all_met views).logs + noted = omega arith in record {
     rose = λ e. subst (λ (n : ℕ). HasRisen start n) (sym faults) (⊎_elim (λ (z : 0 < noted). m.out_rose i v there (failed z)) (λ (z : noted ≤ 0). m.rose (omega arith)) (cases_lt 0 noted));
     is_met = λ none lt. ⊎_elim (λ (z : taken.faults < d.faults). let x = rose z in omega arith) (λ (z : d.faults ≤ taken.faults). let x = m.taken i v taken there out (omega arith) in omega arith) (cases_lt taken.faults d.faults);
-    out_rose = λ j u e bad. subst (λ (n : ℕ). HasRisen start n) (sym faults) (by_view views i v w there (λ (x : View). is_failed x.log.change ≡ true → HasRisen start d.faults) (λ z. absurd (apart z good)) (λ k x o at z. m.out_rose k x at z) j u e bad);
+    out_rose = λ j u e bad. subst (λ (n : ℕ). HasRisen start n) (sym faults) (by_view views i v w there (λ (x : View). is_failed x.log.change ≡ true → HasRisen start d.faults) (λ z. absurd (both_ways _ good z)) (λ k x o at z. m.out_rose k x at z) j u e bad);
     counts = λ j u t e is. let x = by_view views i v w there (λ (x : View). (taken : TakenLog) → x.log.out ≡ Some taken → FaultsOut taken d x.log.change) (λ y z. absurd (none_out home z)) (λ k x o at y z. m.counts k x y at z) j u e t is in record { same = λ z. faults ∙ x.same z; failed = λ z. subst (λ (n : ℕ). Rises t.faults n) (sym faults) (x.failed z) };
     taken = λ j u t e is lt. let x = by_view views i v w there (λ (x : View). (taken : TakenLog) → x.log.out ≡ Some taken → start < taken.faults → 0 < (all_met views).logs) (λ y z. absurd (none_out home z)) (λ k x o at y z. m.taken k x y at z) j u e t is lt in omega arith;
   }
@@ -103,7 +97,7 @@ module _ (s : State) (h : HistoryInvariant s) (i : ℕ) (v : View) (there : get_
 
   -- the holder of the latch, where it has no failed call out: no view has
   none_failed : v.log.held ≡ true → is_failed v.log.change ≡ false → NoneFailedOut s.pool.core.views
-  none_failed held good j u at = dite (ℕ_discrete j i) (λ same. ap (λ (x : View). is_failed x.log.change) (some_same (sym at ∙ ap (get_elem? s.pool.core.views) same ∙ there)) ∙ good)
+  none_failed held good j u at = dite (ℕ_discrete j i) (λ same. ap (λ (x : View). is_failed x.log.change) (some-injective _ _ (sym at ∙ ap (get_elem? s.pool.core.views) same ∙ there)) ∙ good)
       (λ other. ap is_failed ((link_of j u at).home (others_home held j u other at)))
 
   pub is_held : v.log.out ≢ None → v.log.held ≡ true
@@ -115,7 +109,7 @@ module _ (s : State) (h : HistoryInvariant s) (i : ℕ) (v : View) (there : get_
   logged log_kinds.see_down m a = keeps_counts s.log_faults s.device s.device s.pool.core.views m i v (view_logged log_kinds.see_down v) there refl (omega arith) refl (λ t z. (m.counts i v t there z, m.taken i v t there z))
   logged (log_kinds.log_out taken) m a = let idle = ap is_failed ((link_of i v there).home a.home) in
       keeps_counts s.log_faults s.device s.device s.pool.core.views m i v (view_logged (log_kinds.log_out taken) v) there refl (omega arith) refl
-      (λ t z. let same : taken ≡ t = same_Some taken t z in let is : t.faults ≡ s.device.faults = ap (λ (x : TakenLog). x.faults) (sym same) ∙ a.faults in (record { same = λ y. sym is; failed = λ y. absurd (apart y idle) }, λ lt. m.is_met (none_failed a.held idle) (omega arith)))
+      (λ t z. let same : taken ≡ t = same_Some taken t z in let is : t.faults ≡ s.device.faults = ap (λ (x : TakenLog). x.faults) (sym same) ∙ a.faults in (record { same = λ y. sym is; failed = λ y. absurd (both_ways _ idle y) }, λ lt. m.is_met (none_failed a.held idle) (omega arith)))
   logged (log_kinds.append f tag p bytes) m a = keeps_counts s.log_faults s.device (device_after (log_kinds.append f tag p bytes) s.end s.device) s.pool.core.views m i v (view_logged (log_kinds.append f tag p bytes) v) there refl (omega arith) (sym (ap is_failed a.call.once))
       (λ t z. let x = m.counts i v t there z in (record { same = λ y. x.same (ap is_failed a.call.once); failed = λ y. absurd (cc) }, m.taken i v t there z))
   logged log_kinds.sync_log m a = keeps_counts s.log_faults s.device (device_after log_kinds.sync_log s.end s.device) s.pool.core.views m i v (view_logged log_kinds.sync_log v) there refl (omega arith) (sym (ap is_failed a.once))
@@ -131,7 +125,7 @@ module _ (s : State) (h : HistoryInvariant s) (i : ℕ) (v : View) (there : get_
     where
       by_out : (o : Option TakenLog) → v.log.out ≡ o → LogCounted s.log_faults s.device (set s.pool.core.views i (view_logged (log_kinds.log_back false) v))
       by_out None e = absurd (a.out e)
-      by_out (Some taken) e = back_counts s.log_faults s.device s.device s.pool.core.views m i v (view_logged (log_kinds.log_back false) v) there 0 taken e refl (omega arith) refl refl (λ z. absurd (omega arith)) (λ lt. absurd (apart (a.rose taken e lt) refl))
+      by_out (Some taken) e = back_counts s.log_faults s.device s.device s.pool.core.views m i v (view_logged (log_kinds.log_back false) v) there 0 taken e refl (omega arith) refl refl (λ z. absurd (omega arith)) (λ lt. absurd (false≢true (a.rose taken e lt)))
 
   -- a view changes elsewhere
   pub elsewhere : LogCounted s.log_faults s.device s.pool.core.views → (w : View) → w.log.change ≡ v.log.change → w.log.out ≡ v.log.out → w.met.logs ≡ v.met.logs → LogCounted s.log_faults s.device (set s.pool.core.views i w)
@@ -147,7 +141,7 @@ pools_counted s h m (pin_steps.splits v there room) = let w : View = record v { 
     let sums : (all_met (vs ++ b ∷ [])).logs ≡ (all_met vs).logs = omega (arith, total-snoc logs_of vs b) in record {
       rose = λ e. x.rose (omega arith);
       is_met = λ none lt. let y = x.is_met (λ j u e. none j u (at_longer vs (b ∷ []) j u e)) lt in omega arith;
-      out_rose = λ j u e bad. ⊎_elim (λ (t : get_elem? vs j ≡ some u). x.out_rose j u t bad) (λ (t : (b ≡ u) × (j ≡ length vs)). absurd (apart bad (ap (λ (y : View). is_failed y.log.change) (sym t.0)))) (at_end vs b u j e);
+      out_rose = λ j u e bad. ⊎_elim (λ (t : get_elem? vs j ≡ some u). x.out_rose j u t bad) (λ (t : (b ≡ u) × (j ≡ length vs)). absurd (both_ways _ (ap (λ (y : View). is_failed y.log.change) (sym t.0)) bad)) (at_end vs b u j e);
       counts = λ j u taken e out. ⊎_elim (λ (t : get_elem? vs j ≡ some u). x.counts j u taken t out) (λ (t : (b ≡ u) × (j ≡ length vs)). absurd (none_out (ap (λ (y : View). y.log.out) (sym t.0)) out)) (at_end vs b u j e);
       taken = λ j u taken e out lt. ⊎_elim (λ (t : get_elem? vs j ≡ some u). let y = x.taken j u taken t out lt in omega arith) (λ (t : (b ≡ u) × (j ≡ length vs)). absurd (none_out (ap (λ (y : View). y.log.out) (sym t.0)) out)) (at_end vs b u j e);
     }
@@ -156,7 +150,7 @@ pools_counted s h m (pin_steps.joins j v u there other here live free) = let w :
     let idle : u.log.change ≡ change.Untouched = (let c = link_of s h 0 v there j u here in c.home (c.resting free.log).0) in record {
       rose = λ e. m.rose (omega arith);
       is_met = λ none lt. let y = m.is_met (was none idle) lt in omega arith;
-      out_rose = λ k x e. by_two (λ (y : View). is_failed y.log.change ≡ true → HasRisen s.log_faults s.device.faults) (λ z. m.out_rose 0 v there z) (λ z. absurd (apart z refl)) (λ n y at z. m.out_rose n y at z) k x e;
+      out_rose = λ k x e. by_two (λ (y : View). is_failed y.log.change ≡ true → HasRisen s.log_faults s.device.faults) (λ z. m.out_rose 0 v there z) (λ z. absurd (false≢true z)) (λ n y at z. m.out_rose n y at z) k x e;
       counts = λ k x taken e. by_two (λ (y : View). (taken : TakenLog) → y.log.out ≡ Some taken → FaultsOut taken s.device y.log.change) (λ t z. m.counts 0 v t there z) (λ t z. absurd (cc)) (λ n y at t z. m.counts n y t at z) k x e taken;
       taken = λ k x taken e is lt. let y = by_two (λ (y : View). (taken : TakenLog) → y.log.out ≡ Some taken → s.log_faults < taken.faults → 0 < (all_met s.pool.core.views).logs) (λ t z. m.taken 0 v t there z) (λ t z. absurd (cc)) (λ n y at t z. m.taken n y t at z) k x e taken is lt in omega arith;
     }
@@ -165,8 +159,8 @@ pools_counted s h m (pin_steps.joins j v u there other here live free) = let w :
     by_two P a b c = by_view (set s.pool.core.views 0 (joined_view v u)) j u emptied_view (set_else s.pool.core.views 0 j (joined_view v u) other ∙ here) P b (λ k x o at. by_view s.pool.core.views 0 v (joined_view v u) there P a (λ n y z t. c n y t) k x at)
 
     was : NoneFailedOut (set (set s.pool.core.views 0 (joined_view v u)) j emptied_view) → u.log.change ≡ change.Untouched → NoneFailedOut s.pool.core.views
-    was none idle k x at = dite (ℕ_discrete k j) (λ same. ap (λ (y : View). is_failed y.log.change) (some_same (sym at ∙ ap (get_elem? s.pool.core.views) same ∙ here)) ∙ ap is_failed idle)
-        (λ o. dite (ℕ_discrete k 0) (λ same. ap (λ (y : View). is_failed y.log.change) (some_same (sym at ∙ ap (get_elem? s.pool.core.views) same ∙ there)) ∙ none 0 (joined_view v u) (set_else (set s.pool.core.views 0 (joined_view v u)) j 0 emptied_view (λ z. other (sym z)) ∙ set_here s.pool.core.views 0 v (joined_view v u) there))
+    was none idle k x at = dite (ℕ_discrete k j) (λ same. ap (λ (y : View). is_failed y.log.change) (some-injective _ _ (sym at ∙ ap (get_elem? s.pool.core.views) same ∙ here)) ∙ ap is_failed idle)
+        (λ o. dite (ℕ_discrete k 0) (λ same. ap (λ (y : View). is_failed y.log.change) (some-injective _ _ (sym at ∙ ap (get_elem? s.pool.core.views) same ∙ there)) ∙ none 0 (joined_view v u) (set_else (set s.pool.core.views 0 (joined_view v u)) j 0 emptied_view (λ z. other (sym z)) ∙ set_here s.pool.core.views 0 v (joined_view v u) there))
         (λ p. none k x (set_else (set s.pool.core.views 0 (joined_view v u)) j k emptied_view o ∙ set_else s.pool.core.views 0 k (joined_view v u) p ∙ at)))
 
 -- a kind at a lane counts no fault of the log
@@ -211,7 +205,7 @@ pub log_counts_open : (c : Config) (store : Store) → LogCounted store.log_faul
 log_counts_open c store = let w : View = first_view c.base c.frames c.partitions c.lanes in record {
   rose = λ e. absurd (let x = one_total logs_of w refl in omega arith);
   is_met = λ none lt. absurd (omega arith);
-  out_rose = λ i v there bad. absurd (apart bad (ap (λ (x : View). is_failed x.log.change) (sym (at_only w v i there).0)));
+  out_rose = λ i v there bad. absurd (both_ways _ (ap (λ (x : View). is_failed x.log.change) (sym (at_only w v i there).0)) bad);
   counts = λ i v taken there out. absurd (none_out (ap (λ (x : View). x.log.out) (sym (at_only w v i there).0)) out);
   taken = λ i v taken there out. absurd (none_out (ap (λ (x : View). x.log.out) (sym (at_only w v i there).0)) out);
 }

@@ -1,13 +1,10 @@
 -- A load that shows a block to be gone from its frame has it listed as gone.
-use Rattle.std.proofs.Common.{◌≡◌, ◌≢◌, ◌⊎◌, ℕ, zero, suc, ◌+◌, ◌<◌, Bool, true, false, List, [], ◌∷◌, ◌++◌, map, length, Option, Some, None, set, eq-eqb, ne_eqb, append-nil, sym, refl, ap, ◌∙◌, subst, ⊎_elim, arith}
+use Rattle.std.proofs.Common.{◌≡◌, ◌≢◌, ℕ, ◌+◌, Bool, true, false, List, [], ◌∷◌, ◌++◌, map, length, set, eq-eqb, ne_eqb, append-nil, sym, refl, ap, ◌∙◌, subst, ⊎_elim}
 use Rattle.std.specs.Prelude.{nat_eq, not, ◌||◌, ◌&&◌}
-use mathlib.Core.Logic.{dite}
 use mathlib.Core.Option.{some, some-injective, some-ne-none}
-use native.Mathlib.Decide.{ℕ_discrete}
 use lib.ListN.{get_elem?}
 use Rattle.pin_core.specs.declared.view.Load.{Load}
 use Rattle.pin_core.specs.declared.view.Link.{Link}
-use Rattle.pin_core.specs.declared.view.LoadedWord.{LoadedWord}
 use Rattle.pin_core.specs.declared.view.LoadedWord.TheVariants as seen
 use Rattle.pin_core.specs.declared.view.Resident.{Resident}
 use Rattle.pin_core.specs.declared.view.View.{View}
@@ -32,7 +29,7 @@ use Rattle.history_core.specs.Words.{WordKind, word_of, word_at}
 use Rattle.history_core.specs.Residents.{ShowsGone, MarksGone, LoadsMarkGone}
 use Rattle.history_core.specs.Steps.{Event, stepped, looked, pool_noting, paged, laned, has_read, has_seen_size, has_written, view_after_word, Step, pools, lanes, writes, notes, logs, enters, reads, reads_size, words, after_word}
 use Rattle.history_core.proofs.Listed.{at_mapped}
-use Rattle.grid.proofs.Lists.{at_set, at_end, at_last, at_longer, set_here}
+use Rattle.grid.proofs.Lists.{at_set, at_end, at_last, at_longer}
 
 same_load : (ls : List Load) (a b : Load) → ls ++ a ∷ [] ≡ ls ++ b ∷ [] → a ≡ b
 same_load ls a b e = some-injective a b (sym (at_last ls a) ∙ ap (λ (l : List Load). get_elem? l (length ls)) e ∙ at_last ls b)

@@ -1,14 +1,15 @@
 -- Each step keeps the law of checkpoints.
 use Rattle.std.proofs.Common.{◌≡◌, ◌≢◌, ◌⊎◌, inl, inr, ℕ, zero, suc, ◌+◌, ◌<◌, ◌≤◌, Bool, true, false, cond, List, [], ◌∷◌, ◌++◌, length, map, set, Option, Some, None, slice_index_or, sym, refl, ap, ◌∙◌, subst, ⊎_elim, arith}
+use Rattle.std.proofs.lemmas.Bool.{both_ways, false≢true}
 use Rattle.std.specs.Prelude.{max}
-use Rattle.std.proofs.lemmas.Option.{same_Some}
+use Rattle.std.proofs.lemmas.Option.{same_Some, none-some}
 use mathlib.Core.Logic.{dite}
 use mathlib.Core.Option.{some, some-ne-none, some-injective}
 use native.Mathlib.Decide.{ℕ_discrete}
 use lib.ListN.{get_elem?}
 use Rattle.page_layout.specs.Fields.{lsn_of}
 use Rattle.pin_core.specs.declared.view.JoinedCheckpoint.{JoinedCheckpoint}
-use Rattle.pin_core.specs.declared.view.Content.TheVariants.{Unlocked, Exclusive}
+use Rattle.pin_core.specs.declared.view.Content.TheVariants.{Exclusive}
 use Rattle.pin_core.specs.declared.view.Io.TheVariants.{Output}
 use Rattle.pin_core.specs.declared.view.LastWrite.TheVariants.{Done}
 use Rattle.pin_core.specs.declared.view.Link.{Link}
@@ -34,7 +35,7 @@ use Rattle.page_core.specs.Steps as page_steps
 use Rattle.page_core.specs.Steps.{logged_after}
 use Rattle.page_core.proofs.Cases.{tag_kept}
 use Rattle.history_core.specs.Log.{Entry, Change, IsEntryOf, end_of, change_size, tag_in}
-use Rattle.history_core.specs.State.{Lane, State, Store, stored_upto, failed, opening}
+use Rattle.history_core.specs.State.{Lane, State, Store, stored_upto, opening}
 use Rattle.history_core.specs.Lanes as lane_kinds
 use Rattle.history_core.specs.Lanes.{LaneKind, lane_after}
 use Rattle.history_core.specs.Device.{view_logged}
@@ -46,14 +47,12 @@ use Rattle.history_core.proofs.Beginning.{BegunHere, link_begun}
 use Rattle.history_core.proofs.Blocks.{plain_block, tag_goes, written_is_logged}
 use Rattle.history_core.proofs.Calls.{at_both}
 use Rattle.history_core.proofs.Debts.{stays, Fresh, pins_move, pins_link, pages_move, pages_link, Touched, debts_touched, debts_set, debts_aside, debts_later}
-use Rattle.history_core.proofs.Logs.{some_size, entry_at, entry_longer, ends_below}
-use Rattle.history_core.proofs.Stepping.{step_keeps, makes_of, relinks, unframed_tag, unframed_name, logged_stays, flags_differ, logged_same, lane_put, lane_written, HoldsSame, no_write_holds, for_input}
+use Rattle.history_core.proofs.Logs.{some_size, entry_longer, ends_below}
+use Rattle.history_core.proofs.Stepping as stepping
+use Rattle.history_core.proofs.Stepping.{step_keeps, makes_of, relinks, unframed_tag, unframed_name, logged_stays, logged_same, lane_put, lane_written, HoldsSame, no_write_holds, for_input}
 use Rattle.grid.specs.Shape.{put, tallies}
 use Rattle.grid.proofs.Lists.{at_end, at_only, put_at, put_else, put_same}
 use Rattle.grid.proofs.Sums.{term_le}
-
-apart : {b : Bool} → b ≡ true → b ≡ false → ⊥
-apart y n = cc
 
 -- what stands at a place of a list, after g
 pub map_at : {A B : Type 0} (g : A → B) (a : A) (b : B) → g a ≡ b → (l : List A) (n : ℕ) → slice_index_or (map g l) n b ≡ g (slice_index_or l n a)
@@ -94,7 +93,7 @@ module _ (s : State) (h : HistoryInvariant s) (d : DebtsLaw s) where
 
   pins_owe : {e : pin_steps.Event} {core' : pins.State} → pin_steps.Step e s.pool.core core' → Debts t core'.frames core'.frame s.end s.pool.logged core'.views
   pins_owe (pin_steps.touches i f k v there live inside a around) = let fr = frame f in let l = link v f in let x = fresh_of i f v k there a around in let w : View = pin_stepping.after k s.pool.core f v in
-      debts_touched t n frame s.end f (pin_kinds.frame_after k fr) (pins_move t fr l v.upto k x a) s.pool.logged views d inside (λ named goes. ⊎_elim (λ (clean : fr.word.dirty ≡ false). d.clean f inside named clean) (λ (noted : l.noted ≡ true). absurd (flags_differ (sym (none_noted s.pool.core h.pool.sizes h.quiet i f v there inside) ∙ noted))) (tag_goes k fr l (tallies frame_shape views f) (h.pool.core.grid.columns f inside) a goes)) i v w (pin_kinds.link_after k fr l) there
+      debts_touched t n frame s.end f (pin_kinds.frame_after k fr) (pins_move t fr l v.upto k x a) s.pool.logged views d inside (λ named goes. ⊎_elim (λ (clean : fr.word.dirty ≡ false). d.clean f inside named clean) (λ (noted : l.noted ≡ true). absurd (false≢true (sym (none_noted s.pool.core h.pool.sizes h.quiet i f v there inside) ∙ noted))) (tag_goes k fr l (tallies frame_shape views f) (h.pool.core.grid.columns f inside) a goes)) i v w (pin_kinds.link_after k fr l) there
       (touches_at i f v w (pin_kinds.link_after k fr l) there live inside refl refl refl) (pins_link t fr l v.upto k x a (d.clean f inside) ((d.each i v there).own f inside))
   pins_owe (pin_steps.turns i p k v there live below a) = debts_aside t n frame s.end s.pool.logged views d i v (view_turned k p (hold v p) v) there refl refl refl
   pins_owe (pin_steps.sized i fork k v there live a) = let w : View = view_sized k fork s.pool.core v in let x = d.each i v there in debts_set t n frame s.end s.pool.logged views d i w (record {
@@ -140,8 +139,7 @@ module _ (s : State) (h : HistoryInvariant s) (d : DebtsLaw s) where
   -- a lane takes another's place that holds what this held
   same_lane : (q : ℕ) (ln : Lane) → HoldsSame ln (s.lane q) → (logged : ℕ → Option Page) (vs : List View) (fs : ℕ → Frame) → Debts t n fs s.end logged vs → Debts (taken_of (record s { lane = put s.lane q ln })) n fs s.end logged vs
   same_lane q ln same logged vs fs x = debts_later t (taken_of (record s { lane = put s.lane q ln })) refl
-      (λ tag. let e = lane_put (λ (y : Lane). y.stored_upto tag) s.lane q ln (λ j. same.upto j tag) (s.lane_of tag) in omega arith)
-      (λ tag ok. inl (sym (lane_put (λ (y : Lane). y.failed tag) s.lane q ln (λ j. same.failed j tag) (s.lane_of tag)) ∙ ok)) n fs s.end logged vs x
+      (λ tag. let e = lane_put (λ (y : Lane). y.stored_upto tag) s.lane q ln (λ j. same.upto j tag) (s.lane_of tag) in omega arith) n fs s.end logged vs x
 
   -- the entries of a block of which an output is under way are at the page's position or before it, or in the lane
   pub output_position : (i f : ℕ) (v : View) → get_elem? views i ≡ some v → f < n → (link v f).io ≡ Output → (k : ℕ) (e : Entry) → IsEntryOf s.log.entries (frame f).tag k e → (end_of e ≤ lsn_of (frame f).page) ⊎ (end_of e ≤ stored_upto s (frame f).tag)
@@ -164,22 +162,15 @@ module _ (s : State) (h : HistoryInvariant s) (d : DebtsLaw s) where
     where
       by_kind : (k : LaneKind) → MayWriteLane k s q f (lane_hold v q) (link v f) → {vs : List View} → Debts t n (put frame f (frame f)) s.end s.pool.logged vs → Debts (taken_of (record s { lane = put s.lane q (lane_after k (s.lane q)) })) n (put frame f (frame f)) s.end s.pool.logged vs
       by_kind (lane_kinds.write_block g tag p) (_, x) {vs = vs} y = let ln : Lane = lane_after (lane_kinds.write_block g tag p) (s.lane q) in let u : ℕ = max ((s.lane q).stored_upto tag) (lsn_of p) in
-          let uptos = lane_written s.lane_of s.lane q ln tag (λ (z : Lane). z.stored_upto) u x.lane refl in let fails = lane_written s.lane_of s.lane q ln tag (λ (z : Lane). z.failed) false x.lane refl in
+          let uptos = lane_written s.lane_of s.lane q ln tag (λ (z : Lane). z.stored_upto) u x.lane refl in
           debts_later t (taken_of (record s { lane = put s.lane q ln })) refl
           (λ z. dite (ℕ_discrete z tag)
           (λ (e : z ≡ tag). let a = uptos z ∙ put_at (stored_upto s) tag u z e in let b : (s.lane q).stored_upto tag ≡ stored_upto s z = ap (λ (m : ℕ). (s.lane m).stored_upto tag) (sym x.lane) ∙ ap (stored_upto s) (sym e) in omega arith)
           (λ (o : z ≢ tag). let a = uptos z ∙ put_else (stored_upto s) tag u z o in omega arith))
-          (λ z ok. dite (ℕ_discrete z tag)
-          (λ (e : z ≡ tag). inr (λ m en of. let a = uptos z ∙ put_at (stored_upto s) tag u z e in
-          ⊎_elim (λ (low : end_of en ≤ lsn_of (frame f).page). let c : end_of en ≤ lsn_of p = subst (λ (w : Page). end_of en ≤ lsn_of w) x.page low in omega arith)
-          (λ (low : end_of en ≤ stored_upto s (frame f).tag). let c : stored_upto s (frame f).tag ≡ (s.lane q).stored_upto tag = ap (stored_upto s) x.tagged ∙ ap (λ (w : ℕ). (s.lane w).stored_upto tag) x.lane in omega arith)
-          (output_position i f v there inside x.right.right m en (entry_at s.log.entries z (frame f).tag m en (e ∙ sym x.tagged) of))))
-          (λ (o : z ≢ tag). inl (sym (fails z ∙ put_else (failed s) tag false z o) ∙ ok)))
           n (put frame f (frame f)) s.end s.pool.logged vs y
-      by_kind (lane_kinds.fail_write g tag p faults) (_, x) {vs = vs} y = let ln : Lane = lane_after (lane_kinds.fail_write g tag p faults) (s.lane q) in let fails = lane_written s.lane_of s.lane q ln tag (λ (z : Lane). z.failed) true x.lane refl in
+      by_kind (lane_kinds.fail_write g tag p faults) (_, x) {vs = vs} y = let ln : Lane = lane_after (lane_kinds.fail_write g tag p faults) (s.lane q) in
           debts_later t (taken_of (record s { lane = put s.lane q ln })) refl
           (λ z. let a = lane_put (λ (m : Lane). m.stored_upto z) s.lane q ln refl (s.lane_of z) in omega arith)
-          (λ z ok. dite (ℕ_discrete z tag) (λ (e : z ≡ tag). absurd (apart (fails z ∙ put_at (failed s) tag true z e) ok)) (λ (o : z ≢ tag). inl (sym (fails z ∙ put_else (failed s) tag true z o) ∙ ok)))
           n (put frame f (frame f)) s.end s.pool.logged vs y
       by_kind lane_kinds.take_lane x y = absurd x
       by_kind lane_kinds.leave_lane x y = absurd x
@@ -197,13 +188,10 @@ module _ (s : State) (h : HistoryInvariant s) (d : DebtsLaw s) where
     named = x.named;
     clean = x.clean;
     unframed = x.unframed;
-    positioned = λ z k p e is. dite (ℕ_discrete z tag) (λ same. absurd (none_some (sym (put_at s.pool.logged tag None z same) ∙ is))) (λ o. x.positioned z k p e (sym (put_else s.pool.logged tag None z o) ∙ is));
+    positioned = λ z k p e is. dite (ℕ_discrete z tag) (λ same. absurd (none-some p (sym (put_at s.pool.logged tag None z same) ∙ is))) (λ o. x.positioned z k p e (sym (put_else s.pool.logged tag None z o) ∙ is));
     unknown = λ z none. dite (ℕ_discrete z tag) (λ same. subst (IsCurrent t) (sym same) (d.clean f inside named clean)) (λ o. x.unknown z (sym (put_else s.pool.logged tag None z o) ∙ none));
     each = x.each;
   }
-    where
-      none_some : {p : Page} → None ≡ Some p → ⊥
-      none_some e = cc
 
   -- what comes back is noted at a frame
   notes_owe : (i q f : ℕ) (noted : Bool) (k : Kind) (v : View) → get_elem? views i ≡ some v → v.emptied ≡ false → q < s.lanes → f < n → Notes k s q f (lane_hold v q) (link v f)
@@ -261,21 +249,14 @@ module _ (s : State) (h : HistoryInvariant s) (d : DebtsLaw s) (i f : ℕ) (p : 
   abbrev end' : ℕ
   end' = s.end + change_size c
 
-  -- the entry is of the frame's block
-  of_block : tag_in c ≡ Some tag_of
-  of_block = makes_of c end' tag_of p (link v f) x.makes
-
   same_block : (z : ℕ) → tag_in c ≡ Some z → tag_of ≡ z
-  same_block z e = same_Some tag_of z (sym of_block ∙ e)
+  same_block z e = same_Some tag_of z (sym (stepping.of_block s h i f p c v there live inside x) ∙ e)
 
   is_dirty : (s.pool.core.frame f).word.dirty ≡ true
   is_dirty = ((h.pool.pages.cells i v f there inside).dirtied x.right.dirtied).dirty
 
   named : tag_of ≢ no_tag
-  named = (((h.pool.pages.cells i v f there inside).content (λ e. exclusive_not_unlocked x.right.right e)).2).named
-    where
-      exclusive_not_unlocked : {c : _} → c ≡ Exclusive → c ≡ Unlocked → ⊥
-      exclusive_not_unlocked a e = cc
+  named = stepping.named s h i f p c v there live inside x
 
   -- no other frame has the block
   only_frame : (g : ℕ) → g < s.pool.core.frames → (s.pool.core.frame g).tag ≡ tag_of → f ≡ g
@@ -299,13 +280,13 @@ module _ (s : State) (h : HistoryInvariant s) (d : DebtsLaw s) (i f : ℕ) (p : 
   entries_longer : Debts longer s.pool.core.frames s.pool.core.frame end' logged' s.pool.core.views
   entries_longer = record {
     named = λ k z e of. ⊎_elim (λ (t : IsEntryOf s.log.entries z k e). d.named k z e t) (λ (t : (entry ≡ e) × (tag_in c ≡ Some z)). subst (λ (w : ℕ). w ≢ no_tag) (same_block z t.1) named) (entry_longer s.log.entries entry z k e of);
-    clean = λ g below given clean. current_longer (s.pool.core.frame g).tag (λ e. apart (subst (λ (k : ℕ). (s.pool.core.frame k).word.dirty ≡ true) (only_frame g below e) is_dirty) clean) (d.clean g below given clean);
+    clean = λ g below given clean. current_longer (s.pool.core.frame g).tag (λ e. both_ways _ clean (subst (λ (k : ℕ). (s.pool.core.frame k).word.dirty ≡ true) (only_frame g below e) is_dirty)) (d.clean g below given clean);
     unframed = λ z given none. current_longer z (λ e. none f inside (sym e)) (d.unframed z given none);
     positioned = λ z k q e is of. dite (ℕ_discrete z tag_of)
         (λ (same : z ≡ tag_of). let e_is : p ≡ q = same_Some p q (sym (put_at s.pool.logged tag_of (Some p) z same) ∙ is) in let pos : lsn_of q ≡ end' = ap lsn_of (sym e_is) ∙ x.ends in
         ⊎_elim (λ (t : IsEntryOf s.log.entries z k e). let low = ends_below s.log entry h.log k e t.there in let ends = h.ends in omega arith) (λ (t : (entry ≡ e) × (tag_in c ≡ Some z)). let y : end' ≡ end_of e = ap end_of t.0 in omega arith) (entry_longer s.log.entries entry z k e of))
         (λ (other : z ≢ tag_of). ⊎_elim (λ (t : IsEntryOf s.log.entries z k e). d.positioned z k q e (sym (put_else s.pool.logged tag_of (Some p) z other) ∙ is) t) (λ (t : (entry ≡ e) × (tag_in c ≡ Some z)). absurd (other (sym (same_block z t.1)))) (entry_longer s.log.entries entry z k e of));
-    unknown = λ z none. dite (ℕ_discrete z tag_of) (λ (same : z ≡ tag_of). absurd (some_none (sym (put_at s.pool.logged tag_of (Some p) z same) ∙ none))) (λ (other : z ≢ tag_of). current_longer z other (d.unknown z (sym (put_else s.pool.logged tag_of (Some p) z other) ∙ none)));
+    unknown = λ z none. dite (ℕ_discrete z tag_of) (λ (same : z ≡ tag_of). absurd (none-some p (sym none ∙ put_at s.pool.logged tag_of (Some p) z same))) (λ (other : z ≢ tag_of). current_longer z other (d.unknown z (sym (put_else s.pool.logged tag_of (Some p) z other) ∙ none)));
     each = λ j u at. let y = d.each j u at in record {
       begun = (let z = y.begun in omega arith);
       kept_begun = λ k a t. let z = y.kept_begun k a t in omega arith;
@@ -313,9 +294,6 @@ module _ (s : State) (h : HistoryInvariant s) (d : DebtsLaw s) (i f : ℕ) (p : 
       kept = λ k g a t below. stored_or_left_longer (s.pool.core.frame g) a.upto (has_visited a g) (has_left_to_write a g) (y.kept_begun k a t) (y.kept k g a t below);
     };
   }
-    where
-      some_none : {q : Page} → Some q ≡ None → ⊥
-      some_none e = cc
 
   enters_owe : Debts longer s.pool.core.frames (put s.pool.core.frame f (s.pool.core.frame f)) end' logged' (set s.pool.core.views i (has_written c (link v f).copied end' tag_of p (paged (make_entry p) s.pool f v)))
   enters_owe = let l : Link = link_after (make_entry p) (block_of s.pool.logged tag_of) (s.pool.core.frame f) (link v f) in let own = (entries_longer.each i v there).own f inside in

@@ -1,6 +1,6 @@
 -- What a checkpoint says at its end.
 use Rattle.std.proofs.Common.{◌≡◌, ◌≢◌, inl, inr, ℕ, ◌<◌, ◌≤◌, Bool, true, false, sym, refl, ◌∙◌, subst, ⊎_elim, arith, ap}
-use Rattle.std.proofs.lemmas.Bool.{cases_lt}
+use Rattle.std.proofs.lemmas.Bool.{cases_lt, both_ways, true_from_ne_false, cases_Bool}
 use mathlib.Core.Option.{some}
 use lib.ListN.{get_elem?}
 use Rattle.pin_core.specs.declared.view.JoinedCheckpoint.{JoinedCheckpoint}
@@ -22,13 +22,6 @@ use Rattle.history_core.proofs.Stepping.{lane_cell}
 use Rattle.history_core.proofs.Logs.{entry_at}
 use Rattle.history_core.proofs.Histories.{framed, durable, loaded_flushed}
 
-either : {A : Type 0} (b : Bool) → (b ≡ true → A) → (b ≡ false → A) → A
-either true x y = x refl
-either false x y = y refl
-
-apart : {b : Bool} → b ≡ true → b ≡ false → ⊥
-apart y n = cc
-
 -- what a view has seen flushed is durable
 pub seen_durable : (s : State) → HistoryInvariant s → (i upto : ℕ) (v : View) → get_elem? s.pool.core.views i ≡ some v → upto ≤ v.flushed → AreDurable s upto
 seen_durable s h i upto v there seen k e at low = let x = loaded_flushed s h i v there in durable s h k e at (omega arith)
@@ -40,20 +33,23 @@ module _ (s : State) (h : HistoryInvariant s) (d : DebtsLaw s) (blocks : Entries
   -- a block whose last write failed has a frame, which is dirty
   unwritten : (tag : ℕ) → tag ≢ no_tag → is_block s.pool.core tag ≡ true → failed s tag ≡ true → IsUnwritten s tag
   unwritten tag named block bad = ⊎_elim
-      (λ (x : (f : ℕ) × (f < s.pool.core.frames) × ((s.pool.core.frame f).tag ≡ tag)). let dirty = either (s.pool.core.frame x.0).word.dirty (λ y. y) (λ clean. absurd (apart bad (subst (λ (t : ℕ). failed s t ≡ false) x.2 (((h.homes.columns x.0 x.1).clean (λ z. named (sym x.2 ∙ z)) clean).done (ap (is_block s.pool.core) x.2 ∙ block))))) in
+      (λ (x : (f : ℕ) × (f < s.pool.core.frames) × ((s.pool.core.frame f).tag ≡ tag)). let dirty = true_from_ne_false (s.pool.core.frame x.0).word.dirty (λ clean. both_ways _ (subst (λ (t : ℕ). failed s t ≡ false) x.2 (((h.homes.columns x.0 x.1).clean (λ z. named (sym x.2 ∙ z)) clean).done (ap (is_block s.pool.core) x.2 ∙ block))) bad) in
       record { failed_write = bad; frame = x.0; inside = x.1; tagged = x.2; valid = (h.pool.core.grid.columns x.0 x.1).dirty dirty; dirty = dirty })
-      (λ (none : IsUnframed s.pool.core.frames s.pool.core.frame tag). absurd (apart bad ((h.unframed tag named none).done block)))
+      (λ (none : IsUnframed s.pool.core.frames s.pool.core.frame tag). absurd (both_ways _ ((h.unframed tag named none).done block) bad))
       (framed s.pool.core.frames s.pool.core.frame tag)
 
   -- a checkpoint that has visited every frame, and has none left
   all_stored : (upto : ℕ) (visited left_to_write : ℕ → Bool) → ((f : ℕ) → f < s.pool.core.frames → IsStoredOrLeft (taken_of s) (s.pool.core.frame f) upto (visited f) (left_to_write f)) → ((f : ℕ) → f < s.pool.core.frames → (visited f ≡ true) × (left_to_write f ≡ false)) → AreStored s upto
-  all_stored upto visited left_to_write stored_or_left ended k tag e of low = let named = d.named k tag e of in either (failed s tag) (λ bad. inr (unwritten tag named (blocks tag k e of) bad)) (λ ok. inl (in_lane k tag e of ok (⊎_elim
+  all_stored upto visited left_to_write stored_or_left ended k tag e of low = let named = d.named k tag e of in ⊎_elim
+      (λ (bad : failed s tag ≡ true). inr (unwritten tag named (blocks tag k e of) bad))
+      (λ (ok : failed s tag ≡ false). inl (in_lane k tag e of ok (⊎_elim
       (λ (behind : stored_upto s tag < end_of e). ⊎_elim
       (λ (x : (f : ℕ) × (f < s.pool.core.frames) × ((s.pool.core.frame f).tag ≡ tag)). let done = ended x.0 x.1 in
-      absurd (apart (stored_or_left x.0 x.1 done.0 (λ z. named (sym x.2 ∙ z)) k e (entry_at s.log.entries tag (s.pool.core.frame x.0).tag k e (sym x.2) of) low (subst (λ (t : ℕ). stored_upto s t < end_of e) (sym x.2) behind)).1 done.1))
+      absurd (both_ways _ done.1 (stored_or_left x.0 x.1 done.0 (λ z. named (sym x.2 ∙ z)) k e (entry_at s.log.entries tag (s.pool.core.frame x.0).tag k e (sym x.2) of) low (subst (λ (t : ℕ). stored_upto s t < end_of e) (sym x.2) behind)).1))
       (λ (none : IsUnframed s.pool.core.frames s.pool.core.frame tag). d.unframed tag named none k e of)
       (framed s.pool.core.frames s.pool.core.frame tag))
       (λ (there : end_of e ≤ stored_upto s tag). there) (cases_lt (stored_upto s tag) (end_of e)))))
+      (cases_Bool (failed s tag))
 
   pub checkpoints_store : CheckpointsStore s
   checkpoints_store = record {
@@ -67,7 +63,7 @@ module _ (s : State) (h : HistoryInvariant s) (d : DebtsLaw s) (blocks : Entries
       (λ (x : (n : ℕ) → n < s.lanes → upto ≤ (lane_hold v n).swept). λ n below. ((lane_hold v n).swept, x n below, (m.each i v there).own n))
       (λ (x : (k : ℕ) × (c : JoinedCheckpoint) × (get_elem? v.joined_checkpoints k ≡ some c) × ((n : ℕ) → n < s.lanes → upto ≤ has_swept c n)). λ n below. (has_swept x.1 n, x.3 n below, (m.each i v there).kept x.0 n x.1 x.2)) low) in (
         covered,
-        λ k tag e of upto. let x = covered k tag e of upto in let y = m.below (s.lane_of tag) tag in either (failed s tag) (λ bad. inr (unwritten tag (d.named k tag e of) (blocks tag k e of) bad)) (λ ok. inl (in_lane k tag e of ok (omega arith))),
+        λ k tag e of upto. let x = covered k tag e of upto in let y = m.below (s.lane_of tag) tag in ⊎_elim (λ (bad : failed s tag ≡ true). inr (unwritten tag (d.named k tag e of) (blocks tag k e of) bad)) (λ (ok : failed s tag ≡ false). inl (in_lane k tag e of ok (omega arith))) (cases_Bool (failed s tag)),
       )
     where
       all_synced : ((n : ℕ) → n < s.lanes → (p : ℕ) × (upto ≤ p) × IsSwept s n p) → AreSynced s upto

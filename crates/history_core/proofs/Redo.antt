@@ -9,7 +9,7 @@ use lib.ListN.{get_elem?}
 use Rattle.page_layout.specs.Fields.{lsn_of}
 use Rattle.pin_core.specs.declared.view.Call.{Call}
 use Rattle.pin_core.specs.declared.view.Call.TheVariants.{Read, Write, Size, Sized}
-use Rattle.pin_core.specs.declared.view.Content.TheVariants.{Unlocked, Exclusive}
+use Rattle.pin_core.specs.declared.view.Content.TheVariants.{Exclusive}
 use Rattle.pin_core.specs.declared.view.ImageTest.{ImageTest}
 use Rattle.pin_core.specs.declared.view.LoadedWord.TheVariants as seen
 use Rattle.pin_core.specs.declared.view.LogHold.{LogHold}
@@ -34,7 +34,7 @@ use Rattle.history_core.specs.Steps.{Event, new_entry, stepped, looked, pool_not
 use Rattle.history_core.proofs.Calls.{at_both, index_below}
 use Rattle.history_core.proofs.Logs.{cut_all, ends_below, some_size, cell_absent, last_upto, IsLastUpto, cell_upto}
 use Rattle.history_core.proofs.Sound.{locked_sound}
-use Rattle.history_core.proofs.Stepping.{copied_cell, plain}
+use Rattle.history_core.proofs.Stepping.{copied_cell, plain, exclusive_not_unlocked}
 use Rattle.history_core.proofs.Unentered.{at_right}
 use Rattle.grid.specs.Shape.{total}
 use Rattle.grid.proofs.Lists.{at_set, at_end, at_last, at_longer, at_only, set_here, set_else}
@@ -220,9 +220,9 @@ record SameRedo (s t : State) : Type 0 where
   based : StartsAtBase t → StartsAtBase s
   knows : (tag : ℕ) → t.known tag ≡ true → s.known tag ≡ true
 
-been_before : (s t : State) → t.log ≡ s.log → ((r : ℕ) → IsRaised t.pool.core.views r → IsRaised s.pool.core.views r) → (r : ℕ) → HasBeenRedo t r → HasBeenRedo s r
-been_before s t log was r (inl e) = inl (e ∙ ap (λ (l : Log). l.base) log)
-been_before s t log was r (inr x) = inr (was r x)
+been_before : (s t : State) → t.log.base ≡ s.log.base → ((r : ℕ) → IsRaised t.pool.core.views r → IsRaised s.pool.core.views r) → (r : ℕ) → HasBeenRedo t r → HasBeenRedo s r
+been_before s t base was r (inl e) = inl (e ∙ base)
+been_before s t base was r (inr x) = inr (was r x)
 
 been_still : (s t : State) → t.log.base ≡ s.log.base → ((r : ℕ) → IsRaised s.pool.core.views r → IsRaised t.pool.core.views r) → (r : ℕ) → HasBeenRedo s r → HasBeenRedo t r
 been_still s t base kept r (inl e) = inl (e ∙ sym base)
@@ -253,7 +253,7 @@ module _ (s t : State) (x : SameRedo s t) (y : SameRaised s.pool.core.views t.po
   }
     where
       before : (r : ℕ) → HasBeenRedo t r → HasBeenRedo s r
-      before = been_before s t x.log y.was
+      before = been_before s t (ap (λ (l : Log). l.base) x.log) y.was
 
       here : (k : ℕ) (e : Entry) → get_elem? t.log.entries k ≡ some e → get_elem? s.log.entries k ≡ some e
       here k e at = ap (λ (l : Log). get_elem? l.entries k) (sym x.log) ∙ at
@@ -270,9 +270,6 @@ been_low : (s : State) → RedoLaw s → (r : ℕ) → HasBeenRedo s r → r ≤
 been_low s m r (inl e) = let x = m.highest.from in omega arith
 been_low s m r (inr x) = m.highest.above r x
 
-exclusive_locked : {c : _} → c ≡ Exclusive → c ≡ Unlocked → ⊥
-exclusive_locked a e = cc
-
 -- Before ranges of a page that was past the redo position an entry has the whole page
 record HasBehind (es : List Entry) (tag r : ℕ) : Type 0 where
   index : ℕ
@@ -287,7 +284,7 @@ module _ (s : State) (h : HistoryInvariant s) (n : SoundLaw s) (m : RedoLaw s) (
   tag_here = (s.pool.core.frame f).tag
 
   named_here : tag_here ≢ no_tag
-  named_here = (((h.pool.pages.cells i v f there inside).content (exclusive_locked locked)).2).named
+  named_here = (((h.pool.pages.cells i v f there inside).content (exclusive_not_unlocked locked)).2).named
 
   redo_is : past.redo ≡ s.redo
   redo_is = m.loaded i v past.redo there past.loaded
@@ -318,7 +315,7 @@ module _ (s : State) (h : HistoryInvariant s) (n : SoundLaw s) (m : RedoLaw s) (
       -- a page without an entry is one of the start, whose position is at most the base
       first_page : ((k : ℕ) (e : Entry) → IsEntryOf s.log.entries tag_here k e → log_end s.log < end_of e) → ⊥
       first_page none = let absent = cell_absent s.origin s.log.entries tag_here (plain s h) (λ k e of. let a = none k e of in let b = all_end k e of.there in omega arith) in let origin_is = sym absent ∙ is_cell in
-          let sound = locked_sound s h n.entries i f v there inside (exclusive_locked locked) past.before known origin_is in let low = based tag_here past.before known origin_is sound in
+          let sound = locked_sound s h n.entries i f v there inside (exclusive_not_unlocked locked) past.before known origin_is in let low = based tag_here past.before known origin_is sound in
           let a = past.past in let b = redo_is in let c = m.highest.from in omega arith
 
 -- redo can do the next entry
@@ -402,12 +399,10 @@ module _ (s : State) (h : HistoryInvariant s) (n : SoundLaw s) (m : RedoLaw s) (
           raised_else y = ⊎_elim (λ (z : IsRaised s.pool.core.views r). raised_kept s.pool.core.views i v (record written { calls = v.calls }) [] there (sym (append-nil v.redo_raised)) r z) (λ (z : IsAmong [] r). absurd (none_among r z)) (raised_was s.pool.core.views i v written [] there (sym (append-nil v.redo_raised)) r y)
 
       still : (r : ℕ) → HasBeenRedo s r → HasBeenRedo t r
-      still r (inl e) = inl (e ∙ ap (λ (l : Log). l.base) (sym log))
-      still r (inr y) = inr (subst (λ (l : List View). IsRaised l r) (sym views) (raised_kept s.pool.core.views i v written [] there (sym (append-nil v.redo_raised)) r y))
+      still = been_still s t (ap (λ (l : Log). l.base) log) (λ r y. subst (λ (l : List View). IsRaised l r) (sym views) (raised_kept s.pool.core.views i v written [] there (sym (append-nil v.redo_raised)) r y))
 
       before : (r : ℕ) → HasBeenRedo t r → HasBeenRedo s r
-      before r (inl e) = inl (e ∙ ap (λ (l : Log). l.base) log)
-      before r (inr y) = inr (was r y)
+      before = been_before s t (ap (λ (l : Log). l.base) log) was
 
 -- Only the holder of the log's latch has loaded the redo position
 held_alone : (w : Written) (d : Device) (t : LogTally → ℕ) (a b : Bool) (x y : LogHold) → DeviceLaw w d t → LogLink w d a x → LogLink w d b y → ((k : LogTally) → log_weigh k x + log_weigh k y ≤ t k) → x.held ≡ true → y.redo ≡ None

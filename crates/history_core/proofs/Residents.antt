@@ -1,5 +1,5 @@
 -- While no backend has taken a tag from a frame, each block that a view has seen in one is there.
-use Rattle.std.proofs.Common.{◌≡◌, ◌≢◌, ◌⊎◌, inl, inr, ℕ, zero, suc, ◌+◌, ◌<◌, ◌≤◌, Bool, true, false, List, [], ◌∷◌, ◌++◌, map, length, Option, Some, None, set, eq-eqb, sym, refl, ap, ◌∙◌, subst, ⊎_elim, arith}
+use Rattle.std.proofs.Common.{◌≡◌, ◌≢◌, ◌⊎◌, inl, inr, ℕ, zero, suc, ◌+◌, ◌<◌, ◌≤◌, Bool, true, false, List, [], ◌∷◌, map, length, Option, Some, None, set, eq-eqb, sym, refl, ap, ◌∙◌, subst, ⊎_elim, arith}
 use Rattle.std.specs.Prelude.{nat_eq, not, ◌||◌, ◌&&◌}
 use mathlib.Core.Logic.{dite}
 use mathlib.Core.Option.{some, some-injective, some-ne-none}
@@ -24,7 +24,6 @@ use Rattle.pin_core.specs.Sizes.{SizeKind, pass_frame, residents_sized, view_siz
 use Rattle.pin_core.specs.Turns.{view_turned}
 use Rattle.pin_core.specs.Steps as pin_steps
 use Rattle.page_core.specs.State.{Block, block_of}
-use Rattle.page_core.specs.Invariant.{PageLink}
 use Rattle.page_core.specs.Steps as page_steps
 use Rattle.page_core.specs.Kinds as kinds
 use Rattle.page_core.specs.Kinds.{begin_write, make_entry}
@@ -35,11 +34,11 @@ use Rattle.pin_core.specs.declared.view.LaneHold.{LaneHold}
 use Rattle.history_core.specs.Device.{view_logged}
 use Rattle.history_core.specs.State.{State}
 use Rattle.history_core.specs.Laws.{Laws}
-use Rattle.history_core.specs.Residents.{HasBlock, IsResident, AreResident, cleared_by, ResidentsStay, LostWereCleared}
-use Rattle.history_core.specs.Steps.{Event, Notes, stepped, looked, logged_noting, pool_noting, paged, laned, has_read, has_seen_size, has_written, Step, pools, lanes, writes, notes, logs, enters, reads, reads_size, words, after_word}
+use Rattle.history_core.specs.Residents.{IsResident, AreResident, cleared_by, ResidentsStay, LostWereCleared}
+use Rattle.history_core.specs.Steps.{Notes, stepped, looked, logged_noting, pool_noting, paged, laned, has_read, has_seen_size, has_written, pools, lanes, writes, notes, logs, enters, reads, reads_size, words, after_word}
 use Rattle.history_core.proofs.Always.{KeptByLaws, always}
 use Rattle.history_core.proofs.Calls.{at_both}
-use Rattle.grid.specs.Shape.{put, total, tallies}
+use Rattle.grid.specs.Shape.{put, tallies}
 use Rattle.grid.proofs.Lists.{at_set, at_end, at_only, put_at, put_else, set_here, set_else}
 use Rattle.grid.proofs.Sums.{total-set, total-snoc, term_le, some_term}
 

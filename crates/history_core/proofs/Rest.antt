@@ -1,20 +1,20 @@
 -- Each step keeps the law of the bytes after the log's, and so does each list of steps.
-use Rattle.std.proofs.Common.{◌≡◌, ◌≢◌, ℕ, ◌+◌, ◌≤◌, Bool, true, List, [], ◌∷◌, ◌++◌, length, length-append, append-nil, None, sym, refl, ap, ◌∙◌, subst, arith, lit<}
+use Rattle.std.proofs.Common.{◌≡◌, ℕ, ◌+◌, Bool, true, List, [], ◌∷◌, ◌++◌, length, length-append, append-nil, None, sym, refl, ap, ◌∙◌, subst, arith, lit<}
 use mathlib.Core.Option.{some}
 use lib.ListN.{get_elem?}
-use Rattle.pin_core.specs.declared.view.LogHold.{LogHold}
 use Rattle.pin_core.specs.declared.view.View.{View}
 use Rattle.pin_core.specs.State.{Config, Page, link}
 use Rattle.pin_core.specs.Tallies.{some_weight}
 use Rattle.history_core.specs.Log.{Entry, Log, Change, image, ranges, resize, IsChange, MayMake, change_size, log_bytes, record_bytes}
-use Rattle.history_core.specs.State.{State, Store, Device, opening}
-use Rattle.history_core.specs.Device.{LogKind, take_log, leave_log, log_out, append, fail_append, sync_log, fail_sync, log_back, see_down, LogAllowed, device_after, view_logged, Written, DeviceLaw, LogLink, LogTally, holders, appenders, log_weigh, log_shape}
+use Rattle.history_core.specs.State.{State, Store, opening}
+use Rattle.history_core.specs.Device.{LogKind, take_log, leave_log, log_out, append, fail_append, sync_log, fail_sync, log_back, see_down, LogAllowed, device_after, view_logged, appenders, log_weigh, log_shape}
 use Rattle.history_core.specs.Invariant.{HistoryInvariant, written_of}
 use Rattle.history_core.specs.Steps.{Event, new_entry, CanLog, AppendsRecord, aside, Step, logs, enters}
 use Rattle.history_core.specs.Redo.{StartsAtBase, HasWholePage, CanFollow, RedoLaw}
 use Rattle.history_core.specs.Rest.{NoneAppended, HasRest, RestLaw}
 use Rattle.history_core.specs.Sound.{SoundLaw}
 use Rattle.history_core.specs.TornRecords.{NotesTorn}
+use Rattle.history_core.proofs.Device.{none_else, holds}
 use Rattle.history_core.proofs.Logs.{bytes_longer}
 use Rattle.history_core.proofs.Opening.{head_only}
 use Rattle.history_core.proofs.Redo.{can_follow}
@@ -61,10 +61,6 @@ same s t x based knows bytes down noted names may_be log end = record {
 valid_of : (s : State) (f tag : ℕ) (p : Page) (ch : Change) (v : View) → CanLog s f tag p ch v → IsChange (s.end + change_size ch) ch
 valid_of s f tag p ch v a = makes_valid ch (s.end + change_size ch) tag p (link v f) (record { sound = a.right.sound; used = a.right.used; full = a.full; ends = a.ends }) a.makes
 
--- the holder of the latch that has no record appended is alone in that
-none_else : (w : Written) (d : Device) (saw : _) (h : LogHold) (t : LogTally → ℕ) → DeviceLaw w d t → LogLink w d saw h → ((k : LogTally) → log_weigh k h ≤ t k) → h.out ≢ None → h.appended ≡ None → t appenders ≡ 0
-none_else w d saw h t q c le out none = let held : h.held ≡ true = grind (arith, c, out) in grind (arith, q, c, le holders, held, none)
-
 -- a step at the log
 logged : (s : State) (h : HistoryInvariant s) (n : SoundLaw s) (o : RedoLaw s) (i : ℕ) (k : LogKind) (v : View) → get_elem? s.pool.core.views i ≡ some v → LogAllowed k s.device v.log → AppendsRecord k s v → HistoryInvariant (record s { pool = aside s.pool i (view_logged k v); device = device_after k s.end s.device }) → HasRest s
     → HasRest (record s { pool = aside s.pool i (view_logged k v); device = device_after k s.end s.device })
@@ -73,7 +69,7 @@ logged s h n o i leave_log v there a r g x = same s _ x (λ b. b) (λ z k. k) re
 logged s h n o i (log_out taken) v there a r g x = same s _ x (λ b. b) (λ z k. k) refl refl (torn_logged s i (log_out taken) v there) refl refl refl refl
 logged s h n o i sync_log v there a r g x = same s _ x (λ b. b) (λ z k. k) refl refl (torn_logged s i sync_log v there) refl refl refl refl
 logged s h n o i (fail_sync synced faults) v there a r g x = let c = h.device.cells i v 0 there (lit< tt) in let q = h.device.columns 0 (lit< tt) in
-    nothing _ (q.bytes (none_else (written_of s) s.device v.saw_down v.log (tallies log_shape s.pool.core.views 0) q c (λ k. term_le (λ (u : View). log_weigh k u.log) s.pool.core.views i v there) a.call.out a.entered) a.call.up)
+    nothing _ (q.bytes (none_else (written_of s) s.device v.saw_down v.log (tallies log_shape s.pool.core.views 0) q c (λ k. term_le (λ (u : View). log_weigh k u.log) s.pool.core.views i v there) (holds (written_of s) s.device v.saw_down v.log c a.call.out) a.entered) a.call.up)
 logged s h n o i (log_back noted) v there a r g x = same s _ x (λ b. b) (λ z k. k) refl refl (torn_logged s i (log_back noted) v there) refl refl refl refl
 logged s h n o i see_down v there a r g x = same s _ x (λ b. b) (λ z k. k) refl refl (torn_logged s i see_down v there) refl refl refl refl
 logged s h n o i (append f tag p bytes) v there a r g x = let w : View = view_logged (append f tag p bytes) v in
@@ -86,7 +82,7 @@ logged s h n o i (append f tag p bytes) v there a r g x = let w : View = view_lo
       short = omega arith;
     }
 logged s h n o i (fail_append f tag p bytes faults) v there a r g x = let w : View = view_logged (fail_append f tag p bytes faults) v in let c = h.device.cells i v 0 there (lit< tt) in let q = h.device.columns 0 (lit< tt) in
-    let none = none_else (written_of s) s.device v.saw_down v.log (tallies log_shape s.pool.core.views 0) q c (λ k. term_le (λ (u : View). log_weigh k u.log) s.pool.core.views i v there) a.call.out a.entered in record {
+    let none = none_else (written_of s) s.device v.saw_down v.log (tallies log_shape s.pool.core.views 0) q c (λ k. term_le (λ (u : View). log_weigh k u.log) s.pool.core.views i v there) (holds (written_of s) s.device v.saw_down v.log c a.call.out) a.entered in record {
       rest = bytes;
       is_bytes = ap (λ (l : List ℕ). l ++ bytes) (q.bytes none a.call.up);
       begins = λ some. record { entry = new_entry s v.number r.0; starts = refl; valid = valid_of s f tag p r.0 v r.1; allowed = r.1.allowed; more = r.2.rest; begins = r.2.begins };

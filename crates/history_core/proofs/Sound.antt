@@ -1,14 +1,14 @@
 -- Each step keeps that only blocks whose pages were sound at the start are read and written.
 use Rattle.std.proofs.Common.{◌≡◌, ◌≢◌, ◌⊎◌, inl, inr, ℕ, ◌+◌, ◌<◌, Bool, true, false, List, [], ◌∷◌, ◌++◌, length, set, Some, None, sym, refl, ap, ◌∙◌, subst, ⊎_elim, arith}
-use Rattle.std.proofs.lemmas.Bool.{both_ways}
-use Rattle.std.proofs.lemmas.Option.{same_Some}
+use Rattle.std.proofs.lemmas.Bool.{both_ways, cases_Bool, true_from_ne_false, false_from_ne_true}
+use Rattle.std.proofs.lemmas.Option.{same_Some, none-some}
 use mathlib.Core.Logic.{dite}
 use mathlib.Core.Option.{some, some-ne-none}
 use native.Mathlib.Decide.{ℕ_discrete}
 use lib.ListN.{get_elem?}
 use Rattle.page_layout.specs.Soundness.{is_sound_page}
 use Rattle.pin_core.specs.declared.view.Call.{Call}
-use Rattle.pin_core.specs.declared.view.Content.TheVariants.{Unlocked, Exclusive}
+use Rattle.pin_core.specs.declared.view.Content.TheVariants.{Unlocked}
 use Rattle.pin_core.specs.declared.view.LoadedWord.TheVariants as seen
 use Rattle.pin_core.specs.declared.view.View.{View}
 use Rattle.pin_core.specs.State.{Config, Frame, Page, no_tag, link, hold, first_view, new_view, emptied_view, joined_view, is_block, size_hold}
@@ -32,7 +32,7 @@ use Rattle.history_core.specs.Steps.{Event, new_entry, stepped, looked, pool_not
 use Rattle.history_core.proofs.Calls.{at_both}
 use Rattle.history_core.proofs.Histories.{clean_stored}
 use Rattle.history_core.proofs.Logs.{cut_all, ends_below, cell_absent, after_none, after_images, entry_longer, IsLastUpto, last_upto, cell_upto}
-use Rattle.history_core.proofs.Stepping.{makes_of, page_of, logged_there, frame_block, plain}
+use Rattle.history_core.proofs.Stepping.{makes_of, page_of, logged_there, frame_block, plain, exclusive_not_unlocked}
 use Rattle.grid.specs.Shape.{total}
 use Rattle.grid.proofs.Lists.{at_set, at_end, at_only}
 use Rattle.grid.proofs.Sums.{some_term}
@@ -40,10 +40,6 @@ use Rattle.grid.proofs.Sums.{some_term}
 pub weighs_flag : (b : Bool) → 0 < flag_weight b → b ≡ true
 weighs_flag true lt = refl
 weighs_flag false lt = absurd (omega arith)
-
-either_way : (b : Bool) {A : Type 0} → (b ≡ true → A) → (b ≡ false → A) → A
-either_way true x y = x refl
-either_way false x y = y refl
 
 module _ (s : State) (h : HistoryInvariant s) (entries : (k tag : ℕ) (e : Entry) → IsEntryOf s.log.entries tag k e → WasSound s tag) where
   -- no entry is of a block whose page was not sound
@@ -57,10 +53,11 @@ module _ (s : State) (h : HistoryInvariant s) (entries : (k tag : ℕ) (e : Entr
   -- the block of a valid frame
   valid_sound : (f : ℕ) → f < s.pool.core.frames → (s.pool.core.frame f).tag ≢ no_tag → (s.pool.core.frame f).word.valid ≡ true → WasSound s (s.pool.core.frame f).tag
   valid_sound f below named valid p known is = let fr : Frame = s.pool.core.frame f in let c = h.pool.pages.columns f below in let locks : ℕ = total (λ (v : View). weigh unapplied_locks (link v f)) s.pool.core.views in
-      either_way (is_sound_page p) (λ e. e) (λ (unsound : is_sound_page p ≡ false). let first = first_page fr.tag p known is unsound in dite (ℕ_discrete locks 0)
+      ⊎_elim (λ (e : is_sound_page p ≡ true). e) (λ (unsound : is_sound_page p ≡ false). let first = first_page fr.tag p known is unsound in dite (ℕ_discrete locks 0)
       (λ (none : locks ≡ 0). ap is_sound_page (c.page p valid named none first) ∙ c.sound valid)
       (λ (more : locks ≢ 0). let x = some_term (λ (v : View). weigh unapplied_locks (link v f)) s.pool.core.views (omega arith) in
       ((h.pool.pages.cells x.0 x.1 f x.2 below).unapplied (weighs_flag (link x.1 f).unapplied x.3)).is_sound p first))
+      (cases_Bool (is_sound_page p))
 
   -- the block of a frame that a view has locked
   pub locked_sound : (i f : ℕ) (v : View) → get_elem? s.pool.core.views i ≡ some v → f < s.pool.core.frames → (link v f).content ≢ Unlocked → WasSound s (s.pool.core.frame f).tag
@@ -99,9 +96,6 @@ pools_sound s m (pin_steps.joins j v u there other here live free) = let w : Vie
     let x = calls_set s s.pool.core.views m 0 w (λ k tag c at. ⊎_elim (λ (y : get_elem? v.calls k ≡ some c). m 0 k tag v c there y) (λ (y : (n : ℕ) × (get_elem? u.calls n ≡ some c)). m j y.0 tag u c here y.1) (at_both v.calls u.calls k c at)) in
     calls_set s (set s.pool.core.views 0 w) x j emptied_view (λ k tag c at. absurd (no_calls k at))
 
-exclusive_locked : {c : _} → c ≡ Exclusive → c ≡ Unlocked → ⊥
-exclusive_locked a e = cc
-
 pub sound_kept : {e : Event} {s t : State} → Step e s t → HistoryInvariant s → SoundLaw s → SoundLaw t
 sound_kept (pools {s = s} (page_steps.cores x) a) h m = record { entries = m.entries; calls = pools_sound s m.calls x }
 sound_kept (pools {s = s} (page_steps.touches i f k v there live inside a around) plain) h m = record { entries = m.entries; calls = calls_same s s.pool.core.views m.calls i v (paged k s.pool f v) there refl }
@@ -109,7 +103,7 @@ sound_kept (lanes {s = s} i q k v there live low a alone) h m = record { entries
 sound_kept (writes {s = s} i q f k v there live low inside a x) h m = record { entries = m.entries; calls = calls_same s s.pool.core.views m.calls i v (laned k q v (paged begin_write s.pool f v)) there refl }
 sound_kept (notes {s = s} i q f noted k v there live low inside a x) h m = record { entries = m.entries; calls = calls_same s s.pool.core.views m.calls i v (laned (lane_back noted) q v (paged k (pool_noting k s f) f v)) there refl }
 sound_kept (logs {s = s} i k v there live a record_is) h m = record { entries = m.entries; calls = calls_same s s.pool.core.views m.calls i v (view_logged k v) there refl }
-sound_kept (enters {s = s} i f p ch v there live inside x) h m = let tag = (s.pool.core.frame f).tag in let end = s.end + change_size ch in let entry = new_entry s v.number ch in let was : WasSound s tag = locked_sound s h m.entries i f v there inside (exclusive_locked x.right.right) in record {
+sound_kept (enters {s = s} i f p ch v there live inside x) h m = let tag = (s.pool.core.frame f).tag in let end = s.end + change_size ch in let entry = new_entry s v.number ch in let was : WasSound s tag = locked_sound s h m.entries i f v there inside (exclusive_not_unlocked x.right.right) in record {
   entries = λ k z e of. ⊎_elim (λ (y : IsEntryOf s.log.entries z k e). m.entries k z e y) (λ (y : (entry ≡ e) × (tag_in ch ≡ Some z)). subst (WasSound s) (same_Some tag z (sym (makes_of ch end tag p (link v f) x.makes) ∙ y.1)) was) (entry_longer s.log.entries entry z k e of);
   calls = calls_added s s.pool.core.views m.calls i v (has_written ch (link v f).copied end tag p (paged (make_entry p) s.pool f v)) _ there refl (λ z e. subst (WasSound s) (same_Some tag z e) was);
 }
@@ -146,16 +140,13 @@ stay_untouched s h m tag p named known is unsound = record { unentered = none; i
     cell_is = cell_absent s.origin s.log.entries tag (plain s h) none
 
     invalid : (f : ℕ) → f < s.pool.core.frames → (s.pool.core.frame f).tag ≡ tag → (s.pool.core.frame f).word.valid ≡ false
-    invalid f below same = either_way (s.pool.core.frame f).word.valid (λ valid. absurd (both_ways _ unsound (subst (WasSound s) same (valid_sound s h m.entries f below (λ e. named (sym same ∙ e)) valid) p known is))) (λ e. e)
+    invalid f below same = false_from_ne_true (s.pool.core.frame f).word.valid (λ valid. both_ways _ unsound (subst (WasSound s) same (valid_sound s h m.entries f below (λ e. named (sym same ∙ e)) valid) p known is))
 
     clean : (f : ℕ) → f < s.pool.core.frames → (s.pool.core.frame f).tag ≡ tag → (s.pool.core.frame f).word.dirty ≡ false
-    clean f below same = either_way (s.pool.core.frame f).word.dirty (λ dirty. absurd (both_ways _ (invalid f below same) ((h.pool.core.grid.columns f below).dirty dirty))) (λ e. e)
+    clean f below same = false_from_ne_true (s.pool.core.frame f).word.dirty (λ dirty. both_ways _ (invalid f below same) ((h.pool.core.grid.columns f below).dirty dirty))
 
     there : is_block s.pool.core tag ≡ true
-    there = either_way (is_block s.pool.core tag) (λ e. e) (λ e. absurd (none_some p (sym (h.pool.gone tag e) ∙ h.logged tag known ∙ cell_is ∙ is)))
-      where
-        none_some : (p : Page) → None ≡ Some p → ⊥
-        none_some p e = absurd (cc)
+    there = true_from_ne_false (is_block s.pool.core tag) (λ e. none-some p (sym (h.pool.gone tag e) ∙ h.logged tag known ∙ cell_is ∙ is))
 
     stored_is : IsStored s tag
     stored_is = clean_stored s h tag named there clean

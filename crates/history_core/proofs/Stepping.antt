@@ -1,7 +1,8 @@
 -- Each step keeps the law, and so does each list of steps.
 use Rattle.std.proofs.Common.{◌≡◌, ◌≢◌, ℕ, inl, inr, ◌+◌, ◌<◌, ◌≤◌, cond, Bool, true, false, List, [], ◌∷◌, ◌++◌, length, set, Option, Some, None, length-set, get_or-set_same, get_or-set_other, sym, refl, ap, ◌∙◌, subst, arith, lit<, ⊎_elim}
+use Rattle.std.proofs.lemmas.Bool.{both_ways, false≢true}
 use Rattle.std.proofs.lemmas.Option.{same_Some}
-use Rattle.std.specs.Prelude.{max, unwrap_or, nat_lt, ◌⊎◌}
+use Rattle.std.specs.Prelude.{max, unwrap_or, nat_lt}
 use Rattle.std.specs.Option.{is_some}
 use mathlib.Core.Logic.{dite}
 use mathlib.Core.Option.{some}
@@ -198,8 +199,8 @@ page_of s tag = unwrap_or (cell s.origin s.log.entries tag) []
 pub logged_there : (s : State) → HistoryInvariant s → (tag : ℕ) → is_block s.pool.core tag ≡ true → s.known tag ≡ true → s.pool.logged tag ≡ Some (page_of s tag)
 logged_there s h tag block known = h.logged tag known ∙ some_of (cell s.origin s.log.entries tag) (h.there tag block known)
 
-pub flags_differ : false ≡ true → ⊥
-flags_differ e = absurd (cc)
+pub exclusive_not_unlocked : {c : _} → c ≡ Exclusive → c ≡ Unlocked → ⊥
+exclusive_not_unlocked a e = cc
 
 no_resize : (g o n : ℕ) → is_of_page (resize g o n) ≡ true → ⊥
 no_resize g o n x = absurd (cc)
@@ -281,7 +282,7 @@ module _ (s : State) (h : HistoryInvariant s) where
 
   -- a block that isn't there is clean
   outside : (tag : ℕ) → is_block s.pool.core tag ≡ false → IsClean (home_of s tag)
-  outside tag e = record { done = λ x. absurd (flags_differ (sym e ∙ x)); stored = λ x. absurd (flags_differ (sym e ∙ x)) }
+  outside tag e = record { done = λ x. absurd (false≢true (sym e ∙ x)); stored = λ x. absurd (false≢true (sym e ∙ x)) }
 
   -- a tag that no frame has, as a backend names it
   fresh : (i f : ℕ) (k : pin_kinds.Kind) (v : View) → get_elem? views i ≡ some v → pin_kinds.Allowed k (frame f) (link v f) → pin_steps.AllowedAround k s.pool.core v f → StoresClean k (home_of s (pin_kinds.frame_after k (frame f)).tag)
@@ -465,13 +466,10 @@ module _ (s : State) (h : HistoryInvariant s) (i q f : ℕ) (noted : Bool) (v : 
   note_unknown : s.known read_frame.tag ≡ false → HistoryInvariant (record s { pool = pool_after (note_read p) (record s.pool { logged = put s.pool.logged read_frame.tag None }) i f (laned (lane_kinds.lane_back noted) q v (paged (note_read p) (record s.pool { logged = put s.pool.logged read_frame.tag None }) f v)); lane = put s.lane q (s.lane q) })
   note_unknown e = let tag = read_frame.tag in let g : ℕ → Option Page = put s.pool.logged tag None in let hm = home_of s tag in
       let else : (t : ℕ) → t ≢ tag → homes_with s g s.lane t ≡ home_of s t = (λ t other. ap (λ (o : Option Page). record (home_of s t) { block = record { logged = o } }) (put_else s.pool.logged tag None t other)) in
-      noted_keeps s h i q f noted (note_read p) v there live low inside back g (forgets s.pool f h.pool inside is_input.0 is_input.2) (λ t z. put_else s.pool.logged tag None t (λ same. absurd (apart (sym (ap s.known same) ∙ z) e))) else
+      noted_keeps s h i q f noted (note_read p) v there live low inside back g (forgets s.pool f h.pool inside is_input.0 is_input.2) (λ t z. put_else s.pool.logged tag None t (λ same. absurd (both_ways _ e (sym (ap s.known same) ∙ z)))) else
       (λ k below other. else (s.pool.core.frame k).tag (λ same. other (sym (h.pool.core.apart f k inside below is_input.0 (sym same)))))
       (record { right = x.right; fresh = x.fresh; given = λ r z. let none = sym z ∙ put_here s.pool.logged tag None in absurd (cc); unnoted = x.unnoted }) tt refl
-      (homes.note_read_keeps hm read_frame (link v f) p (homes_with s g s.lane tag) refl refl refl (λ z. absurd (apart z e)) x.right)
-    where
-      apart : {b : Bool} → b ≡ true → b ≡ false → ⊥
-      apart y n = cc
+      (homes.note_read_keeps hm read_frame (link v f) p (homes_with s g s.lane tag) refl refl refl (λ z. absurd (both_ways _ e z)) x.right)
 
   note_either : (b : Bool) → s.known read_frame.tag ≡ b → HistoryInvariant (record s { pool = pool_after (note_read p) (record s.pool { logged = cond b s.pool.logged (put s.pool.logged read_frame.tag None) }) i f (laned (lane_kinds.lane_back noted) q v (paged (note_read p) (record s.pool { logged = cond b s.pool.logged (put s.pool.logged read_frame.tag None) }) f v)); lane = put s.lane q (s.lane q) })
   note_either true e = note_known e
@@ -647,7 +645,7 @@ reads_size_step s h i fork v there right = let w : View = looked (seen.LogEnd s.
 -- The lane holds the block's page after the entries up to what it is noted to have, since forks don't grow yet
 pub lane_cell : (s : State) → HistoryInvariant s → (tag : ℕ) → is_block s.pool.core tag ≡ true → s.known tag ≡ true → failed s tag ≡ false → stored s tag ≡ cell s.origin (cut (stored_upto s tag) s.log.entries) tag
 lane_cell s h tag block known ok = ⊎_elim (λ (is : stored s tag ≡ cell s.origin (cut (stored_upto s tag) s.log.entries) tag). is) (λ (x : IsUnwrittenNew s.log.entries tag (home_of s tag)). absurd (⊎_elim
-    (λ (out : is_block s.pool.core tag ≡ false). flags_differ (sym out ∙ block))
+    (λ (out : is_block s.pool.core tag ≡ false). false≢true (sym out ∙ block))
     (λ (y : AddsBlock s.log.entries (stored_upto s tag) tag). no_resize (tag_fork tag) (tag_block tag) (tag_block tag + 1) (subst (λ (c : Change). is_of_page c ≡ true) y.grows (plain s h y.index y.entry y.there))) x.fresh)) ((h.flushed_cells tag).is_cell known ok)
 
 -- the flushed position rises to the log's end, whose bytes are durable
@@ -770,9 +768,6 @@ module _ (s : State) (h : HistoryInvariant s) (i f : ℕ) (p : Page) (ch : Chang
 
   pub named : tag_of ≢ no_tag
   named = (((h.pool.pages.cells i v f there inside).content (λ e. exclusive_not_unlocked x.right.right e)).2).named
-    where
-      exclusive_not_unlocked : {c : _} → c ≡ Exclusive → c ≡ Unlocked → ⊥
-      exclusive_not_unlocked a e = cc
 
   block_else : (t : ℕ) → t ≢ tag_of → home_of entered t ≡ home_of s t
   block_else t other = let e : logged_after (make_entry p) s.pool.logged tag_of t ≡ s.pool.logged t = put_else s.pool.logged tag_of (Some p) t other in ap (λ (o : Option Page). record (home_of s t) { block = record { logged = o } }) e

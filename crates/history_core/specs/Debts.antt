@@ -10,7 +10,7 @@ use Rattle.pin_core.specs.declared.view.Link.{Link}
 use Rattle.pin_core.specs.declared.view.View.{View}
 use Rattle.pin_core.specs.State.{Frame, Page, no_tag, link}
 use Rattle.history_core.specs.Log.{Entry, IsEntryOf, end_of}
-use Rattle.history_core.specs.State.{State, stored_upto, failed}
+use Rattle.history_core.specs.State.{State, stored_upto}
 use Rattle.history_core.specs.Homes.{IsUnframed}
 
 -- whether a checkpoint of a backend that was joined into another has visited the frame f
@@ -27,8 +27,6 @@ pub record Taken : Type 0 where
   pub entries : List Entry
   -- the position up to which the entries of a tag's block are in its lane
   pub upto : ℕ → ℕ
-  -- whether the last write of a tag's block failed
-  pub failed : ℕ → Bool
 
 -- all entries of the block of a tag are in its lane
 abbrev pub IsCurrent : Taken → ℕ → Type 0
@@ -87,7 +85,7 @@ pub record Debts (t : Taken) (frames : ℕ) (frame : ℕ → Frame) (end : ℕ) 
 
 -- what the lanes have of the log's entries, in a state
 abbrev pub taken_of : State → Taken
-taken_of s = record { entries = s.log.entries; upto = stored_upto s; failed = failed s }
+taken_of s = record { entries = s.log.entries; upto = stored_upto s }
 
 -- the law of checkpoints, in a state
 abbrev pub DebtsLaw : State → Type 0

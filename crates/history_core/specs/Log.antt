@@ -1,7 +1,7 @@
 -- The write-ahead log, the pages of blocks that follow from it, and what backends read and wrote.
 -- An image is always allowed, ranges only if `ranges` says so; a table's log has images alone.
 -- Ranges change the page that was copied under the content lock. No step enters a size yet.
-use Rattle.std.specs.Prelude.{◌≡◌, ◌≢◌, ◌⊎◌, ℕ, ◌+◌, ◌-◌, ◌*◌, ◌/◌, ◌%◌, ◌<◌, ◌≤◌, Bool, true}
+use Rattle.std.specs.Prelude.{◌≡◌, ◌≢◌, ◌⊎◌, ℕ, ◌+◌, ◌-◌, ◌*◌, ◌/◌, ◌<◌, ◌≤◌, Bool, true}
 use Rattle.std.specs.Prelude.{false, ◌&&◌, List, [], ◌∷◌, ◌++◌, length, take, drop, replicate}
 use Rattle.std.specs.Prelude.{nat_eq, nat_le, nat_lt, Option, Some, None, option_map, if◌then◌else◌}
 use mathlib.Core.Option.{some}

@@ -1,6 +1,5 @@
 -- How many blocks each fork has after entries, and which blocks are there by that.
-use Rattle.std.specs.Prelude.{◌≡◌, ◌⊎◌, ℕ, ◌+◌, ◌<◌, List, [], ◌∷◌, Option, is_some, nat_eq, nat_lt}
-use Rattle.std.specs.Prelude.{if◌then◌else◌}
+use Rattle.std.specs.Prelude.{◌≡◌, ◌⊎◌, ℕ, ◌+◌, ◌<◌, List, [], ◌∷◌, Option, is_some, nat_lt}
 use Rattle.pin_core.specs.State.{Page}
 use Rattle.history_core.specs.Log.{resized_fork, sizes_after, Change, image, ranges, resize, Entry}
 use Rattle.history_core.specs.Log.{Log, LogLaw, cell, cut}
