@@ -44,7 +44,7 @@ IsStoredOrLeft t fr upto visited left_to_write = visited ≡ true → fr.tag ≢
 -- frame
 pub record LinkDebt (t : Taken) (fr : Frame) (upto : ℕ) (l : Link) : Type 0 where
   -- if the checkpoint has visited the frame, each entry of its block from before the checkpoint
-  -- began is in the lane, or the frame has still to be written
+  -- began is in the lane, or the frame carries BM_CHECKPOINT_NEEDED and is left to be written
   pub stored_or_left : IsStoredOrLeft t fr upto l.visited l.left_to_write
   -- if the last write under an output right is noted as done, all entries of the frame's block are
   -- in its lane
@@ -61,7 +61,7 @@ pub record ViewDebts (t : Taken) (frames : ℕ) (frame : ℕ → Frame) (end : �
   -- the law of the view's own checkpoint, at each frame
   pub own : (f : ℕ) → f < frames → LinkDebt t (frame f) v.upto (link v f)
   -- if a kept checkpoint has visited a frame, each entry of its block from before that checkpoint
-  -- began is in the lane, or the frame has still to be written
+  -- began is in the lane, or the frame carries BM_CHECKPOINT_NEEDED and is left to be written
   pub kept : (k f : ℕ) (c : JoinedCheckpoint) → get_elem? v.joined_checkpoints k ≡ some c
       → f < frames → IsStoredOrLeft t (frame f) c.upto (has_visited c f) (has_left_to_write c f)
 
@@ -75,7 +75,8 @@ pub record Debts (t : Taken) (frames : ℕ) (frame : ℕ → Frame) (end : ℕ) 
       → IsCurrent t (frame f).tag
   -- all entries of a block that has no frame are in its lane
   pub unframed : (tag : ℕ) → tag ≢ no_tag → IsUnframed frames frame tag → IsCurrent t tag
-  -- the position of a block's page after the log is not before the end of any of its entries
+  -- the position of a block's page after the log, if that is known, is not before the end of any
+  -- of its entries
   pub positioned : (tag k : ℕ) (p : Page) (e : Entry) → logged tag ≡ Some p
       → IsEntryOf t.entries tag k e → end_of e ≤ lsn_of p
   -- if a block's page after the log isn't known, all its entries are in the lane

@@ -23,7 +23,9 @@ pub record Laws (s : State) : Type 0 where
   -- the law of pins, headers, tags, maps, forks' sizes, content locks, pages, lanes, the log and
   -- the calls
   pub invariant : HistoryInvariant s
-  -- the law of what must have happened before there can be a fault of writing
+  -- the law of what must have happened before there can be a fault of writing: unless a view has
+  -- marked a frame dirty or synced a lane, no frame is dirty, no block's last write failed, and no
+  -- view has had an output right, counts a failed write or sync, or has one out
   pub marks : MarksLaw s
   -- the law of the faults that backends count, and of the devices' counts
   pub counts : CountsLaw s
@@ -31,13 +33,14 @@ pub record Laws (s : State) : Type 0 where
   pub debts : DebtsLaw s
   -- the law of what follows the log on its device
   pub rest : RestLaw s
-  -- the law of the log's device while it is out
+  -- the law of the log's device while it is out: until its holder's call it is as it went out
   pub outings : OutingsLaw s
-  -- the law of what is left of backends that were joined into the first
+  -- the law of backends that were joined into the first: their views have no call, no fault
+  -- counted, no latch, lock or right
   pub spent : SpentLaw s
   -- the law of the blocks whose pages were sound at the start
   pub sound : SoundLaw s
-  -- the law of the log ends that backends have seen
+  -- the law of the log ends that backends have seen: none is beyond the log's end
   pub ends : EndsLaw s
   -- the law of the state words, the hand and the flushed position, which the views fix
   pub trail : TrailLaw s
