@@ -1,7 +1,8 @@
 //! Latches.
 ghost use Rattle.std.specs.Prelude.{◌≡◌, ◌<◌, true, false};
 ghost use Rattle.table_rule.specs.declared.turn.Place.TheVariants.{Of};
-ghost use Rattle.table_rule.specs.Layout.{latch_place, slot_of, word_count};
+ghost use Rattle.table_rule.specs.Layout as layout;
+ghost use Rattle.table_rule.specs.Layout.{slot_of, word_count};
 ghost use Rattle.table_rule.specs.Shows.{HasTurn};
 ghost use Rattle.frame_table.specs.Seats.{CanTurn, SameSeat, frames_of};
 ghost use Rattle.frame_table.specs.Latches.{DidTurn, IsTurned, MayLeave, SameWork, view_counted};
@@ -15,7 +16,7 @@ use segment_store::BlockLane;
 use std::marker::Brand;
 use std::sync::Wait;
 use std::thread;
-use table_rule::{FIRST_LANE, LOG_PLACE, Turn, Value};
+use table_rule::{Turn, Value, latch_place, turn_slot};
 
 /// How often a backend yields before it sleeps until the log's latch is left.
 const YIELDS: u32 = 50;
@@ -23,26 +24,16 @@ const YIELDS: u32 = 50;
 impl<L: BlockLane, G: LogDevice> FrameTable<L, G> {
     /// The place of a latch's word.
     pub(crate) fn latch(&self, turn: Turn) -> usize
-        ensures place { result ≡ latch_place (frames_of self.now) turn }
+        ensures place { result ≡ layout.latch_place (frames_of self.now) turn }
     {
-        let frames = 8 * self.config.frames as usize;
-        match turn {
-            Turn::Partition(partition) => frames + partition as usize,
-            Turn::Lane(lane) => frames + FIRST_LANE + lane as usize,
-            Turn::Log => frames + LOG_PLACE,
-        }
+        latch_place(self.config.frames, turn)
     }
 
     /// The slot of what a latch guards.
     pub(crate) fn slot(&self, turn: Turn) -> usize
         ensures { result ≡ slot_of (frames_of self.now) (Of turn) }
     {
-        let frames = self.config.frames as usize;
-        match turn {
-            Turn::Partition(partition) => frames + partition as usize,
-            Turn::Lane(lane) => frames + FIRST_LANE + lane as usize,
-            Turn::Log => frames + LOG_PLACE,
-        }
+        turn_slot(self.config.frames, turn)
     }
 
     fn try_take<D: AtTurn>(
@@ -52,7 +43,7 @@ impl<L: BlockLane, G: LogDevice> FrameTable<L, G> {
         place: usize,
     ) -> bool
         requires known { D.turn ≡ _turn }
-        requires place { (place ≡ latch_place (frames_of self.now) _turn) × (place < word_count (frames_of self.now)) }
+        requires place { (place ≡ layout.latch_place (frames_of self.now) _turn) × (place < word_count (frames_of self.now)) }
         requires seat { CanTurn self.now seat.old _turn }
         ensures seat { SameSeat seat.old seat.new }
         ensures took { result ≡ true → DidTurn true _turn seat.old.me.0 seat.new.me.0 }
@@ -92,7 +83,7 @@ impl<L: BlockLane, G: LogDevice> FrameTable<L, G> {
 
     fn leave_at<D: AtTurn>(&self, seat: &mut Seat<Value<L, G>, View>, _turn: Turn, place: usize)
         requires known { D.turn ≡ _turn }
-        requires place { (place ≡ latch_place (frames_of self.now) _turn) × (place < word_count (frames_of self.now)) }
+        requires place { (place ≡ layout.latch_place (frames_of self.now) _turn) × (place < word_count (frames_of self.now)) }
         requires seat { CanTurn self.now seat.old _turn }
         requires may { MayLeave _turn seat.old.me.0 }
         ensures seat { SameSeat seat.old seat.new }

@@ -1,12 +1,10 @@
 -- The catalogue's blocks are those below the sizes that it says.
-use Rattle.std.proofs.Common.{◌≡◌, ℕ, ◌*◌, ◌/◌, ◌%◌, ◌^◌, ◌-◌, ◌<◌, Bool, true, false, nat_lt, Option, Some, None, List, sym, refl, ap, ◌∙◌, arith}
-use Rattle.std.proofs.lemmas.Grind.{common_steps}
+use Rattle.std.proofs.Common.{◌≡◌, ℕ, ◌*◌, ◌/◌, ◌%◌, ◌^◌, ◌<◌, Bool, true, nat_lt, Option, Some, None, List, refl, ap, ◌∙◌, arith}
 use Rattle.std.specs.Prelude.{option_and_then}
 use Rattle.block_tag.specs.declared.tag.Fork.{Fork}
 use Rattle.block_tag.specs.declared.tag.Tag.{Tag}
 use Rattle.block_tag.specs.declared.catalogue.RelEntry.{RelEntry}
 use Rattle.block_tag.specs.Names.{unpacked_tag, fork_of_number, tag_if_named, tag_of_parts}
-use Rattle.block_tag.specs.Catalogue.{blocks_at}
 use Rattle.pin_core.specs.State.{is_below, tag_fork, tag_block}
 use Rattle.table_rule.specs.Blocks.{has_block, is_block, has_named, size_named, numbered_blocks, fork_size}
 

@@ -20,8 +20,8 @@ pub use build::{Room, opening_words, take_back};
 pub use closing::take_closed;
 pub use config::Config;
 pub use layout::{
-    COUNTERS, FIRST_LANE, HINTS_PER_FRAME, LOG_PLACE, OTHER_SLOTS, content_place, counter_place,
-    end_place, flushed_place, hand_place, hint_place, redo_place, state_place, tag_place,
+    COUNTERS, HINTS_PER_FRAME, OTHER_SLOTS, content_place, counter_place, end_place, flushed_place,
+    hand_place, hint_place, latch_place, redo_place, state_place, tag_place, turn_slot,
 };
 pub use noted_lane::{LaneCall, NotedLane};
 pub use noted_log::{LAST_POSITION, LogCall, NotedLog, RECORD_SIZE};
