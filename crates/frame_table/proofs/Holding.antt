@@ -48,7 +48,7 @@ use Rattle.frame_table.specs.Seats.{Finds, cleared_stored, mapped_link, SameSelf
 use Rattle.frame_table.specs.FrameSteps.{Tried, if_found, Did, always, looking, storing, tells}
 use Rattle.frame_table.proofs.Frames.{Asks}
 use Rattle.frame_table.proofs.Acting.{acts}
-use Rattle.frame_table.proofs.Words.{swaps, AsksWord, stores}
+use Rattle.frame_table.proofs.Words.{swaps, AsksWord, held_word, stores}
 use Rattle.frame_table.proofs.Told.{looks_link, self_after, grows, links_after, link_is, looked_by, quiet}
 
 -- one more pin, the usage count as it was
@@ -61,14 +61,6 @@ pin_added w room = same_record (fields (w + 1)) (record (fields w) { pins = (fie
 pub word_room : (w : ℕ) → w < 18446744073709551616 → (fields w).pins + 1 < 262144 → w + 1 < 18446744073709551616
 unfolding fields
 word_room w low room = omega arith
-
--- a view that holds the header has the frame's word
-pub held_word : (s : State) (id f : ℕ) (v : View) → Laws s → get_elem? s.pool.core.views id ≡ some v → f < s.pool.core.frames → (link v f).header ≢ None → (link v f).header ≡ Some (s.pool.core.frame f).word
-held_word s id f v laws there inside held = of_header (link v f).header refl
-  where
-    of_header : (w : Option StateWord) → (link v f).header ≡ w → (link v f).header ≡ Some (s.pool.core.frame f).word
-    of_header None e = absurd (held e)
-    of_header (Some w) e = e ∙ ap (λ (x : StateWord). Some x) (sym ((laws.invariant.pool.core.grid.cells id v f there inside).header w e))
 
 module _ {L G : Type 0} (d : Devices L G) (o : Opening L G) where
   -- a store of the state word under the header, which holds the number `was`

@@ -58,6 +58,7 @@ use Rattle.frame_table.specs.declared.table.FrameTable.{FrameTable}
 use Rattle.frame_table.specs.Seats.{frames_of, relations_of, lanes_in, opened_of}
 use Rattle.frame_table.proofs.Moving.{Moves, shows_out, shows_back}
 use Rattle.frame_table.proofs.LaneWork.{rises}
+use Rattle.frame_table.proofs.Rising.{swept_up}
 use Rattle.frame_table.proofs.LaneRuns.{LaneComes, StandsWithLane, alone_view, written_view, written_state, calls_alone, one_step, reads_noted, writes_noted, written_link_is, written_frame_is, written_hold_is, view_alone, view_read, view_written}
 
 -- each lane has a number of a tag
@@ -383,15 +384,6 @@ is_noted relations lanes q Synced v w may links = links
 is_noted relations lanes q SyncFailed v w may links = links
 
 -- a lane's latch comes back swept up to what it was, or further
-swept_on : (c : LaneCall) (v : View) (h : LaneHold) → h.swept ≤ (swept_lane c v h).swept
-swept_on Untouched v h = omega arith
-swept_on (Read f tag page) v h = omega arith
-swept_on (ReadFailed tag) v h = omega arith
-swept_on (Written f tag page) v h = omega arith
-swept_on (WriteFailed f tag page) v h = omega arith
-swept_on Synced v h = omega arith
-swept_on SyncFailed v h = omega arith
-
 pub still_swept : (c : LaneCall) (q : ℕ) (v w : View) → w.lanes ≡ set v.lanes q (back_lane (swept_lane c v (lane_hold v q))) → (r : ℕ) → (lane_hold v r).swept ≤ (lane_hold w r).swept
 still_swept c q v w lanes r = dite (ℕ_discrete r q)
     (λ e. subst (λ (n : ℕ). (lane_hold v n).swept ≤ (lane_hold w n).swept) (sym e) here)
@@ -402,7 +394,7 @@ still_swept c q v w lanes r = dite (ℕ_discrete r q)
 
     here : (lane_hold v q).swept ≤ (lane_hold w q).swept
     here = dite (dec_lt q (length v.lanes))
-        (λ low. let is = ap (λ (l : List LaneHold). (get_or l q no_lane).swept) lanes ∙ ap (λ (h : LaneHold). h.swept) (get_or-set_same v.lanes q back no_lane low) in let more = swept_on c v (lane_hold v q) in omega (arith, is, more))
+        (λ low. let is = ap (λ (l : List LaneHold). (get_or l q no_lane).swept) lanes ∙ ap (λ (h : LaneHold). h.swept) (get_or-set_same v.lanes q back no_lane low) in let more = swept_up c v (lane_hold v q) in omega (arith, is, more))
         (λ n. let none : lane_hold v q ≡ no_lane = get_or-eq_default v.lanes no_lane (omega arith) in let zero = ap (λ (h : LaneHold). h.swept) none in omega (arith, zero))
 
 -- the slot in hand that a step gave

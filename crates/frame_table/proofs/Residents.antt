@@ -1,7 +1,7 @@
 -- The blocks that a view has seen in frames stay listed.
-use Rattle.std.proofs.Common.{◌≡◌, ℕ, zero, suc, true, List, [], ◌∷◌, ◌++◌, map, sym, refl, ap, ◌∙◌}
+use Rattle.std.proofs.Common.{◌≡◌, ℕ, true, List, ◌++◌, refl, ap, ◌∙◌}
 use Rattle.std.specs.Prelude.{Bool, nat_eq, not, ◌||◌, ◌&&◌}
-use mathlib.Core.Option.{some, some-injective, some-ne-none}
+use mathlib.Core.Option.{some}
 use lib.ListN.{get_elem?}
 use Rattle.pin_core.specs.declared.view.Link.{Link}
 use Rattle.pin_core.specs.declared.view.Resident.{Resident}
@@ -11,6 +11,7 @@ use Rattle.pin_core.specs.Kinds.{seen_gone, sighted}
 use Rattle.page_core.specs.Kinds as paged
 use Rattle.frame_table.specs.Seats.{IsListedStill, KeepsResidents}
 use Rattle.grid.proofs.Lists.{at_longer}
+use Rattle.history_core.proofs.Listed.{at_mapped}
 
 listed_still : (r : Resident) → IsListedStill r r
 listed_still r = record { frame = refl; tag = refl; gone = λ e. e }
@@ -25,11 +26,6 @@ residents_longer : (rs more : List Resident) → KeepsResidents rs (rs ++ more)
 residents_longer rs more k r at = (r, at_longer rs more k r at, listed_still r)
 
 -- what a load has shown to be gone is marked
-pub at_mapped : (g : Resident → Resident) (l : List Resident) (k : ℕ) (r : Resident) → get_elem? l k ≡ some r → get_elem? (map g l) k ≡ some (g r)
-at_mapped g [] k r at = absurd (some-ne-none r (sym at))
-at_mapped g (x ∷ l) zero r at = ap (λ (y : Resident). some (g y)) (some-injective x r at)
-at_mapped g (x ∷ l) (suc k) r at = at_mapped g l k r at
-
 residents_gone : (p : Resident → Bool) (f : ℕ) (rs : List Resident) → KeepsResidents rs (seen_gone p f rs)
 residents_gone p f rs k r at = let g : Resident → Resident = λ (x : Resident). record x { gone = x.gone || (nat_eq x.frame f && p x) } in
     (g r, at_mapped g rs k r at, record { frame = refl; tag = refl; gone = λ e. ap (λ (b : Bool). b || (nat_eq r.frame f && p r)) e })

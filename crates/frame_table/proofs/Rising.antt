@@ -151,7 +151,7 @@ rises_out q taken v w e s = record {
   down = λ d. ap (λ (x : View). x.saw_down) e ∙ d;
 }
 
-swept_up : (call : LaneCall) (v : View) (h : LaneHold) → h.swept ≤ (swept_lane call v h).swept
+pub swept_up : (call : LaneCall) (v : View) (h : LaneHold) → h.swept ≤ (swept_lane call v h).swept
 swept_up Untouched v h = omega arith
 swept_up (Read f tag page) v h = omega arith
 swept_up (ReadFailed tag) v h = omega arith

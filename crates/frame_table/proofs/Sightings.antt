@@ -15,7 +15,7 @@ use Rattle.pin_core.specs.Kinds.{seen_gone, sighted}
 use Rattle.frame_table.specs.Kinds.{pins, link_after}
 use Rattle.frame_table.specs.FrameSteps.{Did, looking}
 use Rattle.frame_table.specs.Seats.{HasResident}
-use Rattle.frame_table.proofs.Residents.{at_mapped}
+use Rattle.history_core.proofs.Listed.{at_mapped}
 use Rattle.frame_table.proofs.Told.{link_is}
 use Rattle.grid.proofs.Lists.{at_last, at_longer}
 

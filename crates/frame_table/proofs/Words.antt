@@ -59,6 +59,14 @@ pub record AsksWord (k : FrameKind) (s : State) (f n : ℕ) (v : View) : Type 0 
   pub rest : SameRest (s.pool.core.frame f) (frame_after k s f)
   pub out : (link_after k s f v).out ≡ (link v f).out
 
+-- a view that holds the header has the frame's word
+pub held_word : (s : State) (id f : ℕ) (v : View) → Laws s → get_elem? s.pool.core.views id ≡ some v → f < s.pool.core.frames → (link v f).header ≢ None → (link v f).header ≡ Some (s.pool.core.frame f).word
+held_word s id f v laws there inside held = of_header (link v f).header refl
+  where
+    of_header : (w : Option StateWord) → (link v f).header ≡ w → (link v f).header ≡ Some (s.pool.core.frame f).word
+    of_header None e = absurd (held e)
+    of_header (Some w) e = e ∙ ap (λ (x : StateWord). Some x) (sym ((laws.invariant.pool.core.grid.cells id v f there inside).header w e))
+
 module _ {L G : Type 0} (d : Devices L G) (o : Opening L G) where
   pub at_word : (k : FrameKind) (t : table.State (Value L G) View) (s : State) (f n : ℕ) (v : View) → f < o.config.frames → Shows d o t s → AsksWord k s f n v → Asks k t s f (8 * f) n v
   at_word k t s f n v below h a = record {
@@ -145,14 +153,6 @@ module _ {L G : Type 0} (d : Devices L G) (o : Opening L G) where
         rest = record { tag = refl; sharers = refl; exclusive = refl; copying = refl; page = refl };
         out = refl;
       }
-
-  -- a view that holds the header has the frame's word
-  pub held_word : (s : State) (id f : ℕ) (v : View) → Laws s → get_elem? s.pool.core.views id ≡ some v → f < s.pool.core.frames → (link v f).header ≢ None → (link v f).header ≡ Some (s.pool.core.frame f).word
-  held_word s id f v laws there inside held = of_header (link v f).header refl
-    where
-      of_header : (w : Option StateWord) → (link v f).header ≡ w → (link v f).header ≡ Some (s.pool.core.frame f).word
-      of_header None e = absurd (held e)
-      of_header (Some w) e = e ∙ ap (λ (x : StateWord). Some x) (sym ((laws.invariant.pool.core.grid.cells id v f there inside).header w e))
 
   pub unlocks_there : (slots id f : ℕ) (me : Me (Value L G) View) → f < o.config.frames → me.0.emptied ≡ false → (link me.0 f).header ≢ None → (link me.0 f).pending ≡ false
       → Allows (RuleHolds d o) slots id me (state_place f) (λ n. bit_and n 18446744073705357311) (tells (always (pins pin.unlock_header)) (step slots (state_place f) 18446744073705357311 0 none) me)
