@@ -12,8 +12,6 @@ use Rattle.atomic_table.specs.Table as table
 use Rattle.pin_core.specs.declared.view.View.{View}
 use Rattle.pin_core.specs.State.{emptied_view}
 use Rattle.pin_core.specs.Steps.{HoldsNothing}
-use Rattle.pin_core.specs.Invariant.{live_weight}
-use Rattle.grid.proofs.Sums.{terms_le}
 use Rattle.block_tag.specs.declared.tag.Tag.{Tag}
 use Rattle.block_tag.specs.Names.{lane_number}
 use Rattle.history_core.specs.State.{State, stored_upto, synced_upto}
@@ -32,6 +30,7 @@ use Rattle.table_rule.specs.Shows.{is_out, IsHome, Devices, Gives, GivesPage, Gi
 use Rattle.table_rule.proofs.Emptying.{at_take, two_last, plain_each, LanesAt, AreThose, are_those, same_item, IsOther, other_plain, other_lanes, lane_plain, log_lanes, list_lanes, one_log}
 use Rattle.table_rule.proofs.Opens.{length_low}
 use Rattle.frame_table.specs.Closes.{Closes}
+use Rattle.frame_table.proofs.LastBackend.{others_emptied}
 use Rattle.frame_table.proofs.Splitting.{free_home}
 
 -- what was joined has nothing out
@@ -50,12 +49,7 @@ module _ {L G : Type 0} (d : Devices L G) (o : Opening L G) (t : table.State (Va
 
   -- all others were joined
   joined_others : (i : ℕ) (u : View) → i ≢ 0 → get_elem? s.pool.core.views i ≡ some u → u ≡ emptied_view
-  joined_others i u other at = h.laws.spent i u at (of_flag u.emptied refl)
-    where
-      of_flag : (b : Bool) → u.emptied ≡ b → u.emptied ≡ true
-      of_flag true e = e
-      of_flag false e = absurd (let a = terms_le (λ (x : View). live_weight x.emptied) s.pool.core.views 0 i v u other first at in let b = ap live_weight live in let c = ap live_weight e in
-          let n = h.laws.invariant.pool.core.accounted v first in let m = (h.laws.invariant.pool.core.views.first v first).1 in omega (arith, a, b, c, n, m))
+  joined_others = others_emptied s h.laws v first live joined
 
   -- so each value is in its slot
   all_home : (x : Place) → IsPlaceIn o x → IsHome x s.pool.core.views

@@ -59,8 +59,12 @@ start_part true = refl
 start_part false = refl
 
 -- under the header BM_TAG_VALID says that there is a tag
-tagged_held : (fr : Frame) (l : Link) (t : Tally → ℕ) → FrameLaw fr t → weigh settled_headers l ≤ t settled_headers → l.header ≡ Some fr.word → l.pending ≡ false → fr.word.tag_valid ≡ true → fr.tag ≢ no_tag
+pub tagged_held : (fr : Frame) (l : Link) (t : Tally → ℕ) → FrameLaw fr t → weigh settled_headers l ≤ t settled_headers → l.header ≡ Some fr.word → l.pending ≡ false → fr.word.tag_valid ≡ true → fr.tag ≢ no_tag
 tagged_held fr l t q le held settled tagged = grind (arith, q, le, held, settled, tagged)
+
+-- and else that there is none
+pub untagged_held : (fr : Frame) (l : Link) (t : Tally → ℕ) → FrameLaw fr t → weigh settled_headers l ≤ t settled_headers → l.header ≡ Some fr.word → l.pending ≡ false → fr.word.tag_valid ≡ false → fr.tag ≡ no_tag
+untagged_held fr l t q le held settled untagged = grind (arith, q, le, held, settled, untagged)
 
 module _ {L G : Type 0} (d : Devices L G) (o : Opening L G) where
   -- a step of the kind k under the header, whose word becomes `new`

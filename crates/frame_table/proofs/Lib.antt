@@ -24,6 +24,7 @@ pub mod Moving
 pub mod Fitting
 pub mod Mapping
 pub mod PageWork
+pub mod LastBackend
 pub mod Ending
 pub mod LaneWork
 pub mod LaneRuns

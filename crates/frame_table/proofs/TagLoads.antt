@@ -1,5 +1,5 @@
 -- Loads of tag words: the tag is of a block of the relations, and a pin remembers it.
-use Rattle.std.proofs.Common.{◌≡◌, ◌≢◌, ℕ, ◌<◌, cond, Bool, true, false, Option, Some, None, List, get_or, sym, refl, ap, ◌∙◌, subst, arith, ne_eqb}
+use Rattle.std.proofs.Common.{◌≡◌, ◌≢◌, ℕ, ◌<◌, ◌≤◌, cond, Bool, true, false, Option, Some, None, List, get_or, sym, refl, ap, ◌∙◌, subst, arith, ne_eqb}
 use Rattle.std.specs.Prelude.{IfSome, is_some}
 use Rattle.std.proofs.lemmas.Option.{same_Some}
 use mathlib.Core.Option.{none}
@@ -13,7 +13,12 @@ use Rattle.pin_core.specs.declared.view.View.{View}
 use Rattle.pin_core.specs.declared.view.MapChange.TheVariants.{Leaving}
 use Rattle.pin_core.specs.declared.view.Role.{Role}
 use Rattle.pin_core.specs.declared.view.Role.TheVariants.{Absent, HandedOut, Victim}
-use Rattle.pin_core.specs.State.{link, no_tag}
+use Rattle.state_word.specs.declared.word.StateWord.{StateWord}
+use Rattle.pin_core.specs.State.{Frame, link, no_tag}
+use Rattle.pin_core.specs.Tallies.{settled_headers, weigh, frame_shape}
+use Rattle.pin_core.specs.Invariant.{FrameLaw}
+use Rattle.grid.specs.Shape.{tallies}
+use Rattle.grid.proofs.Sums.{term_le}
 use Rattle.pin_core.specs.Kinds.{tag_after}
 use Rattle.pin_core.specs.Kinds as pin
 use Rattle.table_rule.specs.declared.value.Value.{Value}
@@ -29,6 +34,7 @@ use Rattle.frame_table.specs.Kinds.{pins}
 use Rattle.frame_table.specs.Seats.{MayChange, NamesIn, NamesStored, tag_word}
 use Rattle.frame_table.specs.FrameSteps.{Did, always, tells, tells_tag}
 use Rattle.frame_table.proofs.Allowing.{allows_with}
+use Rattle.frame_table.proofs.HeldWords.{tagged_held, untagged_held}
 use Rattle.frame_table.proofs.Holding.{read_after, tag_loads, tag_read}
 use Rattle.frame_table.proofs.Seeing.{handed_settled}
 
@@ -81,6 +87,42 @@ tag_handed f found v w (Some tag) d known = λ handed. known (λ e. let no : Han
 pub tag_had : (f : ℕ) (v w : View) (r : Option Tag) → Did (pins pin.load_tag) f v w (tag_word r) → (link v f).role ≡ HandedOut → is_some r ≡ true
 tag_had f v w None d handed = absurd (((d.laws.invariant.pool.core.grid.cells d.seat v f d.there d.inside).handed_out handed).named d.says)
 tag_had f v w (Some tag) d handed = refl
+
+-- the number of the tag that is answered isn't all ones
+pub tag_numbered : (found : ℕ) (r : Option Tag) → r ≡ unpacked_tag found → IfSome r (λ tag. packed_tag tag ≡ found) → IfSome r (λ tag. packed_tag tag ≢ no_tag)
+tag_numbered found None e back = tt
+tag_numbered found (Some tag) e back = λ none. tagged found tag (sym e) (sym back ∙ none)
+
+by_flag : (r : Option Tag) (b : Bool) → IfSome r (λ tag. packed_tag tag ≢ no_tag) → (b ≡ true → tag_word r ≢ no_tag) → (b ≡ false → tag_word r ≡ no_tag) → is_some r ≡ b
+by_flag None true numbered flagged unflagged = absurd (flagged refl refl)
+by_flag None false numbered flagged unflagged = refl
+by_flag (Some tag) true numbered flagged unflagged = refl
+by_flag (Some tag) false numbered flagged unflagged = absurd (numbered (unflagged refl))
+
+-- under the header a tag is answered exactly if the held word has BM_TAG_VALID, unless the tag word was stored
+pub tag_flagged : (f : ℕ) (v w : View) (r : Option Tag) → Did (pins pin.load_tag) f v w (tag_word r) → IfSome r (λ tag. packed_tag tag ≢ no_tag) → (link v f).pending ≡ false → IfSome (link v f).header (λ word. is_some r ≡ word.tag_valid)
+tag_flagged f v w r d numbered settled = by_header (link v f).header refl
+  where
+    fr : Frame
+    fr = d.state.pool.core.frame f
+
+    law : FrameLaw fr (tallies frame_shape d.state.pool.core.views f)
+    law = d.laws.invariant.pool.core.grid.columns f d.inside
+
+    own : weigh settled_headers (link v f) ≤ tallies frame_shape d.state.pool.core.views f settled_headers
+    own = term_le (λ (u : View). weigh settled_headers (link u f)) d.state.pool.core.views d.seat v d.there
+
+    by_word : (word : StateWord) → (link v f).header ≡ Some word → is_some r ≡ word.tag_valid
+    by_word word e = let is : fr.word ≡ word = (d.laws.invariant.pool.core.grid.cells d.seat v f d.there d.inside).header word e in
+        let held : (link v f).header ≡ Some fr.word = e ∙ ap (λ (x : StateWord). Some x) (sym is) in
+        let flag : fr.word.tag_valid ≡ word.tag_valid = ap (λ (x : StateWord). x.tag_valid) is in
+        by_flag r word.tag_valid numbered
+        (λ stands none. tagged_held fr (link v f) (tallies frame_shape d.state.pool.core.views f) law own held settled (flag ∙ stands) (d.says ∙ none))
+        (λ clear. sym d.says ∙ untagged_held fr (link v f) (tallies frame_shape d.state.pool.core.views f) law own held settled (flag ∙ clear))
+
+    by_header : (h : Option StateWord) → (link v f).header ≡ h → IfSome h (λ word. is_some r ≡ word.tag_valid)
+    by_header None e = tt
+    by_header (Some word) e = by_word word e
 
 -- a tag that names a block lies in the partition of its number
 pub packed_partition : (tag : Tag) → names_block tag ≡ true → tag_partition (packed_tag tag) ≡ partition_number tag

@@ -29,7 +29,7 @@ use Rattle.table_rule.specs.declared.turn.Place.TheVariants as place
 use Rattle.table_rule.specs.declared.turn.Turn.{Turn}
 use Rattle.table_rule.specs.declared.turn.Turn.TheVariants as turn
 use Rattle.table_rule.specs.Shows.{is_taken, ShowsLatches, Devices, KeepsOpening, Shows, RuleHolds, is_out}
-use Rattle.frame_table.specs.WordSteps.{WordKind, at_word, load_end, read_end, begin_checkpoint, load_flushed, raise_flushed, load_redo, raise_redo, load_hand, add_hand, load_counter, add_counter, load_hint, store_hint, kind_word, number_left, word_event, IsWordAllowed, end_known, read_of, view_of, next_of, DidWord, tells_word, tells_hint, tells_counter}
+use Rattle.frame_table.specs.WordSteps.{WordKind, at_word, load_end, read_end, begin_checkpoint, load_flushed, raise_flushed, load_redo, raise_redo, load_hand, add_hand, load_counter, add_counter, load_hint, store_hint, kind_word, number_left, word_event, IsWordAllowed, end_known, read_of, view_of, next_of, DidWord, tells_word, tells_hint, tells_redo, tells_counter}
 use Rattle.frame_table.specs.declared.log_words.EndLoad.{EndLoad}
 use Rattle.frame_table.specs.declared.log_words.EndLoad.TheVariants.{Plain, Read, Checkpoint}
 use Rattle.frame_table.specs.EndLoads.{IsEndAllowed, end_kind}
@@ -154,8 +154,12 @@ module _ {L G : Type 0} (d : Devices L G) (o : Opening L G) (slots id : ℕ) (me
   pub raises_there : (end : ℕ) → me.0.log.synced ≡ true → me.0.log.end ≡ Some end → Allows (RuleHolds d o) slots id me (flushed_place o.config.frames) (λ _. end) (tells_word raise_flushed (step slots (flushed_place o.config.frames) end 0 none) me)
   raises_there end synced noted = acts_behind d o raise_flushed tt slots id end 0 (λ _. end) me live (λ s l f there small. ((synced, noted ∙ ap (λ (n : ℕ). Some n) ((l.invariant.device.cells id me.0 0 there (lit< tt)).end end noted).1), (let e = ((l.invariant.device.cells id me.0 0 there (lit< tt)).end end noted).1 in let low = l.invariant.flushed_to in omega arith)))
 
-  pub loads_redo_there : me.0.log.held ≡ true → Allows (RuleHolds d o) slots id me (redo_place o.config.frames) (λ n. n) (tells_word load_redo (step slots (redo_place o.config.frames) 0 0 none) me)
-  loads_redo_there held = acts_behind d o load_redo tt slots id 0 0 (λ n. n) me live (λ s l f there small. (held, refl))
+  -- the redo position is loaded: it is not before the log's base
+  pub loads_redo_there : me.0.log.held ≡ true → Allows (RuleHolds d o) slots id me (redo_place o.config.frames) (λ n. n) (tells_redo o.base (step slots (redo_place o.config.frames) 0 0 none) me)
+  loads_redo_there held = let at : ℕ = redo_place o.config.frames in allows_with (RuleHolds d o) slots id me at (λ n. n) (tells_word load_redo (step slots at 0 0 none) me) (λ found. o.base ≤ found)
+      (acts_behind d o load_redo tt slots id 0 0 (λ n. n) me live (λ s l f there small. (held, refl)))
+      (λ t h there. let says : get_or t.words at 0 ≡ h.state.redo = h.shows.latches.word (kind_word load_redo) tt in
+      let from = h.laws.redo.highest.from in let base = h.shows.fixed.base in omega arith)
 
   pub raises_redo_there : (end : ℕ) → me.0.log.end ≡ Some end → Allows (RuleHolds d o) slots id me (redo_place o.config.frames) (λ _. end) (tells_word raise_redo (step slots (redo_place o.config.frames) end 0 none) me)
   raises_redo_there end noted = acts_behind d o raise_redo tt slots id end 0 (λ _. end) me live (λ s l f there small. (noted ∙ ap (λ (n : ℕ). Some n) ((l.invariant.device.cells id me.0 0 there (lit< tt)).end end noted).1, (let e = ((l.invariant.device.cells id me.0 0 there (lit< tt)).end end noted).1 in let low = l.redo.within in omega arith)))

@@ -141,6 +141,11 @@ module _ {L G : Type 0} where
   abbrev pub tells_hint : ℕ → ℕ → Step (Value L G) → Me (Value L G) View → ℕ → Me (Value L G) View → Type 0
   tells_hint n number st m found m' = tells_word (load_hint number) st m found m' × (found ≤ n)
 
+  -- a load of the redo position, over a log that begins at `base`: it is there or past that
+  abbrev pub tells_redo : ℕ → Step (Value L G) → Me (Value L G) View → ℕ → Me (Value L G) View
+      → Type 0
+  tells_redo base st m found m' = tells_word load_redo st m found m' × (base ≤ found)
+
   -- a load of a counter: it is at most what 64 backends may add
   abbrev pub tells_counter : ℕ → Step (Value L G) → Me (Value L G) View → ℕ
       → Me (Value L G) View → Type 0

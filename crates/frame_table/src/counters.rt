@@ -28,7 +28,8 @@ impl<L: BlockLane, G: LogDevice> FrameTable<L, G> {
         self.table.shared.load::<LoadCounter<D>>(seat, at)
     }
 
-    /// A counter: the sum of what the backends have added to it.
+    /// A counter: the sum of what the backends have added to it. Once all others are joined into
+    /// the first backend, that is what the first has added.
     pub fn load_counter(&self, seat: &mut Seat<Value<L, G>, View>, number: u32) -> u64
         requires seat { IsSeat self.now seat.old }
         requires below { number < counter_count }
@@ -36,6 +37,9 @@ impl<L: BlockLane, G: LogDevice> FrameTable<L, G> {
         ensures view { seat.new.me.0 ≡ view_of (load_counter number) result seat.old.me.0 }
         ensures least { added_to number seat.old.me.0 ≤ result }
         ensures most { result ≤ 64 * most_published }
+        ensures exact { seat.old.me.0.number ≡ 0
+            → seat.old.me.0.joined + 1 ≡ seat.old.me.0.next
+            → result ≡ added_to number seat.old.me.0 }
         ensures did { DidWord (load_counter number) seat.old.me.0 seat.new.me.0 result }
     {
         self.counter_at::<Brand>(seat, number)

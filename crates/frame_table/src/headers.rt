@@ -61,6 +61,9 @@ impl<L: BlockLane, G: LogDevice> FrameTable<L, G> {
         ensures tagged { (link seat.old.me.0 frame).role ≡ HandedOut → is_some result ≡ true }
         ensures handed { IfSome result (λ tag. (link seat.old.me.0 frame).role ≡ HandedOut → (link seat.new.me.0 frame).tag ≡ Some (packed_tag tag)) }
         ensures settled { IfSome result (λ tag. (link seat.old.me.0 frame).role ≢ Absent → (link seat.old.me.0 frame).pending ≡ false → (link seat.new.me.0 frame).tag ≡ Some (packed_tag tag)) }
+        // Under the header there is a tag exactly if the held word has `BM_TAG_VALID`.
+        ensures flagged { (link seat.old.me.0 frame).pending ≡ false
+            → IfSome (link seat.old.me.0 frame).header (λ word. is_some result ≡ word.tag_valid) }
         ensures read { link seat.new.me.0 frame ≡ read_link result (link seat.old.me.0 frame) }
         ensures did { Did (pins kinds.load_tag) frame seat.old.me.0 seat.new.me.0 (tag_word result) }
     {

@@ -5,8 +5,8 @@ ghost use Rattle.segment_store.specs.Contents.{Pages};
 ghost use Rattle.frame_table.specs.declared.log_words.EndLoad.{EndLoad};
 ghost use Rattle.frame_table.specs.declared.log_words.EndLoad.TheVariants.{Plain};
 ghost use Rattle.frame_table.specs.EndLoads.{tells_end_load};
-ghost use Rattle.frame_table.specs.WordSteps.{WordKind, tells_counter, tells_hint, tells_word};
-ghost use Rattle.frame_table.specs.WordSteps.{load_flushed, raise_flushed, load_redo, raise_redo};
+ghost use Rattle.frame_table.specs.WordSteps.{WordKind, tells_counter, tells_hint, tells_redo};
+ghost use Rattle.frame_table.specs.WordSteps.{tells_word, load_flushed, raise_flushed, raise_redo};
 ghost use Rattle.frame_table.specs.WordSteps.{load_hand, add_hand};
 
 use atomic_table::Play;
@@ -81,12 +81,6 @@ impl StepsAt for RaiseFlushed {
     ghost kind = { raise_flushed };
 }
 
-pub(crate) struct LoadRedo;
-
-impl StepsAt for LoadRedo {
-    ghost kind = { load_redo };
-}
-
 pub(crate) struct RaiseRedo;
 
 impl StepsAt for RaiseRedo {
@@ -103,6 +97,23 @@ pub(crate) struct AddHand;
 
 impl StepsAt for AddHand {
     ghost kind = { add_hand };
+}
+
+/// Where the log begins. Each call picks it.
+pub(crate) trait AtRedo {
+    ghost base: { ℕ };
+}
+
+impl AtRedo for Brand {
+    ghost base = { 0 };
+}
+
+pub(crate) struct LoadRedo<D> {
+    redo: PhantomData<D>,
+}
+
+impl<L, G, D: AtRedo> Play<Value<L, G>, View> for LoadRedo<D> {
+    ghost then = { tells_redo D.base };
 }
 
 /// The number of a counter. Each call picks it.

@@ -2,7 +2,7 @@ use Rattle.std.proofs.Common.{refl}
 use Rattle.pin_core.specs.Kinds.{load_tag}
 use Rattle.frame_table.specs.Kinds.{pins}
 use Rattle.frame_table.proofs.Holding.{tag_read, read_after}
-use Rattle.frame_table.proofs.TagLoads.{tag_had, tag_handed, tag_listed, tag_named, tag_placed, tag_settled}
+use Rattle.frame_table.proofs.TagLoads.{tag_flagged, tag_had, tag_handed, tag_listed, tag_named, tag_numbered, tag_placed, tag_settled}
 use Rattle.frame_table.proofs.Told.{touches}
 use Rattle.frame_table.proofs.Marks.{did_marks}
 use Rattle.frame_table.proofs.table.FrameTable.load_tag.Goals as goal
@@ -33,6 +33,9 @@ returns-clause-marks g c = did_marks (pins load_tag) tt _ _ _ _ c.load_packed-wo
 
 pub returns-clause-placed : goal.returns-clause-placed
 returns-clause-placed g c = tag_placed _ (returns-clause-named g c)
+
+pub returns-clause-flagged : goal.returns-clause-flagged
+returns-clause-flagged g c = tag_flagged _ _ _ _ (returns-clause-did g c) (tag_numbered _ _ c.unpack.ensures.value c.unpack.ensures.inverse)
 
 pub returns-clause-tagged : goal.returns-clause-tagged
 returns-clause-tagged g c = tag_had _ _ _ _ (returns-clause-did g c)
