@@ -44,12 +44,12 @@ use Rattle.frame_table.proofs.Listed.{listed_there}
 use Rattle.pin_core.specs.Kinds.{assigned_role}
 use Rattle.frame_table.specs.Kinds.{FrameKind, pins, part_of, link_after}
 use Rattle.table_rule.specs.Shows.{ShowsFrame, Devices, Shows, RuleHolds}
-use Rattle.frame_table.specs.Seats.{Finds, cleared_stored, mapped_link, SameSelf, Looked, Touches, Stores, HoldsWord, HasRoom, IsUsed, HasFlag, HasOnlyPin, MayChange, Lacks, NamesIn, NamesStored, MayStoreTag, CanErase, CanStoreAs, partitions_erased, partitions_stored, stored_link, assigned_link, tag_word, read_link}
+use Rattle.frame_table.specs.Seats.{Finds, cleared_stored, mapped_link, ListsOnly, SameSelf, Looked, Touches, Stores, HoldsWord, HasRoom, IsUsed, HasFlag, HasOnlyPin, MayChange, Lacks, NamesIn, NamesStored, MayStoreTag, CanErase, CanStoreAs, partitions_erased, partitions_stored, stored_link, assigned_link, tag_word, read_link}
 use Rattle.frame_table.specs.FrameSteps.{Tried, if_found, Did, always, looking, storing, tells}
 use Rattle.frame_table.proofs.Frames.{Asks}
 use Rattle.frame_table.proofs.Acting.{acts}
 use Rattle.frame_table.proofs.Words.{swaps, AsksWord, held_word, stores}
-use Rattle.frame_table.proofs.Told.{looks_link, self_after, grows, links_after, link_is, looked_by, quiet}
+use Rattle.frame_table.proofs.Told.{looks_link, self_after, grows, lists_after, links_after, link_is, looked_by, quiet}
 
 -- one more pin, the usage count as it was
 pub pin_added : (w : ℕ) → (fields w).pins + 1 < 262144 → fields (w + 1) ≡ record (fields w) { pins = (fields w).pins + 1 }
@@ -248,6 +248,7 @@ pub stored_self : (tag : Option Tag) (f now : ℕ) (v w : View) → Did (storing
 stored_self tag f now v w d = record {
   self = subst (λ (x : View). SameSelf (record v { cleared = x.cleared }) x) (sym d.after) (self_after (storing tag) d.state f v);
   grows = grows (storing tag) f now v w d;
+  lists = subst (ListsOnly f v) (sym d.after) (lists_after (storing tag) d.state f v);
   others = λ g n. ap (λ (x : View). link x g) d.after ∙ ap (λ (l : List Link). get_or l g idle) (links_after (storing tag) d.state f v) ∙ get_or-set_other v.links f g (link_after (storing tag) d.state f v) idle n;
 }
 

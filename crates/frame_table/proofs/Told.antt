@@ -77,7 +77,7 @@ pages_load : (k : paged.Kind) (f : ℕ) (fr : Frame) (v : View) → All (IsLoadO
 pages_load paged.load_content f fr v = one_load f (pin.load_of v (seen.Content f fr.sharers fr.exclusive fr.copying)) refl
 pages_load k f fr v = All-nil (IsLoadOf f)
 
-lists_after : (k : FrameKind) (s : State) (f : ℕ) (v : View) → ListsOnly f v (view_after k s f v)
+pub lists_after : (k : FrameKind) (s : State) (f : ℕ) (v : View) → ListsOnly f v (view_after k s f v)
 lists_after (pins k) s f v = let fr = s.pool.core.frame f in record { loads = (map (pin.load_of v) (pin.seen_by k f fr), refl, pins_load k f fr v); changes = added_after (pins k) s f v }
 lists_after (pages k) s f v = let fr = s.pool.core.frame f in record { loads = (map (pin.load_of v) (paged.seen_by k f fr), refl, pages_load k f fr v); changes = added_after (pages k) s f v }
 

@@ -341,6 +341,8 @@ cleared_stored (Some tag) n = n
 pub record Stores (f : ℕ) (v w : View) : Type 0 where
   pub self : SameSelf (record v { cleared = w.cleared }) w
   pub grows : Grows v w
+  -- the words that it lists are of f
+  pub lists : ListsOnly f v w
   pub others : (g : ℕ) → g ≢ f → link w g ≡ link v g
 
 -- A step at the frame f: the view has at other frames, and at the partitions, what it had
