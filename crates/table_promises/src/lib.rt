@@ -13,4 +13,4 @@ pub use backends::{give_token_back, join_queues, join_seats};
 pub use frames::{insert_new, is_of_block, lock_exclusively, lower_usage, pin_found, take_tag};
 pub use pages::{end_write, flush, lock_for_cleanup, put, read};
 pub use victims::{choose_victim, free_frame};
-pub use words::{add_counter, load_counter, raise_redo};
+pub use words::{add_counter, load_counter, load_redo, raise_redo};

@@ -3,12 +3,13 @@ ghost use Rattle.std.specs.Prelude.{◌≡◌, ◌+◌, ◌<◌, ◌≤◌, None
 ghost use Rattle.history_core.specs.Balances.{added_to};
 ghost use Rattle.history_core.specs.Words.{counter_count, most_published};
 ghost use Rattle.table_rule.specs.declared.turn.Turn.TheVariants.{Log};
-ghost use Rattle.frame_table.specs.Seats.{CanTurn, IsSeat};
+ghost use Rattle.frame_table.specs.Seats.{CanTurn, IsSeat, base_of};
 ghost use Rattle.frame_table.specs.WordSteps.{load_counter, view_of, view_published};
 
 use atomic_table::Seat;
 use frame_table::{EndLoad, FrameTable, Turn, Value};
 use log_device::LogDevice;
+use page_layout::Lsn;
 use pin_core::View;
 use segment_store::BlockLane;
 use std::sync::Wait;
@@ -28,6 +29,24 @@ pub fn raise_redo<L: BlockLane, G: LogDevice, R: Wait>(
     let end = table.load_log_end(seat, EndLoad::Plain);
     table.raise_redo(seat, end);
     table.leave_turn(seat, Turn::Log);
+}
+
+/// The redo position is loaded under the log's latch (`XLogInsertRecord` looks at `RedoRecPtr` again
+/// while it holds an insertion lock), so it stands until the latch is left.
+pub fn load_redo<L: BlockLane, G: LogDevice, R: Wait>(
+    table: &FrameTable<L, G>,
+    rt: &R,
+    seat: &mut Seat<Value<L, G>, View>,
+) -> Lsn
+    requires seat { IsSeat table.now seat.old }
+    requires turn { CanTurn table.now seat.old Log }
+    requires home { (seat.old.me.0.log.out ≡ None) × (seat.old.me.0.log.appended ≡ None) }
+    ensures { base_of table.now ≤ result }
+{
+    table.take_turn(rt, seat, Turn::Log);
+    let redo = table.load_redo(seat);
+    table.leave_turn(seat, Turn::Log);
+    redo
 }
 
 /// What a backend adds to a counter is added once (`pgstat_count_io_op_n`).
