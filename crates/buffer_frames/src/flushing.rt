@@ -126,7 +126,7 @@ fn write_lane<L: BlockLane, G: LogDevice, R: Wait>(
     let lane = lane_of(&tag, table.lanes());
     table.take_turn(rt, seat, Turn::Lane(lane));
     let mut out = table.lane_out(seat, lane);
-    let written = out.write(frame, tag, page);
+    let written = out.write(seat, frame, tag, page);
     table.lane_back(seat, lane, out);
     table.leave_turn(seat, Turn::Lane(lane));
     written.is_ok()

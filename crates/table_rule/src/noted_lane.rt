@@ -2,14 +2,19 @@
 //!
 //! A lane goes out with its number and room for the note of one call, and only the lane with that
 //! number may come back: two unknown lanes with the same counts can't be exchanged.
-ghost use Rattle.std.specs.Prelude.{◌≡◌, Some, OnOk, IfSome, IsSome, MatchResult};
+ghost use Rattle.std.specs.Prelude.{◌≡◌, ◌≤◌, Some, OnOk, IfSome, IsSome, MatchResult};
 ghost use Rattle.std.specs.Option.{ForSome};
+ghost use Rattle.page_layout.specs.Fields.{lsn_of};
+ghost use Rattle.pin_core.specs.State.{lane_hold};
 ghost use Rattle.table_rule.specs.declared.noted_lane.LaneCall.TheVariants as lane_call;
 ghost use Rattle.table_rule.specs.LaneCalls.{LaneDid, NotesRead, NotesWritten, NotesWriteFailed, lane_devices};
 
+use crate::value::Value;
+use atomic_table::Seat;
 use block_tag::Tag;
 use log_device::Failed;
 use page_layout::Page;
+use pin_core::View;
 use segment_store::BlockLane;
 use std::snapshot::Snapshot;
 
@@ -108,10 +113,19 @@ impl<L: BlockLane> NotedLane<L> {
         }
     }
 
-    /// Writes the page of a frame to a block of the lane (`smgrwrite`).
-    pub fn write(&mut self, frame: u32, tag: Tag, page: &Page) -> Result<(), Failed>
+    /// Writes the page of a frame to a block of the lane (`smgrwrite`). As the lane went out with
+    /// the seat, its backend had seen the log flushed up to the page's position.
+    pub fn write<G>(
+        &mut self,
+        _seat: &Seat<Value<L, G>, View>,
+        frame: u32,
+        tag: Tag,
+        page: &Page,
+    ) -> Result<(), Failed>
         requires untouched { self.old.call ≡ lane_call.Untouched }
         requires held { ForSome (L.contents self.old.device) (λ pages. IsSome (pages tag)) }
+        requires log_first { lsn_of page.now
+            ≤ (lane_hold _seat.now.me.0 self.old.number).flushed }
         ensures number { self.new.number ≡ self.old.number }
         ensures call { MatchResult result (λ _. NotesWritten frame tag page.now self.new.call) (λ _. NotesWriteFailed frame tag page.now self.new.call) }
         ensures did { LaneDid (lane_devices L.BlockLane) self.old.device self.new.device self.new.call }

@@ -20,6 +20,11 @@ use Rattle.buffer_frames.proofs.flushing.write_lane.Goals as goal
 pub lane_out-out-requires-clause-held : goal.lane_out-out-requires-clause-held
 lane_out-out-requires-clause-held g c = lane_free _ c.args.seat.now.me.0 c.take_turn.new.seat.me.0 c.requires.stands.quiet c.take_turn.ensures.turned
 
+pub write-written-requires-clause-log_first : goal.write-written-requires-clause-log_first
+write-written-requires-clause-log_first g c = let o = c.lane_out-out.ensures in
+    subst (λ (q : ℕ). lsn_of c.args.page.now ≤ (lane_hold c.lane_out-out.new.seat.me.0 q).flushed) (sym o.number)
+    (subst (λ (n : ℕ). lsn_of c.args.page.now ≤ n) (sym (ap (λ (h : LaneHold). h.flushed) o.out.here ∙ ap (λ (x : View). x.flushed) c.take_turn.ensures.work)) c.requires.log_first)
+
 pub lane_back-requires-clause-may : goal.lane_back-requires-clause-may
 lane_back-requires-clause-may g c =
     let o = c.lane_out-out.ensures in
