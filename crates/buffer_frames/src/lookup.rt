@@ -9,7 +9,7 @@ ghost use Rattle.frame_table.specs.Kinds.{pins};
 ghost use Rattle.frame_table.specs.FrameSteps.{Tried};
 ghost use Rattle.table_rule.specs.declared.turn.Turn.TheVariants.{Partition};
 ghost use Rattle.frame_table.specs.declared.pin.Pin.{Pin};
-ghost use Rattle.frame_table.specs.Latches.{DidTurn, IsTurned, SameWork, view_counted};
+ghost use Rattle.frame_table.specs.Latches.{DidTurn, IsTurned, MayTake, SameWork, view_counted};
 ghost use Rattle.frame_table.specs.Seats.{CanTurn, Finds, Grows, Lacks, RemembersNoOther, SameSeat};
 ghost use Rattle.frame_table.specs.Seats.{frames_of};
 ghost use Rattle.map_partitions.specs.Partition.{HoldsLatch};
@@ -97,6 +97,7 @@ pub(crate) fn take_counted<L: BlockLane, G: LogDevice, R: Wait>(
     turns: &mut u64,
 )
     requires seat { CanTurn table.now seat.old (Partition partition) }
+    requires free { MayTake (Partition partition) seat.old.me.0 }
     requires counted { turns.old ≡ shown_count seat.old.me.0.turns }
     ensures seat { SameSeat seat.old seat.new }
     ensures work { SameWork (view_counted true (Partition partition) seat.old.me.0) seat.new.me.0 }

@@ -34,6 +34,15 @@ MayLeave (Partition p) v = ((hold v p).held ≡ true) × ((hold v p).out ≡ Non
 MayLeave (Lane q) v = ((lane_hold v q).held ≡ true) × ((lane_hold v q).out ≡ None)
 MayLeave Log v = (v.log.held ≡ true) × (v.log.out ≡ None) × (v.log.appended ≡ None)
 
+-- The view may wait for the latch: it has none of the same kind, and none of a later one, in the
+-- order of partitions, lanes and the log. So no two backends wait for each other
+abbrev pub MayTake : Turn → View → Type 0
+MayTake (Partition p) v = ((q : ℕ) → (hold v q).held ≡ false)
+    × ((q : ℕ) → (lane_hold v q).held ≡ false)
+    × (v.log.held ≡ false)
+MayTake (Lane q) v = ((r : ℕ) → (lane_hold v r).held ≡ false) × (v.log.held ≡ false)
+MayTake Log v = v.log.held ≡ false
+
 -- the kind of `pin_core` and of `history_core` that a latch is taken by, or left by
 abbrev pub part_kind : Bool → parts.TurnKind
 part_kind true = parts.take_turn

@@ -5,7 +5,8 @@ ghost use Rattle.table_rule.specs.Layout as layout;
 ghost use Rattle.table_rule.specs.Layout.{slot_of, word_count};
 ghost use Rattle.table_rule.specs.Shows.{HasTurn};
 ghost use Rattle.frame_table.specs.Seats.{CanTurn, SameSeat, frames_of};
-ghost use Rattle.frame_table.specs.Latches.{DidTurn, IsTurned, MayLeave, SameWork, view_counted};
+ghost use Rattle.frame_table.specs.Latches.{DidTurn, IsTurned, MayLeave, MayTake, SameWork};
+ghost use Rattle.frame_table.specs.Latches.{view_counted};
 
 use crate::plays::{AtTurn, LeaveTurn, TakeTurn};
 use crate::table::FrameTable;
@@ -55,10 +56,11 @@ impl<L: BlockLane, G: LogDevice> FrameTable<L, G> {
             == 0
     }
 
-    /// Waits until the latch is free, and takes it (`LWLockAcquire`). A backend that has it already
-    /// would wait forever.
+    /// Waits until the latch is free, and takes it (`LWLockAcquire`). The backend has no latch of
+    /// the same kind, or of a later one: first those of partitions, then of lanes, then the log's.
     pub fn take_turn<R: Wait>(&self, rt: &R, seat: &mut Seat<Value<L, G>, View>, turn: Turn)
         requires seat { CanTurn self.now seat.old turn }
+        requires free { MayTake turn seat.old.me.0 }
         ensures seat { SameSeat seat.old seat.new }
         ensures work { SameWork (view_counted true turn seat.old.me.0) seat.new.me.0 }
         ensures turned { IsTurned true turn seat.old.me.0 seat.new.me.0 }

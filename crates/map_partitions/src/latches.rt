@@ -3,7 +3,8 @@ ghost use Rattle.std.specs.Prelude.{true, false};
 ghost use Rattle.pin_core.specs.declared.view.MapChange.TheVariants.{Stable};
 ghost use Rattle.table_rule.specs.declared.turn.Turn.TheVariants.{Partition};
 ghost use Rattle.frame_table.specs.Seats.{CanTurn, Grows, SameSeat};
-ghost use Rattle.frame_table.specs.Latches.{DidTurn, IsTurned, MayLeave, SameWork, view_counted};
+ghost use Rattle.frame_table.specs.Latches.{DidTurn, IsTurned, MayLeave, MayTake, SameWork};
+ghost use Rattle.frame_table.specs.Latches.{view_counted};
 ghost use Rattle.map_partitions.specs.Partition.{HoldsLatch};
 
 use atomic_table::Seat;
@@ -14,8 +15,7 @@ use segment_store::BlockLane;
 use std::sync::Wait;
 use table_rule::{Turn, Value};
 
-/// Waits until the partition's latch is free, and takes it. A backend that has it already would
-/// wait forever.
+/// Waits until the partition's latch is free, and takes it. The backend has no other latch.
 pub fn take_turn<L: BlockLane, G: LogDevice, R: Wait>(
     table: &FrameTable<L, G>,
     rt: &R,
@@ -23,6 +23,7 @@ pub fn take_turn<L: BlockLane, G: LogDevice, R: Wait>(
     partition: u32,
 )
     requires seat { CanTurn table.now seat.old (Partition partition) }
+    requires free { MayTake (Partition partition) seat.old.me.0 }
     ensures seat { SameSeat seat.old seat.new }
     ensures work { SameWork (view_counted true (Partition partition) seat.old.me.0) seat.new.me.0 }
     ensures grows { Grows seat.old.me.0 seat.new.me.0 }

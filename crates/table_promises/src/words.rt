@@ -3,6 +3,7 @@ ghost use Rattle.std.specs.Prelude.{◌≡◌, ◌+◌, ◌<◌, ◌≤◌, None
 ghost use Rattle.history_core.specs.Balances.{added_to};
 ghost use Rattle.history_core.specs.Words.{counter_count, most_published};
 ghost use Rattle.table_rule.specs.declared.turn.Turn.TheVariants.{Log};
+ghost use Rattle.frame_table.specs.Latches.{MayTake};
 ghost use Rattle.frame_table.specs.Seats.{CanTurn, IsSeat, base_of};
 ghost use Rattle.frame_table.specs.WordSteps.{load_counter, view_of, view_published};
 
@@ -23,6 +24,7 @@ pub fn raise_redo<L: BlockLane, G: LogDevice, R: Wait>(
 )
     requires seat { IsSeat table.now seat.old }
     requires turn { CanTurn table.now seat.old Log }
+    requires free { MayTake Log seat.old.me.0 }
     requires home { (seat.old.me.0.log.out ≡ None) × (seat.old.me.0.log.appended ≡ None) }
 {
     table.take_turn(rt, seat, Turn::Log);
@@ -40,6 +42,7 @@ pub fn load_redo<L: BlockLane, G: LogDevice, R: Wait>(
 ) -> Lsn
     requires seat { IsSeat table.now seat.old }
     requires turn { CanTurn table.now seat.old Log }
+    requires free { MayTake Log seat.old.me.0 }
     requires home { (seat.old.me.0.log.out ≡ None) × (seat.old.me.0.log.appended ≡ None) }
     ensures { base_of table.now ≤ result }
 {

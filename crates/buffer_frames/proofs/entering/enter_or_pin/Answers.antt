@@ -6,7 +6,7 @@ use Rattle.buffer_frames.specs.Bringing.{Brings}
 use Rattle.buffer_frames.proofs.Keeping.{links_same}
 use Rattle.buffer_frames.proofs.Calm.{none_if, pins_worked}
 use Rattle.buffer_frames.proofs.Hints.{store_links, store_searched}
-use Rattle.buffer_frames.proofs.Latching.{under_partition}
+use Rattle.buffer_frames.proofs.Latching.{may_take_part, under_partition}
 use Rattle.frame_table.proofs.Rising.{rises_none}
 use Rattle.buffer_frames.proofs.Locating.{works_none}
 use Rattle.buffer_frames.specs.VictimChoices.{FindsInUse, IsAssigned}
@@ -17,6 +17,9 @@ use Rattle.buffer_frames.proofs.entering.enter_or_pin.Given.{Over}
 use Rattle.buffer_frames.proofs.Keeps.{and_stored, keeps_latched}
 use Rattle.buffer_frames.specs.Keeps.{Keeps}
 use Rattle.buffer_frames.proofs.entering.enter_or_pin.Goals as goal
+
+pub take_counted-requires-clause-free : goal.take_counted-requires-clause-free
+take_counted-requires-clause-free g c = may_take_part _ _ c.requires.latches c.requires.stands.quiet
 
 pub returns-in_err-pin-clause-rests : goal.returns-in_err-pin-clause-rests
 returns-in_err-pin-clause-rests g c = none_if c.from_residual.result (links_same c.args.held.now c.enter_latched-entered.new.seat.me.0 c.give_turn.new.seat.me.0 (links_worked c.enter_latched-entered.new.seat.me.0 c.give_turn.new.seat.me.0 c.give_turn.ensures.work) c.in_err-pin.ensures.rests)

@@ -13,12 +13,16 @@ use Rattle.table_rule.specs.LaneCalls.{lane_devices}
 use Rattle.buffer_frames.specs.Flushing.{CallsLane, met_lane_write}
 use Rattle.buffer_frames.specs.Stages.{IsSharing}
 use Rattle.buffer_frames.proofs.LaneTrips.{lane_free, may_note_write, may_return, trip_calls, trip_marks, trip_met, trip_quiet, trip_works, write_call, write_made, write_met, write_noted, write_noted_link, write_others, write_plain}
+use Rattle.buffer_frames.proofs.Latching.{may_take_lane}
 use Rattle.buffer_frames.proofs.Links.{done_noted, role_noted, sharing_noted}
 use Rattle.buffer_frames.proofs.Notes.{notes_noted}
 use Rattle.buffer_frames.proofs.flushing.write_lane.Goals as goal
 
 pub lane_out-out-requires-clause-held : goal.lane_out-out-requires-clause-held
 lane_out-out-requires-clause-held g c = lane_free _ c.args.seat.now.me.0 c.take_turn.new.seat.me.0 c.requires.stands.quiet c.take_turn.ensures.turned
+
+pub take_turn-requires-clause-free : goal.take_turn-requires-clause-free
+take_turn-requires-clause-free g c = may_take_lane _ _ c.requires.stands.quiet
 
 pub write-written-requires-clause-log_first : goal.write-written-requires-clause-log_first
 write-written-requires-clause-log_first g c = let o = c.lane_out-out.ensures in

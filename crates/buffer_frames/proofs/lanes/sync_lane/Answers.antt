@@ -3,7 +3,11 @@ use Rattle.pin_core.specs.declared.view.View.{View}
 use Rattle.table_rule.specs.declared.turn.Turn.TheVariants.{Lane}
 use Rattle.table_rule.specs.LaneCalls.{lane_devices}
 use Rattle.frame_table.proofs.Rising.{rises_back, rises_on, rises_out, rises_turned}
+use Rattle.buffer_frames.proofs.Latching.{may_take_lane}
 use Rattle.buffer_frames.proofs.lanes.sync_lane.Goals as goal
+
+pub take_turn-requires-clause-free : goal.take_turn-requires-clause-free
+take_turn-requires-clause-free g c = may_take_lane _ _ c.requires.stands.quiet
 
 pub returns-clause-left : goal.returns-clause-left
 returns-clause-left g c = record {

@@ -11,7 +11,11 @@ use Rattle.buffer_frames.specs.Loading.{met_lane_read}
 use Rattle.buffer_frames.specs.Stages.{IsReading}
 use Rattle.buffer_frames.specs.Working.{Made}
 use Rattle.buffer_frames.proofs.LaneTrips.{lane_free, may_note_read, may_return, read_call, read_given, read_made, read_met, read_noted, read_others, read_plain, trip_calls, trip_met, trip_quiet, trip_works}
+use Rattle.buffer_frames.proofs.Latching.{may_take_lane}
 use Rattle.buffer_frames.proofs.loading.read_lane.Goals as goal
+
+pub take_turn-requires-clause-free : goal.take_turn-requires-clause-free
+take_turn-requires-clause-free g c = may_take_lane _ _ c.requires.stands.quiet
 
 pub lane_out-out-requires-clause-held : goal.lane_out-out-requires-clause-held
 lane_out-out-requires-clause-held g c = lane_free _ c.args.seat.now.me.0 c.take_turn.new.seat.me.0 c.requires.stands.quiet c.take_turn.ensures.turned
