@@ -25,7 +25,9 @@ use Rattle.relation_commands.specs.Limits.{PassesLimit, largest_lsn}
 use Rattle.relation_commands.specs.Listings.{NoneFails, text_of}
 use Rattle.relation_commands.specs.RecoverFiles.{ForLogOf, RecoversFiles}
 use Rattle.relation_commands.specs.RecoverTexts.{recover_text}
-use Rattle.command_line.specs.Request.{Asked, ListingAsked, is_listing, is_rewriting, is_writing, listing, log_path_of, rewriting, recovering, sampling, options_of, path_of}
+use Rattle.command_line.specs.Request.{Asked, ListingAsked, is_listing, is_rewriting, is_writing}
+use Rattle.command_line.specs.Request.{listing, log_path_of, rewriting, recovering, sampling}
+use Rattle.command_line.specs.Request.{options_of, path_of}
 use Rattle.relation_commands.specs.Crowded.{IsCrowded, crowding_of}
 use Rattle.relation_commands.specs.RewriteFiles.{HostFiles, RewritesFiles, pages_at}
 use Rattle.relation_commands.specs.RewriteTexts.{rewrite_text}

@@ -20,7 +20,8 @@ use Rattle.history_core.specs.Log.{AreImages, AreValid, Entry, Log, page_after}
 use Rattle.history_core.specs.Unentered.{IsEntered}
 use Rattle.log_recovery.specs.Records.{HasBadHead, IsLogOf}
 use Rattle.command_line.specs.Request.{LoggedAsked}
-use Rattle.relation_commands.specs.RewriteFiles.{HostFiles, KeepsFiles, pages_at, relation_at, with_blocks}
+use Rattle.relation_commands.specs.RewriteFiles.{HostFiles, KeepsFiles, pages_at, relation_at}
+use Rattle.relation_commands.specs.RewriteFiles.{with_blocks}
 use Rattle.relation_commands.specs.RewriteResults.{AreFull}
 use Rattle.relation_commands.specs.Starting.{relation_entry}
 

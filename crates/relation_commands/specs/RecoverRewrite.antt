@@ -17,7 +17,8 @@ use Rattle.log_recovery.specs.Records.{HasBadHead, IsLogOf}
 use Rattle.relation_commands.specs.Limits.{log_base}
 use Rattle.relation_commands.specs.RecoverFiles.{IsRecoveredAt, RecoverLeaves, catalog_of, word_at}
 use Rattle.command_line.specs.Request.{LoggedAsked, recover_options}
-use Rattle.relation_commands.specs.RewriteFiles.{HostFiles, IsHeadBegun, fork_at, main_rule, pages_at}
+use Rattle.relation_commands.specs.RewriteFiles.{HostFiles, IsHeadBegun, fork_at, main_rule}
+use Rattle.relation_commands.specs.RewriteFiles.{pages_at}
 use Rattle.relation_commands.specs.RewriteResults.{HasImages, IsDurable, LeavesEither}
 use Rattle.relation_commands.specs.Starting.{names_of}
 

@@ -1,7 +1,9 @@
 //! Why a command isn't done: the status and the line of each refusal.
 ghost use Rattle.std.specs.Prelude.{◌≡◌, ◌++◌, [], IfOk, IfSome, None, Some, string_bytes};
 ghost use Rattle.relation_commands.specs.Crowded.{IsCrowded, crowding_of};
-ghost use Rattle.relation_commands.specs.Status.{crowding_text, error_line, error_text, host_error, listing_tool_error, recover_tool_error, rewrite_tool_error, status_of_error};
+ghost use Rattle.relation_commands.specs.Status.{crowding_text, error_line, error_text, host_error};
+ghost use Rattle.relation_commands.specs.Status.{listing_tool_error, recover_tool_error};
+ghost use Rattle.relation_commands.specs.Status.{rewrite_tool_error, status_of_error};
 
 use crate::limits::PositionLimit;
 use crate::listing::ListingError;

@@ -17,8 +17,12 @@ ghost use Rattle.page_jobs.specs.Survey.{AreOnlyRead};
 ghost use Rattle.relation_commands.specs.Answers.{CountsLater, EndsCommand, counts};
 ghost use Rattle.relation_commands.specs.Limits.{largest_lsn, log_base};
 ghost use Rattle.command_line.specs.Request.{asked, rewrite_asked};
-ghost use Rattle.relation_commands.specs.RewriteCommand.{AreSurveyed, HasFaultOf, IsLogRefusal, IsPutRefusal, IsSurveyRefusal, LeavesByEnd, MeetsLimit, OpensLog, StaysBelowLimit};
-ghost use Rattle.relation_commands.specs.RewriteFiles.{BecomesOf, IsHeadBegun, RewritesFiles, files_in, pages_at};
+ghost use Rattle.relation_commands.specs.RewriteCommand.{AreSurveyed, HasFaultOf, IsLogRefusal};
+ghost use Rattle.relation_commands.specs.RewriteCommand.{IsPutRefusal, IsSurveyRefusal};
+ghost use Rattle.relation_commands.specs.RewriteCommand.{LeavesByEnd, MeetsLimit, OpensLog};
+ghost use Rattle.relation_commands.specs.RewriteCommand.{StaysBelowLimit};
+ghost use Rattle.relation_commands.specs.RewriteFiles.{BecomesOf, IsHeadBegun, RewritesFiles};
+ghost use Rattle.relation_commands.specs.RewriteFiles.{files_in, pages_at};
 ghost use Rattle.relation_commands.specs.RewriteTexts.{rewrite_lines, rewrite_text};
 ghost use Rattle.relation_commands.specs.Rewriting.{HavePages};
 ghost use Rattle.page_layout.specs.Outcomes.{rewrite_totals_of};
@@ -177,8 +181,12 @@ fn rewrite_and_give_back<H: Host, R: Threads + Wait + Sync, T: Gate + Sync>(
     gate: &T,
 ) -> Result<RewriteTotals, RewriteError>
     requires range { HasOptionsInRange request.now.options }
-    requires open_at { IfSome (H.contents host.old) (λ _. H.open_at host.old ≡ record { path = request.now.path.now; seg_blocks = request.now.options.seg_blocks }) }
-    requires surveyed { AreSurveyed H.Lane.contents H.Lane.failed_writes H.Lane.read_faults H.Lane.write_faults (H.contents host.old) (rewrite_asked request.now) relation base lanes.items }
+    requires open_at { IfSome (H.contents host.old)
+        (λ _. H.open_at host.old
+        ≡ record { path = request.now.path.now; seg_blocks = request.now.options.seg_blocks }) }
+    requires surveyed { AreSurveyed H.Lane.contents H.Lane.failed_writes H.Lane.read_faults
+        H.Lane.write_faults (H.contents host.old) (rewrite_asked request.now) relation
+        base lanes.items }
     ensures cause { HasFaultOf (counts (H.read_faults host.old) (H.write_faults host.old) (H.log_faults host.old) 0)
         (counts (H.read_faults host.new) (H.write_faults host.new) (H.log_faults host.new) 0) result }
     ensures limit { IfErr result
@@ -243,8 +251,12 @@ fn rewrite_surveyed<H: Host, R: Threads + Wait + Sync, O: Sink, T: Gate + Sync>(
     gate: &T,
 ) -> Result<(), RewriteError>
     requires range { HasOptionsInRange request.now.options }
-    requires open_at { IfSome (H.contents host.old) (λ _. H.open_at host.old ≡ record { path = request.now.path.now; seg_blocks = request.now.options.seg_blocks }) }
-    requires surveyed { AreSurveyed H.Lane.contents H.Lane.failed_writes H.Lane.read_faults H.Lane.write_faults (H.contents host.old) (rewrite_asked request.now) relation base lanes.items }
+    requires open_at { IfSome (H.contents host.old)
+        (λ _. H.open_at host.old
+        ≡ record { path = request.now.path.now; seg_blocks = request.now.options.seg_blocks }) }
+    requires surveyed { AreSurveyed H.Lane.contents H.Lane.failed_writes H.Lane.read_faults
+        H.Lane.write_faults (H.contents host.old) (rewrite_asked request.now) relation
+        base lanes.items }
     ensures cause { HasFaultOf (counts (H.read_faults host.old) (H.write_faults host.old) (H.log_faults host.old) (O.faults out.old))
         (counts (H.read_faults host.new) (H.write_faults host.new) (H.log_faults host.new) (O.faults out.new)) result }
     ensures limit { StaysBelowLimit
@@ -276,8 +288,14 @@ fn rewrite_opened<H: Host, R: Threads + Wait + Sync, O: Sink, G: Gate + Sync>(
     gate: &G,
 ) -> Result<(), RewriteError>
     requires range { HasOptionsInRange request.now.options }
-    requires open_at { IfSome (H.contents host.old) (λ _. H.open_at host.old ≡ record { path = request.now.path.now; seg_blocks = request.now.options.seg_blocks }) }
-    requires opened { IsOpened H.Lane.contents H.Lane.failed_writes H.Lane.unsynced H.Lane.room H.Lane.read_faults H.Lane.write_faults (H.contents host.old) (H.room host.old request.now.path.now request.now.options.seg_blocks) request.now.path.now (fork_of request.now.path.now) request.now.options.seg_blocks request.now.options.lanes opened }
+    requires open_at { IfSome (H.contents host.old)
+        (λ _. H.open_at host.old
+        ≡ record { path = request.now.path.now; seg_blocks = request.now.options.seg_blocks }) }
+    requires opened { IsOpened H.Lane.contents H.Lane.failed_writes H.Lane.unsynced H.Lane.room
+        H.Lane.read_faults H.Lane.write_faults (H.contents host.old)
+        (H.room host.old request.now.path.now request.now.options.seg_blocks) request.now.path.now
+        (fork_of request.now.path.now) request.now.options.seg_blocks
+        request.now.options.lanes opened }
     ensures cause { HasFaultOf (counts (H.read_faults host.old) (H.write_faults host.old) (H.log_faults host.old) (O.faults out.old))
         (counts (H.read_faults host.new) (H.write_faults host.new) (H.log_faults host.new) (O.faults out.new)) result }
     ensures limit { StaysBelowLimit
