@@ -1,19 +1,22 @@
 //! What a backend counts, and what becomes of it as the backend goes.
-ghost use Rattle.std.specs.Prelude.{◌≡◌, ◌≢◌, [], None, false};
+ghost use Rattle.std.specs.Prelude.{◌≡◌, ◌≢◌, ◌<◌, [], IfOk, None, false};
 ghost use Rattle.pin_core.specs.State.{joined_view};
-ghost use Rattle.pin_core.specs.Steps.{HoldsNothing};
-ghost use Rattle.frame_table.specs.Seats.{Fits};
+ghost use Rattle.pin_core.specs.Steps.{HoldsNoHeader, HoldsNothing};
+ghost use Rattle.frame_table.specs.Seats.{Fits, IsSeat, frames_of};
+ghost use Rattle.clock_sweep.specs.Choosing.{Chooses, frame_at_place, ring_gone_on};
 ghost use Rattle.clock_sweep.specs.FreeFrames.{joined_parts};
 ghost use Rattle.clock_sweep.specs.FreeLists.{IsOfSweep};
 ghost use Rattle.buffer_frames.specs.Tokens.{held_at, tokens_less};
 
+use access_rings::Ring;
 use atomic_table::Seat;
 use buffer_frames::HeldPins;
-use clock_sweep::{QueuePass, Sweep};
+use clock_sweep::{Census, LockedFrame, NoUnpinned, QueuePass, Sweep, victim};
 use frame_table::{FrameTable, Pin, Value};
 use log_device::LogDevice;
 use pin_core::View;
 use segment_store::BlockLane;
+use std::sync::Wait;
 
 /// A token that comes back counts no more, and with the last one its pin goes out, to be given up
 /// (`UnpinBuffer`, by `PrivateRefCount`).
@@ -22,6 +25,29 @@ pub fn give_token_back(held: &mut HeldPins, frame: u32) -> Option<Pin>
     ensures tokens { held.new ≡ tokens_less frame held.old }
 {
     held.take_token(frame)
+}
+
+/// A backend records each frame that it takes off the free list (`StrategyGetBuffer` sets its
+/// `freeNext` to `FREENEXT_NOT_IN_LIST`). Its pass can be split: an edit takes frames with the part
+/// that it splits off.
+pub fn record_taken<L: BlockLane, G: LogDevice, R: Wait>(
+    table: &FrameTable<L, G>,
+    rt: &R,
+    seat: &mut Seat<Value<L, G>, View>,
+    sweep: &Sweep,
+    queue: &mut QueuePass,
+    census: &mut Census,
+    ring: &mut Option<Ring>,
+) -> Result<LockedFrame, NoUnpinned>
+    requires seat { IsSeat table.now seat.old }
+    requires headless { HoldsNoHeader seat.old.me.0 }
+    requires queue { IsOfSweep sweep.now queue.old }
+    requires parts { 1 < queue.old.known.parts }
+    requires census { census.old.frames ≡ frames_of table.now }
+    ensures { IfOk result (Chooses (frames_of table.now) (frame_at_place (ring_gone_on ring.old))
+        seat.old.me.0 queue.old seat.new.me.0 queue.new) }
+{
+    victim(table, rt, seat, sweep, queue, census, ring)
 }
 
 /// What a backend read and put stays in the history that the table is closed with: the first

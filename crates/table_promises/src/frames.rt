@@ -1,5 +1,5 @@
 //! Pins, tags and locks of frames.
-ghost use Rattle.std.specs.Prelude.{◌≡◌, ◌≢◌, ℕ, None, Some, false, true};
+ghost use Rattle.std.specs.Prelude.{◌≡◌, ◌≢◌, ℕ, IfOk, None, Some, false, true};
 ghost use Rattle.std.specs.Bool.{OnTrue};
 ghost use Rattle.state_word.specs.Fields.{fields};
 ghost use Rattle.block_tag.specs.Names.{names_block, packed_tag, partition_number};
@@ -15,12 +15,17 @@ ghost use Rattle.table_rule.specs.declared.turn.Turn.TheVariants.{Partition};
 ghost use Rattle.frame_table.specs.Content.{CanLock, exclusive_link};
 ghost use Rattle.frame_table.specs.Latches.{MayLeave};
 ghost use Rattle.frame_table.specs.Seats.{CanStep, CanTurn, Finds, HasFlag, HasOnlyPin, HoldsWord};
-ghost use Rattle.frame_table.specs.Seats.{MayChange, relations_of};
+ghost use Rattle.frame_table.specs.Seats.{IsSeat, MayChange, MayUnpin, frames_of, relations_of};
+ghost use Rattle.clock_sweep.specs.FreeLists.{IsOfSweep};
+ghost use Rattle.cleanup_lock.specs.Waking.{Woken};
 ghost use Rattle.map_partitions.specs.Partition.{HoldsLatch};
 ghost use Rattle.buffer_frames.specs.Rests.{HasOneLatch};
 
+use access_rings::Ring;
 use atomic_table::Seat;
 use block_tag::Tag;
+use cleanup_lock::unpin_and_wake;
+use clock_sweep::{Census, NoUnpinned, QueuePass, Sweep, victim};
 use content_locks::exclusive;
 use frame_table::{FrameTable, Pin, Value};
 use log_device::LogDevice;
@@ -67,6 +72,28 @@ pub fn is_of_block<L: BlockLane, G: LogDevice>(
         Some(other) => other == *tag,
         None => false,
     }
+}
+
+/// The word that a victim's header is held at shows no pin (`StrategyGetBuffer` looks at the
+/// reference count under the header lock).
+pub fn lock_victim<L: BlockLane, G: LogDevice, R: Wait>(
+    table: &FrameTable<L, G>,
+    rt: &R,
+    seat: &mut Seat<Value<L, G>, View>,
+    sweep: &Sweep,
+    queue: &mut QueuePass,
+    census: &mut Census,
+    ring: &mut Option<Ring>,
+) -> Result<(u32, u64), NoUnpinned>
+    requires seat { IsSeat table.now seat.old }
+    requires headless { HoldsNoHeader seat.old.me.0 }
+    requires queue { IsOfSweep sweep.now queue.old }
+    requires census { census.old.frames ≡ frames_of table.now }
+    ensures unpinned { IfOk result (λ held. (fields held.1).pins ≡ 0) }
+{
+    let held = victim(table, rt, seat, sweep, queue, census, ring)?;
+    let word = held.word();
+    Ok((held.into_frame(), word))
 }
 
 /// A victim loses its block only if its state word, under the header, shows one pin, the backend's
@@ -150,4 +177,21 @@ pub fn lock_exclusively<L: BlockLane, G: LogDevice, R: Wait>(
     ensures exclusive { link seat.new.me.0 frame ≡ exclusive_link (link seat.old.me.0 frame) }
 {
     exclusive(table, rt, seat, frame)
+}
+
+/// Whoever gives up a pin wakes the backend that waits once that one's pin is the only one left,
+/// and no sooner (`UnpinBuffer`).
+pub fn unpin<L: BlockLane, G: LogDevice, R: Wait>(
+    table: &FrameTable<L, G>,
+    rt: &R,
+    seat: &mut Seat<Value<L, G>, View>,
+    pin: Pin,
+)
+    requires seat { CanStep table.now seat.old pin.frame }
+    requires headless { HoldsNoHeader seat.old.me.0 }
+    requires settled { (link seat.old.me.0 pin.frame).pending ≡ false }
+    requires pinned { MayUnpin (link seat.old.me.0 pin.frame) }
+    ensures woken { Woken pin.frame seat.old.me.0 seat.new.me.0 }
+{
+    unpin_and_wake(table, rt, seat, pin);
 }

@@ -9,8 +9,12 @@ mod pages;
 mod victims;
 mod words;
 
-pub use backends::{give_token_back, join_queues, join_seats};
-pub use frames::{insert_new, is_of_block, lock_exclusively, lower_usage, pin_found, take_tag};
-pub use pages::{end_write, flush, lock_for_cleanup, put, read};
+pub use backends::{give_token_back, join_queues, join_seats, record_taken};
+pub use frames::{
+    insert_new, is_of_block, lock_exclusively, lock_victim, lower_usage, pin_found, take_tag, unpin,
+};
+pub use pages::{
+    begin_read, copy, end_under_header, end_write, flush, lock_for_cleanup, put, read,
+};
 pub use victims::{choose_victim, free_frame};
-pub use words::{add_counter, load_counter, load_redo, raise_redo};
+pub use words::{add_counter, flush_log, load_counter, load_redo, raise_redo};

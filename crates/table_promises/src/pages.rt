@@ -1,14 +1,16 @@
 //! Pages, their reads and writes, and what comes before these.
-ghost use Rattle.std.specs.Prelude.{◌≡◌, ◌<◌, IfOk, false, true};
+ghost use Rattle.std.specs.Prelude.{◌≡◌, ◌<◌, IfOk, IfSome, false, true};
 ghost use Rattle.block_tag.specs.Names.{lane_number, names_block};
 ghost use Rattle.page_layout.specs.Soundness.{is_new_page, is_sound_page};
 ghost use Rattle.pin_core.specs.declared.view.Content.TheVariants as content;
+ghost use Rattle.pin_core.specs.declared.view.Io.TheVariants.{Quiet};
 ghost use Rattle.pin_core.specs.State.{link};
 ghost use Rattle.pin_core.specs.Steps.{HoldsNoHeader};
-ghost use Rattle.page_core.specs.Steps.{HasNoWriteOut, MayWait};
+ghost use Rattle.page_core.specs.Steps.{HasNoIo, HasNoWriteOut, MayWait};
 ghost use Rattle.table_rule.specs.Blocks.{has_block};
 ghost use Rattle.frame_table.specs.Seats.{CanStep, frames_of, lanes_in, relations_of};
-ghost use Rattle.content_locks.specs.Io.{MayEndIo};
+ghost use Rattle.content_locks.specs.Io.{BeginsIo, CanStartIo, EndsIo, MayEndIo};
+ghost use Rattle.content_locks.specs.Locks.{CanCopy, copied_link};
 ghost use Rattle.cleanup_lock.specs.Cleanup.{CanLockForCleanup, GrantsCleanup};
 ghost use Rattle.state_word.specs.declared.word.IoEnd.TheVariants.{Bad, WriteOk};
 ghost use Rattle.buffer_frames.specs.Backends.{IsFurnished};
@@ -28,7 +30,7 @@ use buffer_frames::{
 };
 use cleanup_lock::{CleanupError, lock};
 use clock_sweep::Sweep;
-use content_locks::{IoRight, end_io};
+use content_locks::{Direction, IoRight, copy_out, end_io, start_io};
 use frame_table::{FrameTable, Value};
 use log_device::LogDevice;
 use page_layout::{Lsn, Page};
@@ -55,6 +57,24 @@ pub fn lock_for_cleanup<L: BlockLane, G: LogDevice, R: Wait>(
     ensures { IfOk result (λ _. GrantsCleanup number frame seat.old.me.0 seat.new.me.0) }
 {
     lock(table, rt, seat, frame, tokens, number)
+}
+
+/// A copy that is made under the content lock is of the frame's page (`PageSetChecksumCopy`, which
+/// `FlushBuffer` calls under the shared lock).
+pub fn copy<L: BlockLane, G: LogDevice, R: Wait>(
+    table: &FrameTable<L, G>,
+    rt: &R,
+    seat: &mut Seat<Value<L, G>, View>,
+    frame: u32,
+    page: &mut Page,
+)
+    requires seat { CanStep table.now seat.old frame }
+    requires view { CanCopy (link seat.old.me.0 frame) }
+    requires shared { (link seat.old.me.0 frame).content ≡ content.Shared }
+    requires quiet { (link seat.old.me.0 frame).io ≡ Quiet }
+    ensures copied { link seat.new.me.0 frame ≡ copied_link page.new (link seat.old.me.0 frame) }
+{
+    copy_out(table, rt, seat, frame, page);
 }
 
 /// A put that is Ok has marked the frame dirty, then inserted the page into the log, and then
@@ -106,6 +126,41 @@ pub fn flush<L: BlockLane, G: LogDevice, R: Wait>(
         seat.old.me.0 seat.new.me.0 result }
 {
     flush_frame(table, rt, seat, held, frame, tag, page)
+}
+
+/// A read begins only if no backend reads or writes the page: the word that the header is held at
+/// is without `BM_IO_IN_PROGRESS` (`StartBufferIO`).
+pub fn begin_read<L: BlockLane, G: LogDevice, R: Wait>(
+    table: &FrameTable<L, G>,
+    rt: &R,
+    seat: &mut Seat<Value<L, G>, View>,
+    frame: u32,
+) -> Option<IoRight>
+    requires seat { CanStep table.now seat.old frame }
+    requires headless { HoldsNoHeader seat.old.me.0 }
+    requires quiet { HasNoIo seat.old.me.0 }
+    requires view { CanStartIo true (link seat.old.me.0 frame) }
+    ensures { IfSome result (λ _. BeginsIo true frame seat.old.me.0 seat.new.me.0) }
+{
+    start_io(table, rt, seat, frame, Direction::Input)
+}
+
+/// A read or a write ends under the header, and the word that is stored is made of the one that
+/// was found there (`TerminateBufferIO`).
+pub fn end_under_header<L: BlockLane, G: LogDevice, R: Wait>(
+    table: &FrameTable<L, G>,
+    rt: &R,
+    seat: &mut Seat<Value<L, G>, View>,
+    right: IoRight,
+    end: IoEnd,
+)
+    requires seat { CanStep table.now seat.old right.frame }
+    requires headless { HoldsNoHeader seat.old.me.0 }
+    requires no_write { HasNoWriteOut seat.old.me.0 right.frame }
+    requires view { MayEndIo end (link seat.old.me.0 right.frame) }
+    ensures { EndsIo end right.frame seat.old.me.0 seat.new.me.0 }
+{
+    end_io(table, rt, seat, right, end);
 }
 
 /// A write that failed leaves the frame dirty (`AbortBufferIO`): it doesn't end as one that was

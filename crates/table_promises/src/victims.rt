@@ -1,10 +1,10 @@
 //! Victims, and the free list.
 ghost use Rattle.std.specs.Prelude.{◌≡◌, ◌<◌, IfErr};
-ghost use Rattle.std.specs.Bool.{OnTrue};
+ghost use Rattle.std.specs.Bool.{OnFalse, OnTrue};
 ghost use Rattle.pin_core.specs.Steps.{HoldsNoHeader};
 ghost use Rattle.frame_table.specs.Seats.{IsSeat, frames_of};
 ghost use Rattle.clock_sweep.specs.Choosing.{FindsNone, frame_at_place, ring_gone_on};
-ghost use Rattle.clock_sweep.specs.FreeFrames.{pushing};
+ghost use Rattle.clock_sweep.specs.FreeFrames.{ListHad, pushing};
 ghost use Rattle.clock_sweep.specs.FreeLists.{IsOfSweep};
 
 use access_rings::Ring;
@@ -39,11 +39,13 @@ pub fn choose_victim<L: BlockLane, G: LogDevice, R: Wait>(
     victim(table, rt, seat, sweep, queue, census, ring)
 }
 
-/// A frame that was freed is on the free list (`StrategyFreeBuffer`).
+/// A frame that was freed is on the free list (`StrategyFreeBuffer`), unless that was full.
 pub fn free_frame<R: Wait>(rt: &R, sweep: &Sweep, queue: &mut QueuePass, frame: u32) -> bool
     requires queue { IsOfSweep sweep.now queue.old }
     requires inside { frame < queue.old.known.frames }
     ensures pushed { OnTrue result (queue.new ≡ pushing frame queue.old) }
+    ensures full { OnFalse result ((queue.new ≡ queue.old)
+        × ListHad queue.old.known.frames queue.old.known) }
 {
     sweep.free(rt, queue, frame)
 }

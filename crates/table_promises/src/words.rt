@@ -1,11 +1,12 @@
 //! The words that no frame has.
-ghost use Rattle.std.specs.Prelude.{◌≡◌, ◌+◌, ◌<◌, ◌≤◌, None};
+ghost use Rattle.std.specs.Prelude.{◌≡◌, ◌+◌, ◌<◌, ◌≤◌, IfOk, None, false};
 ghost use Rattle.history_core.specs.Balances.{added_to};
 ghost use Rattle.history_core.specs.Words.{counter_count, most_published};
 ghost use Rattle.table_rule.specs.declared.turn.Turn.TheVariants.{Log};
 ghost use Rattle.frame_table.specs.Latches.{MayTake};
 ghost use Rattle.frame_table.specs.Seats.{CanTurn, IsSeat, base_of};
 ghost use Rattle.frame_table.specs.WordSteps.{load_counter, view_of, view_published};
+ghost use Rattle.wal_flush.specs.Flushes.{Flushed};
 
 use atomic_table::Seat;
 use frame_table::{EndLoad, FrameTable, Turn, Value};
@@ -14,6 +15,7 @@ use page_layout::Lsn;
 use pin_core::View;
 use segment_store::BlockLane;
 use std::sync::Wait;
+use wal_flush::{FlushLog, flush_to};
 
 /// The redo position is raised under the log's latch, and to the log's end (`CreateCheckPoint`
 /// stores `RedoRecPtr` while it holds all insertion locks).
@@ -50,6 +52,22 @@ pub fn load_redo<L: BlockLane, G: LogDevice, R: Wait>(
     let redo = table.load_redo(seat);
     table.leave_turn(seat, Turn::Log);
     redo
+}
+
+/// A flush of the log that is Ok has seen a flushed position that is as far, and that is raised
+/// only after a good sync (`XLogWrite` sets `LogwrtResult.Flush` after `issue_xlog_fsync`).
+pub fn flush_log<L: BlockLane, G: LogDevice, R: Wait>(
+    table: &FrameTable<L, G>,
+    rt: &R,
+    seat: &mut Seat<Value<L, G>, View>,
+    lsn: Lsn,
+) -> Result<(), FlushLog>
+    requires seat { IsSeat table.now seat.old }
+    requires turn { CanTurn table.now seat.old Log }
+    requires free { seat.old.me.0.log.held ≡ false }
+    ensures { IfOk result (λ _. Flushed lsn seat.old.me.0 seat.new.me.0) }
+{
+    flush_to(table, rt, seat, lsn)
 }
 
 /// What a backend adds to a counter is added once (`pgstat_count_io_op_n`).
