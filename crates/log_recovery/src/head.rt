@@ -9,12 +9,13 @@ use crate::error::RecoverError;
 use crate::records::position_in;
 use log_device::{Source, fill};
 use page_layout::Lsn;
+use table_rule::LAST_POSITION;
 
 /// The mark with which a log begins.
 const MARK: &[u8] = b"PGBUFLOG";
 
-/// The greatest position that a log may reach.
-pub(crate) const LAST_POSITION: Lsn = 1 << 62;
+/// How many bytes a log's head has: the mark, and the position at which the log begins.
+pub const HEAD_SIZE: usize = 16;
 
 /// The position in a log's head, if 16 bytes are one.
 pub(crate) fn base_in(head: &[u8]) -> Option<Lsn>
@@ -50,11 +51,11 @@ pub(crate) fn read_head<S: Source>(source: &mut S) -> Result<Option<Lsn>, Recove
     ensures quiet { OnOk result (S.faults source.new ≡ S.faults source.old) }
     ensures later { S.faults source.old ≤ S.faults source.new }
 {
-    let mut head = [0; 16];
+    let mut head = [0; HEAD_SIZE];
     let Ok(count) = fill(source, &mut head) else {
         return Err(RecoverError::ReadFault);
     };
-    if count < 16 {
+    if count < HEAD_SIZE {
         return Ok(None);
     }
     match base_in(&head) {

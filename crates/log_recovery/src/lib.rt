@@ -14,6 +14,7 @@ mod recovering;
 mod redo;
 
 pub use error::RecoverError;
+pub use head::HEAD_SIZE;
 pub use laws::{
     any_bytes_are_read, crashes_are_recovered, crashes_leave_logs, logs_are_read_once,
     parts_agree_elsewhere, recovered_twice, written_logs_are_read,

@@ -11,7 +11,6 @@ ghost use Rattle.log_recovery.specs.Steps.{HasNoRecord, HaveRedone, IsNextImage,
 ghost use Rattle.log_recovery.specs.Steps.{StepsOn};
 
 use crate::error::RecoverError;
-use crate::head::LAST_POSITION;
 use crate::records::{IMAGE_SIZE, image_in};
 use block_tag::{Catalog, Tag};
 use log_device::{Failed, Source, fill};
@@ -19,6 +18,7 @@ use page_layout::{Lsn, Page};
 use segment_store::BlockLane;
 use std::alloc::Global;
 use std::collections::BTreeSet;
+use table_rule::LAST_POSITION;
 
 /// Takes the next record, if it is one of a page that is well formed at the position `from`: its
 /// block, and its page. The bytes have no meaning before and after.

@@ -14,14 +14,12 @@ use backend_pass::{Config, Manager, Pass, StartRefused};
 use block_tag::{Catalog, Fork, RelEntry};
 use command_line::Options;
 use log_device::{LogDevice, LogPlan, MemLog};
+use log_recovery::HEAD_SIZE;
 use page_layout::Lsn;
 use segment_store::BlockLane;
 use std::alloc::{AllocError, Global};
 use table_rule::RECORD_SIZE;
 use wal_flush::begin_log;
-
-/// How many bytes a log's head has.
-const HEAD_SIZE: usize = 16;
 
 /// A fork of a relation: the relation's number, and how many blocks the fork has.
 #[derive(Clone, Copy)]
