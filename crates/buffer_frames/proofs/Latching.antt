@@ -25,12 +25,13 @@ use Rattle.buffer_frames.specs.Lookups.{UnderPartition}
 pub under_partition : (tag : Tag) (p : ℕ) (Work : View → View → Type 0) (v u x w : View) → p ≡ partition_number tag → DidTurn true (Partition p) v u → Work u x → DidTurn false (Partition p) x w → UnderPartition tag Work v w
 under_partition tag p Work v u x w e takes work leaves = record { took = u; done = x; takes = subst (λ (q : ℕ). DidTurn true (Partition q) v u) e takes; work = work; leaves = subst (λ (q : ℕ). DidTurn false (Partition q) x w) e leaves }
 
--- a backend without the latch of a device may take one of a lane, and one without any latch one of a partition
-pub may_take_lane : (q : ℕ) (v : View) → HasNoDevice v → MayTake (Lane q) v
-may_take_lane q v quiet = (quiet.free, ap (λ (h : LogHold). h.held) quiet.log)
+-- a backend without the latch of a device may take one of a lane, and one without any latch one of a
+-- partition; which one is the same
+pub may_take_lane : (v : View) → HasNoDevice v → MayTake (Lane 0) v
+may_take_lane v quiet = (quiet.free, ap (λ (h : LogHold). h.held) quiet.log)
 
-pub may_take_part : (p : ℕ) (v : View) → HasNoLatch v → HasNoDevice v → MayTake (Partition p) v
-may_take_part p v none quiet = (λ q. ap (λ (h : PartitionHold). h.held) (none q), quiet.free, ap (λ (h : LogHold). h.held) quiet.log)
+pub may_take_part : (v : View) → HasNoLatch v → HasNoDevice v → MayTake (Partition 0) v
+may_take_part v none quiet = (λ q. ap (λ (h : PartitionHold). h.held) (none q), quiet.free, ap (λ (h : LogHold). h.held) quiet.log)
 
 latch_left : (p : ℕ) (v w : View) → HasOneLatch p v → IsTurned false (Partition p) v w → HasNoLatch w
 latch_left p v w l turned q = dite (ℕ_discrete q p)

@@ -19,7 +19,7 @@ use Rattle.buffer_frames.specs.Keeps.{Keeps}
 use Rattle.buffer_frames.proofs.entering.enter_or_pin.Goals as goal
 
 pub take_counted-requires-clause-free : goal.take_counted-requires-clause-free
-take_counted-requires-clause-free g c = may_take_part _ _ c.requires.latches c.requires.stands.quiet
+take_counted-requires-clause-free g c = may_take_part _ c.requires.latches c.requires.stands.quiet
 
 pub returns-in_err-pin-clause-rests : goal.returns-in_err-pin-clause-rests
 returns-in_err-pin-clause-rests g c = none_if c.from_residual.result (links_same c.args.held.now c.enter_latched-entered.new.seat.me.0 c.give_turn.new.seat.me.0 (links_worked c.enter_latched-entered.new.seat.me.0 c.give_turn.new.seat.me.0 c.give_turn.ensures.work) c.in_err-pin.ensures.rests)

@@ -12,7 +12,7 @@ use Rattle.buffer_frames.proofs.Latching.{may_take_part}
 use Rattle.buffer_frames.proofs.erasing.erase.Goals as goal
 
 pub take_counted-requires-clause-free : goal.take_counted-requires-clause-free
-take_counted-requires-clause-free g c = may_take_part _ _ c.requires.latches c.requires.stands.quiet
+take_counted-requires-clause-free g c = may_take_part _ c.requires.latches c.requires.stands.quiet
 
 pub returns-clause-victim : goal.returns-clause-victim
 returns-clause-victim g c = victim_worked c.args.held.now c.args.frame c.erase_latched-erased.new.seat.me.0 c.give_turn.new.seat.me.0 (links_worked c.erase_latched-erased.new.seat.me.0 c.give_turn.new.seat.me.0 c.give_turn.ensures.work) c.erase_latched-erased.ensures.victim

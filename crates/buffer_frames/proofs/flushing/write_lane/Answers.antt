@@ -22,7 +22,7 @@ pub lane_out-out-requires-clause-held : goal.lane_out-out-requires-clause-held
 lane_out-out-requires-clause-held g c = lane_free _ c.args.seat.now.me.0 c.take_turn.new.seat.me.0 c.requires.stands.quiet c.take_turn.ensures.turned
 
 pub take_turn-requires-clause-free : goal.take_turn-requires-clause-free
-take_turn-requires-clause-free g c = may_take_lane _ _ c.requires.stands.quiet
+take_turn-requires-clause-free g c = may_take_lane _ c.requires.stands.quiet
 
 pub write-written-requires-clause-log_first : goal.write-written-requires-clause-log_first
 write-written-requires-clause-log_first g c = let o = c.lane_out-out.ensures in

@@ -7,7 +7,7 @@ use Rattle.buffer_frames.proofs.Latching.{may_take_lane}
 use Rattle.buffer_frames.proofs.lanes.sync_lane.Goals as goal
 
 pub take_turn-requires-clause-free : goal.take_turn-requires-clause-free
-take_turn-requires-clause-free g c = may_take_lane _ _ c.requires.stands.quiet
+take_turn-requires-clause-free g c = may_take_lane _ c.requires.stands.quiet
 
 pub returns-clause-left : goal.returns-clause-left
 returns-clause-left g c = record {

@@ -15,7 +15,7 @@ use Rattle.buffer_frames.proofs.Latching.{may_take_lane}
 use Rattle.buffer_frames.proofs.loading.read_lane.Goals as goal
 
 pub take_turn-requires-clause-free : goal.take_turn-requires-clause-free
-take_turn-requires-clause-free g c = may_take_lane _ _ c.requires.stands.quiet
+take_turn-requires-clause-free g c = may_take_lane _ c.requires.stands.quiet
 
 pub lane_out-out-requires-clause-held : goal.lane_out-out-requires-clause-held
 lane_out-out-requires-clause-held g c = lane_free _ c.args.seat.now.me.0 c.take_turn.new.seat.me.0 c.requires.stands.quiet c.take_turn.ensures.turned

@@ -12,7 +12,7 @@ use Rattle.buffer_frames.proofs.Keeps.{keeps_latched}
 use Rattle.buffer_frames.proofs.lookup.search.Goals as goal
 
 pub take_counted-requires-clause-free : goal.take_counted-requires-clause-free
-take_counted-requires-clause-free g c = may_take_part _ _ c.requires.ready.latches c.requires.ready.stands.quiet
+take_counted-requires-clause-free g c = may_take_part _ c.requires.ready.latches c.requires.ready.stands.quiet
 
 pub returns-clause-pinned : goal.returns-clause-pinned
 returns-clause-pinned g c = some_to c.pin_mapped-pinned.result (λ (p : Pin). pins_worked c.args.held.now (packed_tag c.args.tag.now) p.frame c.pin_mapped-pinned.new.seat.me.0 c.give_turn.new.seat.me.0 (links_worked c.pin_mapped-pinned.new.seat.me.0 c.give_turn.new.seat.me.0 c.give_turn.ensures.work)) c.pin_mapped-pinned.ensures.pinned
