@@ -47,6 +47,16 @@ one_chunk n c = append-nil (blocks_of n c)
 pub blocks_more : (n : ℕ) (cs : List ℕ) (c : ℕ) → blocks_in_all n (cs ++ c ∷ []) ≡ blocks_in_all n cs ++ blocks_of n c
 blocks_more n cs c = blocks_append n cs (c ∷ []) ∙ ap (λ (l : List ℕ). blocks_in_all n cs ++ l) (one_chunk n c)
 
+-- the first of some blocks, and those after them
+pub blocks_apart : (block first others : ℕ) → blocks_from block (first + others) ≡ blocks_from block first ++ blocks_from (block + first) others
+blocks_apart block zero others =
+    ap (blocks_from block) (let e : zero + others ≡ others = omega arith in e)
+    ∙ ap (λ (b : ℕ). blocks_from b others) (let e : block ≡ block + zero = omega arith in e)
+blocks_apart block (suc first) others =
+    ap (blocks_from block) (let e : suc first + others ≡ suc (first + others) = omega arith in e)
+    ∙ ap (λ (l : List ℕ). block ∷ l) (blocks_apart (block + 1) first others)
+    ∙ ap (λ (b : ℕ). (block ∷ blocks_from (block + 1) first) ++ blocks_from b others) (let e : block + 1 + first ≡ block + suc first = omega arith in e)
+
 length_from : (a m : ℕ) → length (blocks_from a m) ≡ m
 length_from a zero = refl
 length_from a (suc m) = ap suc (length_from (a + 1) m)

@@ -1,5 +1,5 @@
 -- What a scan's or a dump's workers did with the chunks that they claimed.
-use Rattle.std.proofs.Common.{◌≡◌, ℕ, zero, suc, ◌+◌, ◌-◌, ◌<◌, ◌≤◌, List, [], ◌∷◌, ◌++◌, length, Option, Result, Ok, Err, refl, sym, ap, ◌∙◌, subst, arith, add-zero, append_assoc, inl, inr}
+use Rattle.std.proofs.Common.{◌≡◌, ℕ, suc, ◌+◌, ◌-◌, ◌<◌, ◌≤◌, List, [], ◌∷◌, ◌++◌, length, Option, Result, Ok, Err, refl, sym, ap, ◌∙◌, subst, arith, add-zero, append_assoc, inl, inr}
 use Rattle.std.specs.Prelude.{All, IfErr, OnOk}
 use Rattle.std.proofs.lemmas.List.{append-nil, length-append}
 use Rattle.std.proofs.lemmas.Result.{on_ok_weaker}
@@ -31,27 +31,15 @@ use Rattle.page_jobs.specs.Reads.{HasNoTokens, IsKnown, IsWithinFront}
 use Rattle.page_jobs.specs.Working.{DoesBlocks, DoesChunk, DoesChunks, EndsAfter, FailsAtBlock, IsAtEnd, WorksChunk, WorksChunks}
 use Rattle.page_jobs.proofs.Ascending.{ascend_front}
 use Rattle.page_jobs.proofs.BlockWork.{HasListed, all_short, listed, listed_none, listed_on, listed_short, listed_whole, lists_none, lists_on, lists_wider, totals_long}
-use Rattle.page_jobs.proofs.ClaimedChunks.{IsOfDrawn, blocks_more, chunks_below, drawn_few, drawn_none, drawn_to_end, drawn_to_fault, drew_past}
+use Rattle.page_jobs.proofs.ClaimedChunks.{IsOfDrawn, blocks_apart, blocks_more, chunks_below, drawn_few, drawn_none, drawn_to_end, drawn_to_fault, drew_past}
 use Rattle.page_jobs.proofs.Sums.{sum_none, within_none}
-
--- some blocks, and so many after them
-blocks_both : (from n k : ℕ) → blocks_from from (n + k) ≡ blocks_from from n ++ blocks_from (from + n) k
-blocks_both from zero k =
-    let none : zero + k ≡ k = omega arith in
-    ap (λ (j : ℕ). blocks_from from j) none ∙ ap (λ (b : ℕ). blocks_from b k) (sym (add-zero from))
-blocks_both from (suc n) k =
-    let more : suc n + k ≡ suc (n + k) = omega arith in
-    let at : from + 1 + n ≡ from + suc n = omega arith in
-    ap (λ (j : ℕ). blocks_from from j) more
-    ∙ ap (λ (l : List ℕ). from ∷ l) (blocks_both (from + 1) n k)
-    ∙ ap (λ (b : ℕ). from ∷ (blocks_from (from + 1) n ++ blocks_from b k)) at
 
 -- the blocks up to one, and those after it
 blocks_until : (from many size : ℕ) → many < size → blocks_from from size ≡ (blocks_from from many ++ (from + many) ∷ []) ++ blocks_from (from + many + 1) (size - many - 1)
 blocks_until from many size below =
     let all : size ≡ many + suc (size - many - 1) = omega (arith, below) in
     ap (λ (j : ℕ). blocks_from from j) all
-    ∙ blocks_both from many (suc (size - many - 1))
+    ∙ blocks_apart from many (suc (size - many - 1))
     ∙ sym (append_assoc (blocks_from from many) ((from + many) ∷ []) (blocks_from (from + many + 1) (size - many - 1)))
 
 -- what holds of an end that is well

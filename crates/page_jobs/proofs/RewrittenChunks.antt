@@ -1,5 +1,5 @@
 -- What a rewrite's workers did with the chunks that they claimed.
-use Rattle.std.proofs.Common.{◌≡◌, ℕ, zero, suc, ◌+◌, ◌-◌, ◌<◌, ◌≤◌, List, [], ◌∷◌, ◌++◌, length, Option, Result, Ok, Err, refl, sym, ap, ◌∙◌, subst, arith, inl, inr}
+use Rattle.std.proofs.Common.{◌≡◌, ℕ, suc, ◌+◌, ◌-◌, ◌<◌, ◌≤◌, List, [], ◌∷◌, ◌++◌, length, Option, Result, Ok, Err, refl, sym, ap, ◌∙◌, subst, arith, inl, inr}
 use Rattle.std.specs.Prelude.{All, IfErr, OnOk}
 use Rattle.std.proofs.lemmas.List.{append-nil}
 use Rattle.std.proofs.lemmas.Result.{on_ok_weaker}
@@ -24,19 +24,9 @@ use Rattle.page_jobs.specs.Rewrites.{AreOf, Outcome, outcome_totals}
 use Rattle.page_jobs.specs.Rewriting.{CountsRewrites, EndsRewriteFor, RewritesBlocks, RewritesWhole}
 use Rattle.page_jobs.specs.Working.{DoesBlocks, DoesChunk, DoesChunks, EndsAfter, FailsAtBlock, WorksChunk, WorksChunks}
 use Rattle.page_jobs.proofs.Ascending.{ascend_front}
-use Rattle.page_jobs.proofs.ClaimedChunks.{IsOfDrawn, blocks_append, chunks_below, drawn_few, drawn_none, drawn_to_end, drawn_to_fault, drew_past, one_chunk}
+use Rattle.page_jobs.proofs.ClaimedChunks.{IsOfDrawn, blocks_apart, blocks_append, chunks_below, drawn_few, drawn_none, drawn_to_end, drawn_to_fault, drew_past, one_chunk}
 use Rattle.page_jobs.proofs.RewriteSums.{none_within, rewrites_first}
 use Rattle.page_jobs.proofs.RewrittenBlocks.{of_few, rewrites_nothing, rewrites_on, rewrites_past, rewrites_wider}
-
--- the first of some blocks, and those after them
-blocks_apart : (block first others : ℕ) → blocks_from block (first + others) ≡ blocks_from block first ++ blocks_from (block + first) others
-blocks_apart block zero others =
-    ap (blocks_from block) (let e : zero + others ≡ others = omega arith in e)
-    ∙ ap (λ (b : ℕ). blocks_from b others) (let e : block ≡ block + zero = omega arith in e)
-blocks_apart block (suc first) others =
-    ap (blocks_from block) (let e : suc first + others ≡ suc (first + others) = omega arith in e)
-    ∙ ap (λ (l : List ℕ). block ∷ l) (blocks_apart (block + 1) first others)
-    ∙ ap (λ (b : ℕ). (block ∷ blocks_from (block + 1) first) ++ blocks_from b others) (let e : block + 1 + first ≡ block + suc first = omega arith in e)
 
 abbrev claim_of : List ℕ → List Outcome → Claimed Outcome
 claim_of chunks items = record { chunks = chunks; items = items }
