@@ -23,7 +23,8 @@ use Rattle.page_jobs.specs.Relations.{MeetNothing}
 
 module _ {L G : Type 0} (contents : L → Option Pages) (m : Manager L G) (rel : ℕ) (fork : Fork)
     (lines : Lines) (did : PassState → PassState → Type 0) (all : List PassState) where
-  -- The scan or the dump came to this: the passes, what was put, the output's faults, and the end
+  -- A scan or a dump of all blocks of a fork, by all of these passes, of which the last one worked
+  -- beside: what the passes read, what was put, the output's faults, and how it ended
   pub record IsListed (qs : List PassState) (old new : Option (List ℕ)) (outs outs_now : ℕ)
       (r : Result Totals JobError) : Type 0 where
     pub passes : ReadParts contents m rel fork (workers_in all) (workers_in qs)
@@ -31,6 +32,7 @@ module _ {L G : Type 0} (contents : L → Option Pages) (m : Manager L G) (rel :
     pub met : OnOk r (MeetNothing all qs)
     pub beside : OnOk r (LastDid did all qs)
     pub done : IfOk r (ReadsAll contents m rel fork (workers_in all) (workers_in qs))
+    -- the texts of chunks that were put have a line for each of their blocks, in order
     pub puts : PutsTexts contents m rel fork lines (workers_in all) (workers_in qs) old new r
     pub totals : (pages : List Page) → IsOrigin contents m rel fork pages
         → AllAtBase (base_of m.table) (workers_in qs)
@@ -40,7 +42,12 @@ module _ {L G : Type 0} (contents : L → Option Pages) (m : Manager L G) (rel :
         → Puts (text_of_pages lines pages) old new (as_done r)
     pub quiet : OnOk r (outs_now ≡ outs)
     pub later : outs ≤ outs_now
+    -- with an error other than the output's, the output's count of faults is as it was
     pub steady : IfErr r (λ e. (e ≡ OutFault) ⊎ (outs_now ≡ outs))
     pub cause : IfErr r (EndsJob contents m rel fork all qs outs outs_now)
+    -- if no device fails for any of the passes, it ends well, out of memory, or at a page past the
+    -- log's end
     pub short : NoDeviceFailsIn all qs → OutIsQuiet outs outs_now → IsDoneShortOrMemory r
+    -- if, besides, no page has a position past the log's end that the passes had seen, it ends well
+    -- or out of memory
     pub complete : NothingFailsIn contents m all qs → OutIsQuiet outs outs_now → IsDoneOrMemory r

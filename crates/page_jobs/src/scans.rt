@@ -4,28 +4,15 @@
 //! line `PutsTexts` says that it is sound, and that it is the block's page at the opening if it was
 //! read at the log's base. If all passes are at the base at the end, the text is that of the pages
 //! at the opening. The totals' line is tied to what the passes read.
-ghost use Rattle.std.specs.Prelude.{◌≡◌, ℕ, ◌+◌, ◌-◌, ◌<◌, ◌≤◌, ◌⊎◌, List, [], Ok, IfErr, IfOk};
-ghost use Rattle.std.specs.Prelude.{OnOk, length, vec_len};
+ghost use Rattle.std.specs.Prelude.{◌≡◌, ℕ, ◌+◌, ◌-◌, ◌<◌, ◌≤◌, List, [], Ok, length, vec_len};
 ghost use mathlib.Core.Option.{some};
 ghost use lib.ListN.{get_elem?};
-ghost use Rattle.page_layout.specs.Dump.{dump_text};
-ghost use Rattle.page_layout.specs.Scan.{scan_text, totals_of};
-ghost use Rattle.pin_core.specs.State.{Page};
-ghost use Rattle.log_device.specs.Bytes.{Puts};
-ghost use Rattle.frame_table.specs.Seats.{base_of};
 ghost use Rattle.backend_pass.specs.Passes.{PassState};
-ghost use Rattle.page_jobs.specs.declared.ending.JobError.TheVariants.{OutFault};
 ghost use Rattle.page_jobs.specs.declared.printing.Lines.TheVariants.{Dump, Scan};
-ghost use Rattle.page_jobs.specs.Beside.{LastDid, StaysBeside};
 ghost use Rattle.page_jobs.specs.ChunkTexts.{IsChunkText, job_of};
-ghost use Rattle.page_jobs.specs.Completeness.{IsDoneOrMemory, IsDoneShortOrMemory};
-ghost use Rattle.page_jobs.specs.Completeness.{NoDeviceFailsIn, NothingFailsIn, OutIsQuiet};
-ghost use Rattle.page_jobs.specs.Ending.{as_done, totals_of_scan};
-ghost use Rattle.page_jobs.specs.Jobs.{AllAtBase, EndsJob, HaveNoTokens, IsOrigin, PutsTexts};
-ghost use Rattle.page_jobs.specs.Jobs.{ReadParts, ReadsAll, workers_in};
+ghost use Rattle.page_jobs.specs.Jobs.{HaveNoTokens};
 ghost use Rattle.page_jobs.specs.Listings.{IsListed};
 ghost use Rattle.page_jobs.specs.Parts.{blocks_in};
-ghost use Rattle.page_jobs.specs.Relations.{MeetNothing};
 
 use crate::beside::Beside;
 use crate::ending::{JobEnd, JobError};
@@ -260,38 +247,10 @@ pub fn scan<
     requires several { 2 ≤ vec_len passes }
     requires few { vec_len passes ≤ 64 }
     requires free { HaveNoTokens L.contents manager.now passes.items }
-    ensures passes { ReadParts L.contents manager.now rel.0 fork
-        (workers_in passes.items) (workers_in result.passes.items) }
-    ensures last { StaysBeside L.contents manager.now passes.items result.passes.items }
-    ensures met { OnOk result.end (MeetNothing passes.items result.passes.items) }
-    ensures beside { OnOk result.end (LastDid
-        (λ p q. B.works manager.now beside.old beside.new p q (Ok tt))
-        passes.items result.passes.items) }
-    ensures done { IfOk result.end (ReadsAll L.contents manager.now rel.0 fork
-        (workers_in passes.items) (workers_in result.passes.items)) }
-    // The texts of chunks that were put have a line for each of their blocks, in order.
-    ensures puts { PutsTexts L.contents manager.now rel.0 fork Scan
-        (workers_in passes.items) (workers_in result.passes.items)
-        (O.bytes out.old) (O.bytes out.new) result.end }
-    ensures totals { (pages : List Page) → IsOrigin L.contents manager.now rel.0 fork pages
-        → AllAtBase (base_of manager.now.table) (workers_in result.passes.items)
-        → IfOk result.end (λ totals. totals ≡ totals_of_scan (totals_of pages)) }
-    ensures text { (pages : List Page) → IsOrigin L.contents manager.now rel.0 fork pages
-        → AllAtBase (base_of manager.now.table) (workers_in result.passes.items)
-        → Puts (scan_text pages) (O.bytes out.old) (O.bytes out.new) (as_done result.end) }
-    ensures quiet { OnOk result.end (O.faults out.new ≡ O.faults out.old) }
-    ensures later { O.faults out.old ≤ O.faults out.new }
-    // With any other error the output's count of faults is as it was.
-    ensures steady { IfErr result.end
-        (λ e. (e ≡ OutFault) ⊎ (O.faults out.new ≡ O.faults out.old)) }
-    ensures cause { IfErr result.end (EndsJob L.contents manager.now rel.0 fork
-        passes.items result.passes.items (O.faults out.old) (O.faults out.new)) }
-    // If no device fails for any of the passes, it ends well, out of memory, or at a page past the
-    // log's end.
-    ensures short { NoDeviceFailsIn passes.items result.passes.items
-        → OutIsQuiet (O.faults out.old) (O.faults out.new) → IsDoneShortOrMemory result.end }
-    ensures complete { NothingFailsIn L.contents manager.now passes.items result.passes.items
-        → OutIsQuiet (O.faults out.old) (O.faults out.new) → IsDoneOrMemory result.end }
+    ensures { IsListed L.contents manager.now rel.0 fork Scan
+        (λ p q. B.works manager.now beside.old beside.new p q (Ok tt)) passes.items
+        result.passes.items (O.bytes out.old) (O.bytes out.new)
+        (O.faults out.old) (O.faults out.new) result.end }
 {
     let blocks = ForkBlocks { rel, fork };
     list_fork(
@@ -330,38 +289,10 @@ pub fn dump<
     requires several { 2 ≤ vec_len passes }
     requires few { vec_len passes ≤ 64 }
     requires free { HaveNoTokens L.contents manager.now passes.items }
-    ensures passes { ReadParts L.contents manager.now rel.0 fork
-        (workers_in passes.items) (workers_in result.passes.items) }
-    ensures last { StaysBeside L.contents manager.now passes.items result.passes.items }
-    ensures met { OnOk result.end (MeetNothing passes.items result.passes.items) }
-    ensures beside { OnOk result.end (LastDid
-        (λ p q. B.works manager.now beside.old beside.new p q (Ok tt))
-        passes.items result.passes.items) }
-    ensures done { IfOk result.end (ReadsAll L.contents manager.now rel.0 fork
-        (workers_in passes.items) (workers_in result.passes.items)) }
-    // The texts of chunks that were put have a line for each of their blocks, in order.
-    ensures puts { PutsTexts L.contents manager.now rel.0 fork Dump
-        (workers_in passes.items) (workers_in result.passes.items)
-        (O.bytes out.old) (O.bytes out.new) result.end }
-    ensures totals { (pages : List Page) → IsOrigin L.contents manager.now rel.0 fork pages
-        → AllAtBase (base_of manager.now.table) (workers_in result.passes.items)
-        → IfOk result.end (λ totals. totals ≡ totals_of_scan (totals_of pages)) }
-    ensures text { (pages : List Page) → IsOrigin L.contents manager.now rel.0 fork pages
-        → AllAtBase (base_of manager.now.table) (workers_in result.passes.items)
-        → Puts (dump_text pages) (O.bytes out.old) (O.bytes out.new) (as_done result.end) }
-    ensures quiet { OnOk result.end (O.faults out.new ≡ O.faults out.old) }
-    ensures later { O.faults out.old ≤ O.faults out.new }
-    // With any other error the output's count of faults is as it was.
-    ensures steady { IfErr result.end
-        (λ e. (e ≡ OutFault) ⊎ (O.faults out.new ≡ O.faults out.old)) }
-    ensures cause { IfErr result.end (EndsJob L.contents manager.now rel.0 fork
-        passes.items result.passes.items (O.faults out.old) (O.faults out.new)) }
-    // If no device fails for any of the passes, it ends well, out of memory, or at a page past the
-    // log's end.
-    ensures short { NoDeviceFailsIn passes.items result.passes.items
-        → OutIsQuiet (O.faults out.old) (O.faults out.new) → IsDoneShortOrMemory result.end }
-    ensures complete { NothingFailsIn L.contents manager.now passes.items result.passes.items
-        → OutIsQuiet (O.faults out.old) (O.faults out.new) → IsDoneOrMemory result.end }
+    ensures { IsListed L.contents manager.now rel.0 fork Dump
+        (λ p q. B.works manager.now beside.old beside.new p q (Ok tt)) passes.items
+        result.passes.items (O.bytes out.old) (O.bytes out.new)
+        (O.faults out.old) (O.faults out.new) result.end }
 {
     let blocks = ForkBlocks { rel, fork };
     list_fork(
