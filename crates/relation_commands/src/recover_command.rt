@@ -37,7 +37,8 @@ fn redo_lanes<L: BlockLane, S: Source>(
     requires some { 0 < length lanes.old }
     requires placed { HoldTheirs (map L.contents lanes.old) }
     ensures { EndsRedo L.contents L.failed_writes L.room L.read_faults L.write_faults
-        S.left S.faults (catalog_of request.now.path.now) lanes.old lanes.new source.old source.new result }
+        S.left S.faults (catalog_of request.now.path.now) lanes.old lanes.new source.old
+        source.new result }
 {
     let relation = RelationFork {
         number: request.number,

@@ -35,8 +35,8 @@ pub fn raise_redo<L: BlockLane, G: LogDevice, R: Wait>(
     table.leave_turn(seat, Turn::Log);
 }
 
-/// The redo position is loaded under the log's latch (`XLogInsertRecord` looks at `RedoRecPtr` again
-/// while it holds an insertion lock), so it stands until the latch is left.
+/// The redo position is loaded under the log's latch (`XLogInsertRecord` looks at `RedoRecPtr`
+/// again while it holds an insertion lock), so it stands until the latch is left.
 pub fn load_redo<L: BlockLane, G: LogDevice, R: Wait>(
     table: &FrameTable<L, G>,
     rt: &R,
