@@ -18,6 +18,9 @@ returns-then-eq-clause-pinned g c = let k = c.in-Ok.ensures in let l = c.load_ta
 pub give_back-requires-clause-stands : goal.give_back-requires-clause-stands
 give_back-requires-clause-stands g c = let k = c.in-Ok.ensures in let l = c.load_tag.ensures in (and_touched (and_touched (ready_keeps c.requires.ready) c.args.frame k.seat k.touches k.marks k.pinned.content) c.args.frame l.seat l.touches l.marks (ap (λ (x : Link). x.content) l.read)).stands
 
+pub give_back-requires-clause-latches : goal.give_back-requires-clause-latches
+give_back-requires-clause-latches g c = let k = c.in-Ok.ensures in let l = c.load_tag.ensures in (and_touched (and_touched (ready_keeps c.requires.ready) c.args.frame k.seat k.touches k.marks k.pinned.content) c.args.frame l.seat l.touches l.marks (ap (λ (x : Link). x.content) l.read)).latches
+
 pub give_back-requires-clause-pinned : goal.give_back-requires-clause-pinned
 give_back-requires-clause-pinned g c = let k = c.in-Ok.ensures in let l = c.load_tag.ensures in
     subst (λ (f : ℕ). Pins (packed_tag c.in-Some.other) f c.args.held.now c.load_tag.new.seat.me.0) (sym k.pin)
