@@ -18,7 +18,7 @@ use Rattle.atomic_table.specs.contracts.shared.Shared as shared
 use Rattle.atomic_table.proofs.Rights.{right_send}
 use Rattle.atomic_table.proofs.Sent.{badge_keyless, seat_keyless, shares_keyless}
 use Rattle.segment_store.specs.declared.device.BlockLane as block_lane
-use Rattle.log_device.specs.declared.device.LogDevice as log_device
+use Rattle.byte_devices.specs.declared.device.LogDevice as log_device
 use Rattle.table_rule.specs.contracts.value.Value as value
 use Rattle.backend_pass.specs.contracts.manager.Manager as manager
 use Rattle.backend_pass.specs.contracts.pass.Pass as pass

@@ -6,7 +6,7 @@ use Rattle.atomic_table.specs.declared.badge.Badge.{Badge}
 use Rattle.atomic_table.specs.declared.shared.Seat.{Seat}
 use Rattle.block_tag.specs.declared.tag.Tag.{Tag}
 use Rattle.block_tag.specs.Names.{names_block}
-use Rattle.log_device.specs.declared.device.Failed.{Failed}
+use Rattle.byte_devices.specs.declared.device.Failed.{Failed}
 use Rattle.pin_core.specs.declared.view.View.{View}
 use Rattle.pin_core.specs.State.{lane_hold, link}
 use Rattle.page_core.specs.Kinds.{need_checkpoint}

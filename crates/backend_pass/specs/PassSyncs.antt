@@ -1,6 +1,6 @@
 -- What a pass shows once a frame's page was to be written, the log flushed or a lane synced.
 use Rattle.std.specs.Prelude.{Result, Ok, Err}
-use Rattle.log_device.specs.declared.device.Failed.{Failed}
+use Rattle.byte_devices.specs.declared.device.Failed.{Failed}
 use Rattle.wal_flush.specs.declared.flushes.FlushLog.{FlushLog}
 use Rattle.wal_flush.specs.declared.flushes.FlushLog.TheVariants.{LogShort, LogDown, LogFault}
 use Rattle.buffer_frames.specs.declared.syncing.Synced.{Synced}

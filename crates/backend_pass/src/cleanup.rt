@@ -6,8 +6,8 @@ use crate::pass::Pass;
 use crate::pinned::Pinned;
 use crate::seats::{return_seat, take_seat};
 use crate::tokens::Exclusive;
+use byte_devices::LogDevice;
 use cleanup_lock::{CleanupError, TryCleanup, lock, try_lock};
-use log_device::LogDevice;
 use segment_store::BlockLane;
 use std::sync::Wait;
 

@@ -14,9 +14,9 @@ use crate::manager::Manager;
 use crate::pass::Pass;
 use atomic_table::Seat;
 use buffer_frames::Backend;
+use byte_devices::LogDevice;
 use clock_sweep::QueuePass;
 use frame_table::Value;
-use log_device::LogDevice;
 use pin_core::View;
 use segment_store::BlockLane;
 

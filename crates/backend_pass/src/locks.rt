@@ -10,8 +10,8 @@ use crate::pass::Pass;
 use crate::pinned::Pinned;
 use crate::seats::{return_seat, take_seat};
 use crate::tokens::{Exclusive, Shared};
+use byte_devices::LogDevice;
 use content_locks::{TryLock, exclusive, share, try_exclusive, try_share, unexclusive, unshare};
-use log_device::LogDevice;
 use segment_store::BlockLane;
 use std::sync::Wait;
 

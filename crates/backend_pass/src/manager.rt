@@ -11,9 +11,9 @@ use crate::pass::Pass;
 use crate::pool_memory::PoolMemory;
 use crate::seating::seat_passes;
 use block_tag::Catalog;
+use byte_devices::LogDevice;
 use clock_sweep::Sweep;
 use frame_table::{BuildRefused, Config, FrameTable};
-use log_device::LogDevice;
 use segment_store::BlockLane;
 use std::alloc::Global;
 

@@ -6,7 +6,7 @@ ghost use Rattle.frame_table.specs.Seats.{frames_of, lanes_in, relations_of};
 
 use crate::manager::Manager;
 use block_tag::{Fork, RelNo, Tag};
-use log_device::LogDevice;
+use byte_devices::LogDevice;
 use segment_store::BlockLane;
 
 impl<L: BlockLane, G: LogDevice> Manager<L, G> {

@@ -29,8 +29,8 @@ use buffer_frames::{
     Backend, BlockError, FrameFlushError, HeldPins, HintSeen, MOST_TOKENS, PinnedBlock,
     VictimError, read_block,
 };
+use byte_devices::LogDevice;
 use crossbeam_utils::CachePadded;
-use log_device::LogDevice;
 use pin_core::View;
 use segment_store::BlockLane;
 use std::sync::Wait;

@@ -17,10 +17,10 @@ use crate::pass_memory::PassMemory;
 use crate::seats::{return_seat, take_seat};
 use atomic_table::Seat;
 use buffer_frames::{Backend, HintSeen, Sought};
+use byte_devices::LogDevice;
 use clock_sweep::QueuePass;
 use crossbeam_utils::CachePadded;
 use frame_table::Value;
-use log_device::LogDevice;
 use pin_core::View;
 use segment_store::BlockLane;
 

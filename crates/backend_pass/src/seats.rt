@@ -4,8 +4,8 @@ ghost use Rattle.backend_pass.specs.Passes.{view_in};
 ghost use Rattle.backend_pass.specs.Seats.{HasSeat};
 
 use atomic_table::{Badge, Seat};
+use byte_devices::LogDevice;
 use frame_table::Value;
-use log_device::LogDevice;
 use pin_core::View;
 use segment_store::BlockLane;
 use std::mem::replace;

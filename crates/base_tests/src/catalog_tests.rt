@@ -2,7 +2,7 @@
 use crate::checks::{check, check_eq};
 use crate::growth_tests::{had_all, put_file, put_files};
 use block_tag::{Fork, RelNo, Tag};
-use log_device::Failed;
+use byte_devices::Failed;
 use page_layout::Page;
 use segment_files::{CatalogFile, FileHost, FileLane};
 use segment_store::{BlockLane, Host, HostError, LogOpen};

@@ -1,7 +1,7 @@
 //! Lanes over files that count their syncs, and of which no byte can be read or written.
 use crate::checks::check_eq;
 use block_tag::{Fork, RelNo, Tag};
-use log_device::Failed;
+use byte_devices::Failed;
 use page_layout::Page;
 use segment_files::{FileHost, FileLane};
 use segment_store::{BlockLane, Host};

@@ -3,7 +3,7 @@ ghost use Rattle.std.specs.Prelude.{◌≤◌};
 
 use crate::checks::{check, check_eq};
 use block_tag::{Fork, RelNo, Tag};
-use log_device::{Failed, Source};
+use byte_devices::{Failed, Source};
 use page_layout::Page;
 use segment_files::{FileHost, FileLane};
 use segment_store::{BlockLane, Host, HostError};

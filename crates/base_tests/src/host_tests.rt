@@ -2,7 +2,7 @@
 use crate::checks::check_eq;
 use crate::growth_tests::runs_of;
 use block_tag::{Fork, RelNo, Tag};
-use log_device::{Failed, FaultPlan, LogDevice, LogPlan};
+use byte_devices::{Failed, FaultPlan, LogDevice, LogPlan};
 use page_layout::Page;
 use segment_store::{
     BlockLane, Host, HostError, LanePlan, LogOpen, MemFile, MemHost, MemLane, MemLogs, SourcePlan,

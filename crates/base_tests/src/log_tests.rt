@@ -1,7 +1,7 @@
 //! Failures that leave a part, a writer that takes little, a file that counts its syncs, and
 //! sources of which a call fails.
 use crate::checks::{check, check_eq};
-use log_device::{
+use byte_devices::{
     Failed, FaultPlan, FileLog, FileSource, LogDevice, LogPlan, MemLog, MemSink, MemSource, Sink,
     Source, StdSink,
 };

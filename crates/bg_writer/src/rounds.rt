@@ -15,7 +15,7 @@ ghost use Rattle.bg_writer.specs.Rounds.{Rounds, pages_written_for};
 
 use crate::reports::Round;
 use backend_pass::{FlushError, Manager, Pass, SyncOnly, Synced};
-use log_device::LogDevice;
+use byte_devices::LogDevice;
 use segment_store::BlockLane;
 use std::sync::Wait;
 

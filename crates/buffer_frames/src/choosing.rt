@@ -17,9 +17,9 @@ ghost use Rattle.buffer_frames.specs.VictimChoices.{ChoosesVictim, choice_state}
 use crate::pins::HeldPins;
 use access_rings::Ring;
 use atomic_table::Seat;
+use byte_devices::LogDevice;
 use clock_sweep::{Census, NoUnpinned, QueuePass, Sweep, victim};
 use frame_table::{FrameTable, Pin, Value};
-use log_device::LogDevice;
 use pin_core::View;
 use segment_store::BlockLane;
 use std::sync::Wait;

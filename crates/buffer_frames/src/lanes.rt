@@ -9,8 +9,8 @@ ghost use Rattle.buffer_frames.specs.Rests.{Stands};
 ghost use Rattle.buffer_frames.specs.Syncs.{LeavesLane, synced_work};
 
 use atomic_table::Seat;
+use byte_devices::{Failed, LogDevice};
 use frame_table::{FrameTable, Turn, Value};
-use log_device::{Failed, LogDevice};
 use pin_core::View;
 use segment_store::BlockLane;
 use std::sync::Wait;

@@ -10,9 +10,9 @@ ghost use Rattle.buffer_frames.specs.PageReads.{OnlyReads, ReadsPage, ReadsUnder
 
 use atomic_table::Seat;
 use block_tag::Tag;
+use byte_devices::LogDevice;
 use content_locks::{copy_out, share, unshare};
 use frame_table::{EndLoad, FrameTable, Value};
-use log_device::LogDevice;
 use page_layout::{Lsn, Page};
 use pin_core::View;
 use segment_store::BlockLane;

@@ -13,8 +13,8 @@ ghost use Rattle.buffer_frames.specs.Syncs.{ShowsTag};
 
 use atomic_table::Seat;
 use block_tag::Tag;
+use byte_devices::LogDevice;
 use frame_table::{FrameTable, Value};
-use log_device::LogDevice;
 use pin_core::View;
 use segment_store::BlockLane;
 

@@ -16,7 +16,7 @@ use crate::lanes::sync_lanes;
 use crate::marking::mark_frames;
 use crate::writing::write_marked;
 use backend_pass::{Manager, Pass};
-use log_device::LogDevice;
+use byte_devices::LogDevice;
 use segment_store::BlockLane;
 use std::sync::Wait;
 

@@ -7,7 +7,7 @@ ghost use Rattle.checkpointer.specs.Refusals.{StopsSyncing};
 ghost use Rattle.checkpointer.specs.Stages.{SyncsLanes};
 
 use backend_pass::{Manager, Pass};
-use log_device::{Failed, LogDevice};
+use byte_devices::{Failed, LogDevice};
 use segment_store::BlockLane;
 use std::sync::Wait;
 

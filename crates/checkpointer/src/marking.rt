@@ -9,7 +9,7 @@ ghost use Rattle.checkpointer.specs.Marked.{ListsDirty, NotesInOrder};
 ghost use Rattle.checkpointer.specs.Stages.{MarksFrames};
 
 use backend_pass::{Manager, MarkedFrame, Pass};
-use log_device::LogDevice;
+use byte_devices::LogDevice;
 use segment_store::BlockLane;
 use std::sync::Wait;
 

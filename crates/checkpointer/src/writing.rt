@@ -14,7 +14,7 @@ ghost use Rattle.checkpointer.specs.Writes.{SyncsUntilPassed, SyncsWhileNeeded, 
 ghost use Rattle.checkpointer.specs.Writes.{WritesUpTo};
 
 use backend_pass::{FlushError, Manager, Pass, SyncOnly, Synced};
-use log_device::LogDevice;
+use byte_devices::LogDevice;
 use segment_store::BlockLane;
 use std::sync::Wait;
 

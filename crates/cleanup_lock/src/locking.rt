@@ -17,9 +17,9 @@ ghost use Rattle.frame_table.specs.Seats.{CanStep, Looked, SameMarks, SameSeat, 
 ghost use Rattle.cleanup_lock.specs.Cleanup.{Attempted, CanLockForCleanup, ChangesContent, GrantsCleanup, LooksUnderBoth, RefusesCleanup, WaitsUntilOver, is_waiter, local_pins, refused_tokens, unawaited_link};
 
 use atomic_table::Seat;
+use byte_devices::LogDevice;
 use content_locks::{exclusive, unexclusive};
 use frame_table::{FrameTable, Value};
-use log_device::LogDevice;
 use pin_core::View;
 use segment_store::BlockLane;
 use state_word::{Flag, has, pins, waiter};

@@ -6,9 +6,9 @@ ghost use Rattle.frame_table.specs.Seats.{CanStep, Looked, SameMarks, SameSeat, 
 ghost use Rattle.cleanup_lock.specs.Cleanup.{CanLockForCleanup, GrantsTry, RefusesTry, refused_tokens, tried_local_pins};
 
 use atomic_table::Seat;
+use byte_devices::LogDevice;
 use content_locks::{TryLock, try_exclusive, unexclusive};
 use frame_table::{FrameTable, Value};
-use log_device::LogDevice;
 use pin_core::View;
 use segment_store::BlockLane;
 use state_word::pins;

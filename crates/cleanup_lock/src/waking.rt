@@ -12,8 +12,8 @@ ghost use Rattle.frame_table.specs.Seats.{CanStep, Looked, MayUnpin, SameMarks, 
 ghost use Rattle.cleanup_lock.specs.Waking.{Wakes, Woken, is_lone_waiter};
 
 use atomic_table::Seat;
+use byte_devices::LogDevice;
 use frame_table::{FrameTable, Pin, Value};
-use log_device::LogDevice;
 use pin_core::View;
 use segment_store::BlockLane;
 use state_word::{Flag, has, pins};

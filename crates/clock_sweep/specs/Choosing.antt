@@ -14,8 +14,8 @@ use Rattle.access_rings.specs.RingState.{RingState, frame_at_current, ring_after
 use Rattle.clock_sweep.specs.declared.held.LockedFrame.{LockedFrame}
 use Rattle.clock_sweep.specs.declared.clock.Treated.{Treated}
 use Rattle.clock_sweep.specs.declared.clock.Treated.TheVariants.{Chosen, Passed}
-use Rattle.clock_sweep.specs.declared.taking.Source.{Source}
-use Rattle.clock_sweep.specs.declared.taking.Source.TheVariants.{Ring, Pool}
+use Rattle.clock_sweep.specs.declared.taking.Origin.{Origin}
+use Rattle.clock_sweep.specs.declared.taking.Origin.TheVariants.{Ring, Pool}
 use Rattle.clock_sweep.specs.FreeFrames.{ListHad, QueueState, taking}
 use Rattle.clock_sweep.specs.Keeping.{SamePins}
 
@@ -51,7 +51,7 @@ pub record LeavesFrame (limit f : ℕ) (v w : View) : Type 0 where
   pub unlocks : Did (pins unlock_header) f under w found
 
 -- whether a frame comes from the ring
-abbrev pub is_ring : Source → Bool
+abbrev pub is_ring : Origin → Bool
 is_ring Ring = true
 is_ring Pool = false
 

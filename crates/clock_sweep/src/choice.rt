@@ -18,11 +18,11 @@ use crate::clock::from_clock;
 use crate::free_list::QueuePass;
 use crate::held::{LockedFrame, NoUnpinned};
 use crate::sweep::Sweep;
-use crate::taking::{Source, try_frame};
+use crate::taking::{Origin, try_frame};
 use access_rings::Ring;
 use atomic_table::Seat;
+use byte_devices::LogDevice;
 use frame_table::{FrameTable, Value};
-use log_device::LogDevice;
 use pin_core::View;
 use segment_store::BlockLane;
 use std::sync::Wait;
@@ -64,7 +64,7 @@ fn from_ring<L: BlockLane, G: LogDevice, R: Wait>(
     ensures takes { IfSome result (λ held. Takes 1 held seat.old.me.0 seat.new.me.0) }
     ensures leaves { IfNone result (LeavesRing (frames_of table.now) place seat.old.me.0 seat.new.me.0) }
 {
-    try_frame(table, rt, seat, place?, Source::Ring)
+    try_frame(table, rt, seat, place?, Origin::Ring)
 }
 
 /// Takes the first frame of the free list that is fit. Those before it are off the list. None if
@@ -88,7 +88,7 @@ fn from_free_list<L: BlockLane, G: LogDevice, R: Wait>(
 {
     for _ in rt.forever() {
         let frame = sweep.take(rt, queue)?;
-        if let Some(held) = try_frame(table, rt, seat, frame, Source::Pool) {
+        if let Some(held) = try_frame(table, rt, seat, frame, Origin::Pool) {
             return Some(held);
         }
     }

@@ -10,8 +10,8 @@ ghost use Rattle.clock_sweep.specs.Choosing.{Comes, Counts, FindsUnpinned, NextI
 use crate::census::Census;
 use crate::held::{LockedFrame, NoUnpinned};
 use atomic_table::Seat;
+use byte_devices::LogDevice;
 use frame_table::{FrameTable, Value};
-use log_device::LogDevice;
 use pin_core::View;
 use segment_store::BlockLane;
 use state_word::{pins, usage};

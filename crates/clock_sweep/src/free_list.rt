@@ -34,9 +34,9 @@ impl Protocol<u32, QueueView> for FreeFrames {
 }
 
 /// The next frame is listed, as the list is made.
-pub(crate) struct Listing;
+pub(crate) struct Filling;
 
-impl Outcome<u32, QueueView> for Listing {
+impl Outcome<u32, QueueView> for Filling {
     ghost use Rattle.std.specs.Prelude.{◌≡◌, ◌+◌};
     ghost use Rattle.clock_sweep.specs.FreeFrames.{queue_view};
 

@@ -3,7 +3,7 @@ ghost use Rattle.std.specs.Prelude.{◌≡◌, [], IfOk};
 ghost use Rattle.crossbeam_queue.specs.Passes.{view, IsPassOf};
 ghost use Rattle.clock_sweep.specs.FreeFrames.{all_parts, queue_view};
 
-use crate::free_list::{FreeFrames, Freeing, Listing, Parting, QueuePass, QueueView, Taking};
+use crate::free_list::{Filling, FreeFrames, Freeing, Parting, QueuePass, QueueView, Taking};
 use access_rings::Memory;
 use crossbeam_queue::{Pass, RuledArrayQueue};
 use std::alloc::{AllocError, Global};
@@ -27,7 +27,7 @@ fn list_all(queue: &FreeQueue, pass: &mut Pass<u32, QueueView>, frames: u32) -> 
     for frame in 0..frames {
         // No other thread can be in the way, so no push fails. If one did, the answer would be out of memory,
         // which needs no cause.
-        match queue.try_push_as::<Listing>(pass, frame) {
+        match queue.try_push_as::<Filling>(pass, frame) {
             Ok(()) => {}
             Err(_) => return Err(AllocError),
         }

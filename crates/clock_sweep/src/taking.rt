@@ -8,8 +8,8 @@ ghost use Rattle.clock_sweep.specs.Choosing.{IsFit, IsUnfit, Skips, Takes, is_ri
 
 use crate::held::LockedFrame;
 use atomic_table::Seat;
+use byte_devices::LogDevice;
 use frame_table::{FrameTable, Value};
-use log_device::LogDevice;
 use pin_core::View;
 use segment_store::BlockLane;
 use state_word::{pins, usage};
@@ -17,14 +17,14 @@ use std::sync::Wait;
 
 /// Where a frame that may be taken comes from.
 #[derive(Clone, Copy)]
-pub(crate) enum Source {
+pub(crate) enum Origin {
     /// The ring's current place.
     Ring,
     /// Elsewhere in the pool.
     Pool,
 }
 
-impl Source {
+impl Origin {
     ghost use Rattle.std.specs.Prelude.{◌≡◌};
     ghost use Rattle.clock_sweep.specs.Choosing.{is_ring};
 
@@ -32,19 +32,19 @@ impl Source {
         ensures { result ≡ is_ring self }
     {
         match self {
-            Source::Ring => true,
-            Source::Pool => false,
+            Origin::Ring => true,
+            Origin::Pool => false,
         }
     }
 }
 
 /// Whether no backend pins a frame, and its usage count is low enough: 0, or at most 1 if it comes
 /// from the ring.
-fn is_fit(word: u64, source: Source) -> bool
-    ensures fit { OnTrue result (IsFit (usage_allowed (is_ring source)) (fields word)) }
-    ensures unfit { OnFalse result (IsUnfit (usage_allowed (is_ring source)) (fields word)) }
+fn is_fit(word: u64, origin: Origin) -> bool
+    ensures fit { OnTrue result (IsFit (usage_allowed (is_ring origin)) (fields word)) }
+    ensures unfit { OnFalse result (IsUnfit (usage_allowed (is_ring origin)) (fields word)) }
 {
-    let most = if source.is_ring() { 1 } else { 0 };
+    let most = if origin.is_ring() { 1 } else { 0 };
     pins(word) == 0 && usage(word) <= most
 }
 
@@ -55,25 +55,25 @@ pub(crate) fn try_frame<L: BlockLane, G: LogDevice, R: Wait>(
     rt: &R,
     seat: &mut Seat<Value<L, G>, View>,
     frame: u32,
-    source: Source,
+    origin: Origin,
 ) -> Option<LockedFrame>
     requires seat { IsSeat table.now seat.old }
     requires headless { HoldsNoHeader seat.old.me.0 }
     ensures seat { SameSeat seat.old seat.new }
-    ensures frame { IfSome result (λ held. (held.frame ≡ frame) × (held.from_ring ≡ is_ring source)) }
+    ensures frame { IfSome result (λ held. (held.frame ≡ frame) × (held.from_ring ≡ is_ring origin)) }
     ensures inside { IfSome result (λ _. frame < frames_of table.now) }
-    ensures takes { IfSome result (λ held. Takes (usage_allowed (is_ring source)) held seat.old.me.0 seat.new.me.0) }
-    ensures skips { IfNone result (Skips (frames_of table.now) (usage_allowed (is_ring source)) frame seat.old.me.0 seat.new.me.0) }
+    ensures takes { IfSome result (λ held. Takes (usage_allowed (is_ring origin)) held seat.old.me.0 seat.new.me.0) }
+    ensures skips { IfNone result (Skips (frames_of table.now) (usage_allowed (is_ring origin)) frame seat.old.me.0 seat.new.me.0) }
 {
     if frame >= table.frames() {
         return None;
     }
     let word = table.lock_header(rt, seat, frame);
-    if is_fit(word, source) {
+    if is_fit(word, origin) {
         return Some(LockedFrame {
             frame,
             word,
-            from_ring: source.is_ring(),
+            from_ring: origin.is_ring(),
         });
     }
     table.unlock_header(seat, frame);

@@ -17,8 +17,8 @@ ghost use Rattle.content_locks.specs.Locks.{CanCopy, Copies, CopiesPage, LocksCo
 
 use crate::content_word::{is_copying, is_exclusive};
 use atomic_table::Seat;
+use byte_devices::LogDevice;
 use frame_table::{FrameTable, Value};
-use log_device::LogDevice;
 use page_layout::Page;
 use pin_core::View;
 use segment_store::BlockLane;

@@ -10,8 +10,8 @@ ghost use Rattle.frame_table.specs.Content.{begun_link, finished_link};
 ghost use Rattle.content_locks.specs.Io.{BeginsIo, MayEndIo, CanStartIo, EndsIo, FindsNothing, TriedIo, is_input, is_nothing};
 
 use atomic_table::Seat;
+use byte_devices::LogDevice;
 use frame_table::{FrameTable, IoRight, Value};
-use log_device::LogDevice;
 use pin_core::View;
 use segment_store::BlockLane;
 use state_word::{Flag, IoEnd, has};

@@ -13,8 +13,8 @@ ghost use Rattle.content_locks.specs.Locks.{ShowsLock, ShowsExclusive, LocksAtOn
 
 use crate::content_word::is_exclusive;
 use atomic_table::Seat;
+use byte_devices::LogDevice;
 use frame_table::{FrameTable, Value};
-use log_device::LogDevice;
 use pin_core::View;
 use segment_store::BlockLane;
 use std::sync::Wait;

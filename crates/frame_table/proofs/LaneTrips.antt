@@ -4,7 +4,7 @@ use Rattle.std.proofs.Math.Nat.{mod-eq_of_lt}
 use Rattle.std.proofs.Math.ListN.{get_or-eq_default}
 use Rattle.std.specs.declared.snapshot.Snapshot.{Snapshot}
 use Rattle.std.specs.Prelude.{is_some, Option, Result, Ok, Err, MatchResult, ◌||◌}
-use Rattle.log_device.specs.declared.device.Failed.{Failed}
+use Rattle.byte_devices.specs.declared.device.Failed.{Failed}
 use Rattle.std.proofs.lemmas.Option.{same_Some}
 use Rattle.std.proofs.Math.Bool.{or-false}
 use mathlib.Core.Logic.{dite}
@@ -14,7 +14,7 @@ use lib.ListN.{get_elem?}
 use lib.Seq.{set-get_or}
 use Rattle.atomic_table.specs.Table.{Me, step, takes, gives, stepped, Allows, rest}
 use Rattle.atomic_table.specs.Table as table
-use Rattle.log_device.specs.Faults.{Rose}
+use Rattle.byte_devices.specs.Faults.{Rose}
 use Rattle.page_layout.specs.Fields.{lsn_of}
 use Rattle.block_tag.specs.declared.tag.Fork.TheVariants.{Main}
 use Rattle.block_tag.specs.declared.tag.Tag.{Tag}

@@ -1,7 +1,7 @@
 -- What holds of the log for a backend that called it while it was out, and gives it back.
 use Rattle.std.proofs.Common.{◌≡◌, ℕ, ◌+◌, get_or, true, false, Result, Ok, Err, Option, Some, None, List, sym, refl, ap, ◌∙◌, subst}
 use Rattle.std.specs.Prelude.{MatchResult}
-use Rattle.log_device.specs.declared.device.Failed.{Failed}
+use Rattle.byte_devices.specs.declared.device.Failed.{Failed}
 use Rattle.block_tag.specs.declared.tag.Tag.{Tag}
 use Rattle.block_tag.specs.declared.catalogue.RelEntry.{RelEntry}
 use Rattle.pin_core.specs.declared.view.LogChange.TheVariants as change

@@ -4,8 +4,8 @@ use Rattle.std.proofs.lemmas.Option.{same_Some}
 use Rattle.std.specs.Prelude.{option_map, IfSome, IsSomeAnd}
 use mathlib.Core.Logic.{dite}
 use native.Mathlib.Decide.{ℕ_discrete}
-use Rattle.log_device.specs.Bytes.{GainsPrefix}
-use Rattle.log_device.specs.Faults.{Rose}
+use Rattle.byte_devices.specs.Bytes.{GainsPrefix}
+use Rattle.byte_devices.specs.Faults.{Rose}
 use Rattle.pin_core.specs.declared.view.TakenLog.{TakenLog}
 use Rattle.history_core.specs.State.{Device, raised}
 use Rattle.history_core.specs.Lanes.{Rises}

@@ -31,7 +31,7 @@ use Rattle.history_core.proofs.Laws.{laws_kept}
 use Rattle.history_core.proofs.LogCounting.{others_home}
 use Rattle.history_core.proofs.Logs.{record_length}
 use Rattle.grid.proofs.Lists as grid
-use Rattle.log_device.specs.Faults.{Rose}
+use Rattle.byte_devices.specs.Faults.{Rose}
 use Rattle.table_rule.specs.declared.noted_log.LogCall.{LogCall}
 use Rattle.table_rule.specs.declared.noted_log.LogCall.TheVariants as log_call
 use Rattle.table_rule.specs.declared.noted_log.NotedLog.{NotedLog}

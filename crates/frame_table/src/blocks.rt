@@ -7,7 +7,7 @@ ghost use Rattle.frame_table.specs.Seats.{lanes_in, relations_of};
 
 use crate::table::FrameTable;
 use block_tag::Tag;
-use log_device::LogDevice;
+use byte_devices::LogDevice;
 use segment_store::BlockLane;
 
 impl<L: BlockLane, G: LogDevice> FrameTable<L, G> {

@@ -8,7 +8,7 @@ ghost use Rattle.frame_table.specs.Seats.{Fits, IsIdle};
 use crate::table::{BuildRefused, FrameTable};
 use atomic_table::{Refused, Seat, Table};
 use block_tag::Catalog;
-use log_device::LogDevice;
+use byte_devices::LogDevice;
 use pin_core::View;
 use segment_store::BlockLane;
 use std::alloc::Global;

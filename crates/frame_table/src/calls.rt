@@ -15,7 +15,7 @@ use crate::pin::{Pin, TryPin};
 use crate::plays::{AtLook, Does, LockHeader, Look, Step, UnlockHeader, Unpin};
 use crate::table::FrameTable;
 use atomic_table::Seat;
-use log_device::LogDevice;
+use byte_devices::LogDevice;
 use pin_core::View;
 use segment_store::BlockLane;
 use state_word::{Flag, LOCKED, has, locked, pinned, unpinned};

@@ -13,7 +13,7 @@ use crate::content_word::{COPYING, EXCLUSIVE};
 use crate::plays::Step;
 use crate::table::FrameTable;
 use atomic_table::Seat;
-use log_device::LogDevice;
+use byte_devices::LogDevice;
 use pin_core::View;
 use segment_store::BlockLane;
 use table_rule::{Value, content_place};

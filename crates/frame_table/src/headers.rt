@@ -26,7 +26,7 @@ use crate::plays::{Assign, Clear, Does, EraseTag, LoadTag, LowerUsage, Related, 
 use crate::table::FrameTable;
 use atomic_table::Seat;
 use block_tag::Tag;
-use log_device::LogDevice;
+use byte_devices::LogDevice;
 use pin_core::View;
 use segment_store::BlockLane;
 use state_word::{assigned, cleared, pinned_by_holder, unlock_with, usage_down};

@@ -7,7 +7,7 @@ ghost use Rattle.frame_table.specs.Seats.{IsSeat, SameSeat, frames_of};
 use crate::table::FrameTable;
 use crate::word_plays::{AtHint, LoadHint, StepAt, StepsAt};
 use atomic_table::Seat;
-use log_device::LogDevice;
+use byte_devices::LogDevice;
 use pin_core::View;
 use segment_store::BlockLane;
 use std::marker::Brand;

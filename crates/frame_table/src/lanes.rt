@@ -14,7 +14,7 @@ ghost use Rattle.frame_table.specs.LaneWork.{DidSteps, IsNoted, IsTakenFrom, Lan
 use crate::lane_plays::{AtLane, Back, LaneOut, Returns};
 use crate::table::FrameTable;
 use atomic_table::Seat;
-use log_device::LogDevice;
+use byte_devices::LogDevice;
 use pin_core::View;
 use segment_store::BlockLane;
 use std::marker::Brand;

@@ -7,7 +7,7 @@ ghost use Rattle.frame_table.specs.Entering.{tells_end};
 ghost use Rattle.frame_table.specs.LogWork.{log_came, log_went};
 
 use atomic_table::Play;
-use log_device::LogDevice;
+use byte_devices::LogDevice;
 use pin_core::View;
 use std::marker::{Brand, PhantomData};
 use table_rule::Value;

@@ -14,7 +14,7 @@ use crate::plays::{Does, Step};
 use crate::table::FrameTable;
 use atomic_table::Seat;
 use block_tag::Tag;
-use log_device::LogDevice;
+use byte_devices::LogDevice;
 use pin_core::View;
 use segment_store::BlockLane;
 use state_word::{Flag, has, pinned};

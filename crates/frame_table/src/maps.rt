@@ -18,7 +18,7 @@ ghost use Rattle.frame_table.specs.Latches.{AreBelow, ComesBack, DidMap, GivesFr
 use crate::plays::{AtMap, MapBack, MapOut};
 use crate::table::FrameTable;
 use atomic_table::Seat;
-use log_device::LogDevice;
+use byte_devices::LogDevice;
 use pin_core::View;
 use segment_store::BlockLane;
 use std::marker::Brand;

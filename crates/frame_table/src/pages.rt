@@ -14,7 +14,7 @@ ghost use Rattle.frame_table.specs.FrameSteps.{Did};
 use crate::plays::{AtPage, PageBack, PageOut};
 use crate::table::FrameTable;
 use atomic_table::Seat;
-use log_device::LogDevice;
+use byte_devices::LogDevice;
 use page_layout::Page;
 use pin_core::View;
 use segment_store::BlockLane;

@@ -15,7 +15,7 @@ use crate::io_right::IoRight;
 use crate::plays::{Does, Step};
 use crate::table::FrameTable;
 use atomic_table::Seat;
-use log_device::LogDevice;
+use byte_devices::LogDevice;
 use pin_core::View;
 use segment_store::BlockLane;
 use state_word::{

@@ -8,7 +8,7 @@ ghost use Rattle.frame_table.specs.FrameSteps.{kept_view, split_view};
 use crate::plays::{Joined, Known, NewSeat};
 use crate::table::FrameTable;
 use atomic_table::Seat;
-use log_device::LogDevice;
+use byte_devices::LogDevice;
 use pin_core::View;
 use segment_store::BlockLane;
 use std::marker::Brand;

@@ -13,7 +13,7 @@ ghost use Rattle.frame_table.specs.Stores.{HintMustBeStored, Makes, MustStore, R
 
 use atomic_table::Table;
 use block_tag::Catalog;
-use log_device::LogDevice;
+use byte_devices::LogDevice;
 use pin_core::View;
 use segment_store::BlockLane;
 use std::alloc::Global;

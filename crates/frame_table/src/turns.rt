@@ -11,7 +11,7 @@ ghost use Rattle.frame_table.specs.Latches.{view_counted};
 use crate::plays::{AtTurn, LeaveTurn, TakeTurn};
 use crate::table::FrameTable;
 use atomic_table::Seat;
-use log_device::LogDevice;
+use byte_devices::LogDevice;
 use pin_core::View;
 use segment_store::BlockLane;
 use std::marker::Brand;

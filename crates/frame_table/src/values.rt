@@ -9,7 +9,7 @@ ghost use Rattle.frame_table.specs.Values.{CameBackAs, MayGoOut, MayReturnAs, We
 
 use crate::table::FrameTable;
 use atomic_table::Seat;
-use log_device::LogDevice;
+use byte_devices::LogDevice;
 use pin_core::View;
 use segment_store::BlockLane;
 use table_rule::{Place, Turn, Value};

@@ -5,7 +5,7 @@ ghost use Rattle.command_line.specs.declared.request.Request.TheVariants.{List, 
 ghost use Rattle.relation_commands.specs.Answers.{EndsCommand, counts_of};
 ghost use Rattle.command_line.specs.Request.{asked};
 
-use log_device::Sink;
+use byte_devices::Sink;
 use page_jobs::Gate;
 use relation_commands::{ListRequest, RewriteRequest, ToolError, list_relation, rewrite_relation};
 use segment_store::Host;

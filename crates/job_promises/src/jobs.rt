@@ -2,7 +2,7 @@
 ghost use Rattle.std.specs.Prelude.{◌≤◌, List, IfErr, IfOk, vec_len};
 ghost use Rattle.page_layout.specs.Scan.{scan_text};
 ghost use Rattle.pin_core.specs.State.{Page};
-ghost use Rattle.log_device.specs.Bytes.{Puts};
+ghost use Rattle.byte_devices.specs.Bytes.{Puts};
 ghost use Rattle.frame_table.specs.Seats.{base_of};
 ghost use Rattle.page_jobs.specs.Ending.{as_done};
 ghost use Rattle.page_jobs.specs.Jobs.{AllAtBase, EndsJob, HaveNoTokens, IsOrigin, workers_in};
@@ -10,7 +10,7 @@ ghost use Rattle.page_jobs.specs.RewriteJobs.{RewritesFork};
 
 use backend_pass::{Manager, Pass};
 use block_tag::{Fork, RelNo};
-use log_device::{LogDevice, Sink};
+use byte_devices::{LogDevice, Sink};
 use page_jobs::{Beside, Gate, JobEnd, dump, rewrite, scan};
 use segment_store::BlockLane;
 use std::alloc::Global;

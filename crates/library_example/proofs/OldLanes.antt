@@ -10,8 +10,8 @@ use Rattle.block_tag.specs.declared.tag.Fork.{Fork}
 use Rattle.block_tag.specs.declared.tag.Fork.TheVariants.{Main, Fsm, Vm, Init}
 use Rattle.block_tag.specs.declared.tag.Tag.{Tag}
 use Rattle.block_tag.specs.Names.{lane_number, tag_eq, tag_of_parts}
-use Rattle.log_device.specs.declared.memory_log.MemLog.{MemLog}
-use Rattle.log_device.specs.declared.device.LogDevice as log_device
+use Rattle.byte_devices.specs.declared.memory_log.MemLog.{MemLog}
+use Rattle.byte_devices.specs.declared.device.LogDevice as log_device
 use Rattle.segment_store.specs.Contents.{Pages, no_marks, no_pages, with_mark, with_page}
 use Rattle.segment_store.specs.Lanes.{HoldTheirs}
 use Rattle.segment_store.specs.declared.memory_lane.MemLane.{MemLane}

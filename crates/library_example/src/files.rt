@@ -11,7 +11,7 @@ ghost use Rattle.library_example.specs.Files.{relations};
 
 use crate::counters::page_from;
 use block_tag::{Catalog, CatalogError, Fork, RelEntry, RelNo, Tag, lane_of};
-use log_device::{LogDevice, MemLog};
+use byte_devices::{LogDevice, MemLog};
 use page_layout::Page;
 use segment_store::{BlockLane, LanePlan, MemLane};
 use std::alloc::{AllocError, Global};

@@ -15,7 +15,7 @@ use crate::counters::{Counter, counter_of};
 use crate::files::{LANES, block, catalog, old_lanes, page_in};
 use backend_pass::{Config, Manager, StartRefused};
 use block_tag::{Catalog, Fork, RelNo};
-use log_device::{FaultPlan, LogDevice, LogPlan, MemLog, MemSource};
+use byte_devices::{FaultPlan, LogDevice, LogPlan, MemLog, MemSource};
 use log_recovery::{Redone, recover};
 use page_layout::{Lsn, Page};
 use segment_store::{BlockLane, MemLane};

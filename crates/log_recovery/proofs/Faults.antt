@@ -5,7 +5,7 @@ use Rattle.std.proofs.lemmas.List.{get_or-map, length-map, map-set}
 use Rattle.std.proofs.Math.Seq.{map-set_same}
 use mathlib.Core.Logic.{dite}
 use native.Mathlib.Decide.{ℕ_discrete}
-use Rattle.log_device.specs.Faults.{HasCause, Rose}
+use Rattle.byte_devices.specs.Faults.{HasCause, Rose}
 use Rattle.log_recovery.specs.Redo.{AnyRose, NoneFell}
 
 -- a count that rose, and didn't fall since

@@ -6,7 +6,7 @@ use Rattle.block_tag.specs.declared.catalogue.RelEntry.{RelEntry}
 use Rattle.block_tag.specs.declared.tag.Tag.{Tag}
 use Rattle.block_tag.specs.Names.{names_block}
 use Rattle.history_core.specs.Log.{Entry, record_size}
-use Rattle.log_device.specs.Sources.{Takes}
+use Rattle.byte_devices.specs.Sources.{Takes}
 use Rattle.log_recovery.specs.Records.{HasBadHead, IsHead, IsRecord, image_entry}
 use Rattle.log_recovery.specs.Steps.{Begins, HasNoRecord, IsNextImage}
 use Rattle.log_recovery.proofs.Prefix.{record_of_first, first_of_record, head_of_first, first_of_head, none_short}

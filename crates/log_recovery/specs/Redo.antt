@@ -7,7 +7,7 @@ use Rattle.block_tag.specs.Catalogue.{IsCatalogue}
 use Rattle.block_tag.specs.Names.{lane_number, names_block, packed_tag, tag_eq}
 use Rattle.block_tag.specs.declared.catalogue.RelEntry.{RelEntry}
 use Rattle.block_tag.specs.declared.tag.Tag.{Tag}
-use Rattle.log_device.specs.Faults.{Rose}
+use Rattle.byte_devices.specs.Faults.{Rose}
 use Rattle.segment_store.specs.Contents.{Marks, Pages, no_marks, AfterWrite}
 use Rattle.segment_store.specs.Lanes.{lane_at, mark_in, page_in}
 use Rattle.history_core.specs.Log.{AreImages, AreValid, Entry, Log, LogLaw, log_end, page_after}

@@ -1,13 +1,13 @@
 //! The head of a log.
 ghost use Rattle.std.specs.Prelude.{◌≡◌, ◌≤◌, ◌⊎◌, ◌^◌, ℕ, IfErr, IfOk, IfSome, IsErrOf, None};
 ghost use Rattle.std.specs.Prelude.{OnOk, length};
-ghost use Rattle.log_device.specs.Faults.{Rose};
+ghost use Rattle.byte_devices.specs.Faults.{Rose};
 ghost use Rattle.log_recovery.specs.Records.{HasBadHead, IsHead};
 ghost use Rattle.log_recovery.specs.Steps.{Begins};
 
 use crate::error::RecoverError;
 use crate::records::position_in;
-use log_device::{Source, fill};
+use byte_devices::{Source, fill};
 use page_layout::Lsn;
 use table_rule::LAST_POSITION;
 

@@ -5,7 +5,7 @@
 //! All records are read into one buffer.
 ghost use Rattle.std.specs.Prelude.{◌≡◌, ◌≢◌, ◌<◌, ◌≤◌, ◌⊎◌, All, IfErr, IfOk, IfSome, IsErrOf};
 ghost use Rattle.std.specs.Prelude.{OnErr, OnOk, length, map};
-ghost use Rattle.log_device.specs.Faults.{Rose};
+ghost use Rattle.byte_devices.specs.Faults.{Rose};
 ghost use Rattle.segment_store.specs.Contents.{no_marks};
 ghost use Rattle.segment_store.specs.Lanes.{HoldTheirs};
 ghost use Rattle.log_recovery.specs.Records.{HasBadHead};
@@ -17,7 +17,7 @@ use crate::error::RecoverError;
 use crate::head::read_head;
 use crate::redo::{Progress, redo_from};
 use block_tag::Catalog;
-use log_device::{Failed, Source};
+use byte_devices::{Failed, Source};
 use page_layout::{Lsn, Page};
 use segment_store::BlockLane;
 use std::alloc::Global;

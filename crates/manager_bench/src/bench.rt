@@ -5,7 +5,7 @@ ghost use Rattle.manager_bench.specs.Bench.{IsFree, IsFreeIn};
 
 use backend_pass::{Config, Manager, Pass, StartRefused};
 use block_tag::{Catalog, CatalogError, Fork, RelEntry, RelNo, Tag};
-use log_device::LogDevice;
+use byte_devices::LogDevice;
 use segment_store::BlockLane;
 use std::alloc::{AllocError, Global};
 use test_devices::{TestLane, TestLog};

@@ -5,7 +5,7 @@ use crate::reading::{pin, unpin};
 use access_rings::Ring;
 use backend_pass::{FlushError, Manager, Pass, PutError};
 use block_tag::Tag;
-use log_device::LogDevice;
+use byte_devices::LogDevice;
 use page_layout::{Lsn, Page};
 use segment_store::BlockLane;
 use std::sync::Wait;

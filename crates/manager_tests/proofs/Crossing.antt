@@ -6,7 +6,7 @@ use denote.Struct.Tuple.{TupleAt}
 use denote.Param.Send.{IsSend, IsSync, sendable}
 use Rattle.std.proofs.Crossing.{crosses}
 use Rattle.std.proofs.CrossingOver as over
-use Rattle.log_device.specs.declared.device.LogDevice as log_device
+use Rattle.byte_devices.specs.declared.device.LogDevice as log_device
 use Rattle.backend_pass.specs.contracts.manager.Manager as manager
 use Rattle.backend_pass.proofs.Crossing as passes
 use Rattle.test_devices.specs.contracts.lane.TestLane as lane

@@ -2,7 +2,7 @@
 ghost use Rattle.manager_bench.specs.Bench.{IsFree};
 
 use backend_pass::{Manager, Pass, ReadError};
-use log_device::LogDevice;
+use byte_devices::LogDevice;
 use manager_bench::bench::block;
 use manager_bench::reading::read_once;
 use segment_store::BlockLane;

@@ -11,7 +11,7 @@ ghost use Rattle.manager_tests.specs.Tokens.{IsUnlocked, Returns};
 use crate::copying::copy_all;
 use backend_pass::{CleanupError, Manager, Pass, Pinned, Refused, TryCleanup};
 use block_tag::Tag;
-use log_device::LogDevice;
+use byte_devices::LogDevice;
 use manager_bench::bench::block;
 use manager_bench::reading::{pin, unpin};
 use segment_store::BlockLane;

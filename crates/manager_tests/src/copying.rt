@@ -3,7 +3,7 @@ ghost use Rattle.manager_bench.specs.Bench.{IsFree};
 
 use backend_pass::{Manager, Pass, PutError, ReadError};
 use block_tag::Tag;
-use log_device::LogDevice;
+use byte_devices::LogDevice;
 use manager_bench::bench::block;
 use manager_bench::putting::read_and_put;
 use manager_bench::reading::{copy_once, pin, unpin};

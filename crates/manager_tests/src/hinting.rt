@@ -5,7 +5,7 @@ ghost use Rattle.manager_tests.specs.Tokens.{Returns};
 
 use backend_pass::{HintSeen, Manager, Pass, ReadError};
 use block_tag::Tag;
-use log_device::LogDevice;
+use byte_devices::LogDevice;
 use manager_bench::bench::block;
 use manager_bench::reading::{Access, read_once};
 use segment_store::BlockLane;

@@ -4,7 +4,7 @@ ghost use Rattle.manager_bench.specs.Bench.{HasOnly, IsFree};
 
 use backend_pass::{Manager, Pass, Pinned, Refused, TryLock};
 use block_tag::Tag;
-use log_device::LogDevice;
+use byte_devices::LogDevice;
 use manager_bench::reading::{pin, unpin};
 use segment_store::BlockLane;
 use std::sync::Wait;

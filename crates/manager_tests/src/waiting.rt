@@ -6,7 +6,7 @@ ghost use Rattle.manager_tests.specs.Tokens.{IsUnlocked, Returns};
 use crate::cleaning::{clean, look_for, wait_beside};
 use backend_pass::{CleanupError, Manager, Pass};
 use block_tag::Tag;
-use log_device::LogDevice;
+use byte_devices::LogDevice;
 use manager_bench::bench::block;
 use segment_store::BlockLane;
 use std::sync::Wait;

@@ -14,8 +14,8 @@ ghost use Rattle.map_partitions.specs.Partition.{ChangesMap, HoldsLatch, NamesLe
 use crate::entries::{add, forget};
 use atomic_table::Seat;
 use block_tag::Tag;
+use byte_devices::LogDevice;
 use frame_table::FrameTable;
-use log_device::LogDevice;
 use pin_core::View;
 use segment_store::BlockLane;
 use table_rule::Value;

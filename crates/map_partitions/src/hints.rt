@@ -11,8 +11,8 @@ ghost use Rattle.map_partitions.specs.Hints.{LoadsHint, StoresHint, hint_number,
 
 use atomic_table::Seat;
 use block_tag::Tag;
+use byte_devices::LogDevice;
 use frame_table::FrameTable;
-use log_device::LogDevice;
 use pin_core::View;
 use segment_store::BlockLane;
 use table_rule::Value;

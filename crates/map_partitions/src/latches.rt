@@ -8,8 +8,8 @@ ghost use Rattle.frame_table.specs.Latches.{view_counted};
 ghost use Rattle.map_partitions.specs.Partition.{HoldsLatch};
 
 use atomic_table::Seat;
+use byte_devices::LogDevice;
 use frame_table::FrameTable;
-use log_device::LogDevice;
 use pin_core::View;
 use segment_store::BlockLane;
 use std::sync::Wait;

@@ -13,8 +13,8 @@ ghost use Rattle.map_partitions.specs.Partition.{HoldsLatch, WentAndCame, entrie
 use crate::entries::frame_of;
 use atomic_table::Seat;
 use block_tag::Tag;
+use byte_devices::LogDevice;
 use frame_table::FrameTable;
-use log_device::LogDevice;
 use pin_core::View;
 use segment_store::BlockLane;
 use table_rule::Value;

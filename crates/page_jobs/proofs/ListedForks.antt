@@ -6,8 +6,8 @@ use mathlib.Core.Option.{some}
 use lib.ListN.{get_elem?}
 use Rattle.block_tag.specs.declared.tag.Fork.{Fork}
 use Rattle.block_tag.specs.Names.{names_block, tag_of_parts}
-use Rattle.log_device.specs.Bytes.{Puts}
-use Rattle.log_device.specs.Faults.{Rose}
+use Rattle.byte_devices.specs.Bytes.{Puts}
+use Rattle.byte_devices.specs.Faults.{Rose}
 use Rattle.page_layout.specs.declared.scan.ScanTotals.{ScanTotals}
 use Rattle.page_layout.specs.Scan.{IsWithin}
 use Rattle.segment_store.specs.Contents.{Pages}

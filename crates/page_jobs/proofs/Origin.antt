@@ -9,7 +9,7 @@ use Rattle.chunk_claims.specs.Claims.{sum_below}
 use Rattle.block_tag.specs.declared.tag.Fork.{Fork}
 use Rattle.block_tag.specs.declared.tag.Tag.{Tag}
 use Rattle.block_tag.specs.Names.{lane_number, names_block, tag_of_parts}
-use Rattle.log_device.specs.Bytes.{Puts}
+use Rattle.byte_devices.specs.Bytes.{Puts}
 use Rattle.page_layout.specs.declared.scan.ScanTotals.{ScanTotals}
 use Rattle.page_layout.specs.declared.summary.PageSummary.{PageSummary}
 use Rattle.page_layout.specs.declared.summary.PageSummary.TheVariants.{Invalid}

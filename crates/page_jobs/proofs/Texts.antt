@@ -5,7 +5,7 @@ use Rattle.std.proofs.lemmas.List.{append-nil}
 use mathlib.Core.Option.{some, some-injective, some-ne-none}
 use lib.ListN.{get_elem?}
 use Rattle.atomic_table.proofs.Lists.{drop_at}
-use Rattle.log_device.specs.Bytes.{GainsPrefix, Puts}
+use Rattle.byte_devices.specs.Bytes.{GainsPrefix, Puts}
 use Rattle.page_layout.specs.declared.scan.ScanTotals.{ScanTotals}
 use Rattle.page_layout.specs.Scan.{IsWithin}
 use Rattle.text_window.specs.Texts.{AreFirstTexts, HasPut, HasPutSome, IsFinished, IsTextBy, Job}

@@ -7,7 +7,7 @@ use lib.ListN.{get_elem?}
 use Rattle.grid.specs.Shape.{total}
 use Rattle.chunk_claims.specs.Claims.{past_weight, sum_below}
 use Rattle.block_tag.specs.declared.tag.Fork.{Fork}
-use Rattle.log_device.specs.Faults.{Rose}
+use Rattle.byte_devices.specs.Faults.{Rose}
 use Rattle.page_layout.specs.declared.scan.ScanTotals.{ScanTotals}
 use Rattle.page_layout.specs.Scan.{sum_of_totals}
 use Rattle.segment_store.specs.Contents.{Pages}

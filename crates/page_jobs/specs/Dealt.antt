@@ -9,8 +9,8 @@ use Rattle.chunk_claims.specs.declared.claimant.Claimant.{Claimant}
 use Rattle.chunk_claims.specs.declared.claims.Claims.{Claims}
 use Rattle.chunk_claims.specs.Claims.{SitsAt}
 use Rattle.grid.specs.Shape.{total}
-use Rattle.log_device.specs.Bytes.{Puts}
-use Rattle.log_device.specs.Faults.{Rose}
+use Rattle.byte_devices.specs.Bytes.{Puts}
+use Rattle.byte_devices.specs.Faults.{Rose}
 use Rattle.text_window.specs.Texts.{AreFirstTexts}
 use Rattle.page_layout.specs.declared.scan.ScanTotals.{ScanTotals}
 use Rattle.page_layout.specs.Scan.{IsWithin, no_totals, sum_of_totals}

@@ -1,7 +1,7 @@
 -- What a scan or a dump of a fork comes to.
 use Rattle.std.specs.Prelude.{◌≡◌, ℕ, ◌≤◌, ◌⊎◌, List, Option, Result, OnOk, IfOk, IfErr}
 use Rattle.block_tag.specs.declared.tag.Fork.{Fork}
-use Rattle.log_device.specs.Bytes.{Puts}
+use Rattle.byte_devices.specs.Bytes.{Puts}
 use Rattle.page_layout.specs.Scan.{totals_of}
 use Rattle.segment_store.specs.Contents.{Pages}
 use Rattle.pin_core.specs.State.{Page}

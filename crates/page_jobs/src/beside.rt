@@ -11,7 +11,7 @@ ghost use Rattle.page_jobs.specs.Reads.{HasNoTokens};
 
 use crate::ending::JobError;
 use backend_pass::{FlushError, Manager, Pass};
-use log_device::LogDevice;
+use byte_devices::LogDevice;
 use segment_store::BlockLane;
 use std::sync::Wait;
 

@@ -17,7 +17,7 @@ ghost use Rattle.page_jobs.specs.RewriteEnds.{Finishes, HasRewrites, IsResult, L
 ghost use Rattle.page_jobs.specs.RewriteEnds.{BackendCalls, Rewrites};
 
 use backend_pass::Manager;
-use log_device::LogDevice;
+use byte_devices::LogDevice;
 use segment_store::BlockLane;
 
 /// What the state that the devices are given back in holds of a rewrite whose calls are in its

@@ -18,7 +18,7 @@ use crate::working::{BlockTask, Buffers, ForkBlocks, JobTask};
 use access_rings::{Ring, RingKind};
 use backend_pass::{Manager, Pass};
 use block_tag::Tag;
-use log_device::{LogDevice, Sink};
+use byte_devices::{LogDevice, Sink};
 use page_layout::Lsn;
 use segment_store::BlockLane;
 use std::alloc::{AllocError, Global};

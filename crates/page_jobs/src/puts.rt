@@ -1,7 +1,7 @@
 //! The end of a scan or a dump: how it ended, and the line of the totals.
 ghost use Rattle.std.specs.Prelude.{◌≡◌, ◌≤◌, ◌^◌, ◌⊎◌, Ok, false, IfErr, IfOk, OnOk};
-ghost use Rattle.log_device.specs.Bytes.{Puts};
-ghost use Rattle.log_device.specs.Faults.{Rose};
+ghost use Rattle.byte_devices.specs.Bytes.{Puts};
+ghost use Rattle.byte_devices.specs.Faults.{Rose};
 ghost use Rattle.text_window.specs.Texts.{is_output};
 ghost use Rattle.page_jobs.specs.declared.ending.JobError.TheVariants.{Memory, OutFault};
 ghost use Rattle.page_jobs.specs.Dealt.{AllDone, AnyEnds, EndsAsStopper, EndsFirst, PutsEnd};
@@ -12,7 +12,7 @@ ghost use Rattle.page_jobs.specs.Printed.{totals_line};
 use crate::ending::{JobError, Totals};
 use crate::listing::Lister;
 use crate::working::Worker;
-use log_device::{Failed, Sink};
+use byte_devices::{Failed, Sink};
 use page_layout::ScanTotals;
 use std::alloc::Global;
 use std::sync::ledger::Ledger;

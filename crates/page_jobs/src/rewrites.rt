@@ -22,7 +22,7 @@ use crate::running::run_job;
 use crate::working::{ForkBlocks, Worker};
 use backend_pass::{Manager, Pass};
 use block_tag::{Fork, RelNo};
-use log_device::LogDevice;
+use byte_devices::LogDevice;
 use page_layout::RewriteTotals;
 use segment_store::BlockLane;
 use std::alloc::Global;

@@ -26,7 +26,7 @@ use crate::working::{BlockTask, Buffers, ForkBlocks, JobTask};
 use access_rings::{Ring, RingKind};
 use backend_pass::{Exclusive, Manager, Pass, PutError, ReadError, Refused};
 use block_tag::Tag;
-use log_device::LogDevice;
+use byte_devices::LogDevice;
 use page_layout::{PageRewrite, Rewrite, RewriteTotals, rewritten};
 use segment_store::BlockLane;
 use std::alloc::{AllocError, Global};

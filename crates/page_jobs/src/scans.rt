@@ -25,7 +25,7 @@ use crate::running::run_job;
 use crate::working::ForkBlocks;
 use backend_pass::{Manager, Pass};
 use block_tag::{Fork, RelNo};
-use log_device::{LogDevice, Sink};
+use byte_devices::{LogDevice, Sink};
 use page_layout::{Lsn, ScanTotals};
 use segment_store::BlockLane;
 use std::alloc::Global;

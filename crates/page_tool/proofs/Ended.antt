@@ -3,8 +3,8 @@ use Rattle.std.proofs.Common.{◌≡◌, ◌⊎◌, ℕ, ◌-◌, ◌^◌, ◌<�
 use Rattle.std.specs.Prelude.{IfSome, IsSome, IsSomeAnd, option_map}
 use Rattle.std.proofs.lemmas.List.{append-nil}
 use Rattle.std.proofs.lemmas.Option.{IfSome_then}
-use Rattle.log_device.specs.Bytes.{GainsPrefix, Puts}
-use Rattle.log_device.specs.Faults.{Rose}
+use Rattle.byte_devices.specs.Bytes.{GainsPrefix, Puts}
+use Rattle.byte_devices.specs.Faults.{Rose}
 use Rattle.segment_store.specs.Logs.{Logs}
 use Rattle.segment_store.specs.Paths.{Paths}
 use Rattle.pin_core.specs.State.{Page}

@@ -2,7 +2,7 @@
 use Rattle.std.proofs.Common.{◌≡◌, ℕ, List, [], ◌++◌, Result, Ok, Err, Option, Some, None, refl, sym, ◌∙◌, ap, subst, arith}
 use Rattle.std.specs.Prelude.{IsSomeAnd, option_map, unwrap_or}
 use Rattle.std.proofs.lemmas.List.{append-nil}
-use Rattle.log_device.specs.declared.device.Failed.{Failed}
+use Rattle.byte_devices.specs.declared.device.Failed.{Failed}
 use Rattle.segment_store.specs.Logs.{Logs}
 use Rattle.segment_store.specs.Paths.{Paths}
 use Rattle.relation_commands.specs.declared.error.ToolError.{ToolError}

@@ -19,7 +19,7 @@ mod tests;
 
 use crate::run::{MEMORY_LINE, run};
 use backend_pass::Pinned;
-use log_device::{Sink, StdSink};
+use byte_devices::{Sink, StdSink};
 use page_jobs::Gate;
 use relation_commands::ToolError;
 use segment_files::FileHost;

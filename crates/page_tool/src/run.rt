@@ -1,6 +1,6 @@
 //! Runs a command line.
 ghost use Rattle.std.specs.Prelude.{◌≡◌, ◌≢◌, ◌≤◌, ◌⊎◌, None, IfErr, IfSome};
-ghost use Rattle.log_device.specs.Bytes.{Puts};
+ghost use Rattle.byte_devices.specs.Bytes.{Puts};
 ghost use Rattle.relation_commands.specs.declared.error.ToolError.{ToolError};
 ghost use Rattle.relation_commands.specs.Answers.{BadLogIf, CountsLater, CrowdedIf, Ends};
 ghost use Rattle.relation_commands.specs.Answers.{FailsNone, FaultIf, IsComplete, IsNoRewrite};
@@ -13,7 +13,7 @@ ghost use Rattle.command_line.specs.Spelled.{request_in};
 ghost use Rattle.relation_commands.specs.RewriteFiles.{BecomesOf, files_in};
 ghost use Rattle.relation_commands.specs.Status.{status_of, status_of_error};
 
-use log_device::Sink;
+use byte_devices::Sink;
 use page_jobs::Gate;
 use relation_commands::{
     Request, ToolError, list_relation, read_request, recover_relation, rewrite_relation, sample,

@@ -3,7 +3,7 @@ use crate::OpenGate;
 use crate::checks::check_eq;
 use crate::run::run;
 use crate::test_pages::{dead_items_page, rewritten_page};
-use log_device::{Failed, FaultPlan, LogPlan, MemSink, Sink};
+use byte_devices::{Failed, FaultPlan, LogPlan, MemSink, Sink};
 use page_jobs::Gate;
 use segment_store::{LanePlan, MemFile, MemHost, MemLogs, SourcePlan};
 use std::alloc::Global;

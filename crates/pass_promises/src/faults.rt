@@ -6,7 +6,7 @@ ghost use Rattle.backend_pass.specs.Reading.{met_reading};
 use access_rings::Ring;
 use backend_pass::{Manager, Pass, Pinned, ReadError};
 use block_tag::Tag;
-use log_device::LogDevice;
+use byte_devices::LogDevice;
 use segment_store::BlockLane;
 use std::sync::Wait;
 

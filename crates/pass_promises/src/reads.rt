@@ -11,7 +11,7 @@ ghost use Rattle.backend_pass.specs.Reading.{ReadsBlock, refused_at_once};
 use access_rings::Ring;
 use backend_pass::{Manager, Pass, Pinned, ReadError};
 use block_tag::Tag;
-use log_device::LogDevice;
+use byte_devices::LogDevice;
 use page_layout::{Lsn, Page};
 use segment_store::BlockLane;
 use std::sync::Wait;

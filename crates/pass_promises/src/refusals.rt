@@ -11,7 +11,7 @@ ghost use Rattle.backend_pass.specs.Reading.{at_once_of, refused_at_once};
 use access_rings::Ring;
 use backend_pass::{CleanupError, Exclusive, Manager, Pass, Pinned, ReadError, Refused};
 use block_tag::Tag;
-use log_device::LogDevice;
+use byte_devices::LogDevice;
 use segment_store::BlockLane;
 use std::sync::Wait;
 

@@ -12,7 +12,7 @@ ghost use Rattle.backend_pass.specs.Locks.{HasLock};
 ghost use Rattle.backend_pass.specs.Managers.{Belongs};
 
 use backend_pass::{Exclusive, FlushError, Manager, Pass, Pinned, PutError};
-use log_device::LogDevice;
+use byte_devices::LogDevice;
 use page_layout::{Lsn, Page};
 use segment_store::BlockLane;
 use std::sync::Wait;

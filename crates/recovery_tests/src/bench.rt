@@ -4,7 +4,7 @@ ghost use Rattle.std.specs.Prelude.{◌≤◌};
 use crate::kept_lane::{Failing, KeptLane};
 use crate::log_bytes::page_bytes;
 use block_tag::{Catalog, CatalogError, Fork, RelEntry, RelNo, Tag, lane_of};
-use log_device::{FaultPlan, MemSource};
+use byte_devices::{FaultPlan, MemSource};
 use log_recovery::{RecoverError, Redone, recover};
 use page_layout::{Lsn, Page};
 use std::alloc::{AllocError, Global};

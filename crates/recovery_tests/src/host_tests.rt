@@ -5,7 +5,7 @@ use crate::bench::{Kept, whole_page};
 use crate::checks::{check, check_eq};
 use crate::log_bytes::{Record, log_bytes, page_bytes};
 use block_tag::{Catalog, CatalogError, Fork, RelEntry, RelNo, Tag};
-use log_device::{FaultPlan, LogPlan};
+use byte_devices::{FaultPlan, LogPlan};
 use log_recovery::{RecoverError, Redone, recover};
 use page_layout::{Lsn, Page};
 use segment_files::FileHost;

@@ -1,7 +1,7 @@
 //! A lane that keeps its pages, for tests.
 use crate::log_bytes::torn_page;
 use block_tag::Tag;
-use log_device::{Failed, FaultCount};
+use byte_devices::{Failed, FaultCount};
 use page_layout::Page;
 use segment_store::{BlockLane, LaneHistory};
 use std::alloc::{AllocError, Global};

@@ -7,7 +7,7 @@ use mathlib.Core.Logic.{dite}
 use native.Mathlib.Decide.{ℕ_discrete}
 use Rattle.block_tag.specs.declared.tag.Tag.{Tag}
 use Rattle.block_tag.specs.Names.{lane_number}
-use Rattle.log_device.specs.Faults.{Added, Rose}
+use Rattle.byte_devices.specs.Faults.{Added, Rose}
 use Rattle.history_core.specs.Device.{HasRisen}
 use Rattle.history_core.specs.State.{last_count}
 use Rattle.page_jobs.specs.Survey.{RoseAt}

@@ -4,9 +4,9 @@ use Rattle.std.specs.Prelude.{All, IfErr, IfOk, IfSome, IsSome, IsSomeAnd, OnOk,
 use Rattle.std.specs.Option.{option_map_or}
 use Rattle.block_tag.specs.declared.tag.Fork.{Fork}
 use Rattle.block_tag.specs.declared.tag.Fork.TheVariants.{Main}
-use Rattle.log_device.specs.Bytes.{Puts}
-use Rattle.log_device.specs.Faults.{Added, Rose}
-use Rattle.log_device.specs.MemoryLog.{StoredLog}
+use Rattle.byte_devices.specs.Bytes.{Puts}
+use Rattle.byte_devices.specs.Faults.{Added, Rose}
+use Rattle.byte_devices.specs.MemoryLog.{StoredLog}
 use Rattle.page_layout.specs.declared.outcomes.RewriteTotals.{RewriteTotals}
 use Rattle.segment_store.specs.declared.host.Host as host
 use Rattle.segment_store.specs.Contents.{Marks, Pages, no_marks}

@@ -7,7 +7,7 @@ use Rattle.std.proofs.lemmas.Bool.{cases_Bool}
 use Rattle.std.proofs.lemmas.Slice.Eq.{bytes_eq-Decides}
 use Rattle.block_tag.specs.declared.tag.Fork.{Fork}
 use Rattle.block_tag.specs.Names.{lane_number}
-use Rattle.log_device.specs.MemoryLog.{StoredLog}
+use Rattle.byte_devices.specs.MemoryLog.{StoredLog}
 use Rattle.segment_store.specs.Contents.{Marks, Pages, no_marks}
 use Rattle.segment_store.specs.Lanes.{mark_in, tag_at}
 use Rattle.segment_store.specs.Logs.{Logs, empty_log, given_log, logs_after, with_log}

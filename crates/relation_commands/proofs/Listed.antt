@@ -3,8 +3,8 @@ use Rattle.std.proofs.Common.{◌≡◌, ℕ, zero, suc, ◌<◌, ◌≤◌, ◌
 use Rattle.std.specs.Prelude.{All, IfErr, IfOk, IsOkAnd, MatchResult, OnOk, sum_by}
 use Rattle.block_tag.specs.declared.tag.Fork.{Fork}
 use Rattle.block_tag.specs.Names.{lane_number}
-use Rattle.log_device.specs.Bytes.{Puts}
-use Rattle.log_device.specs.Faults.{Rose}
+use Rattle.byte_devices.specs.Bytes.{Puts}
+use Rattle.byte_devices.specs.Faults.{Rose}
 use Rattle.page_layout.specs.declared.scan.ScanTotals.{ScanTotals}
 use Rattle.segment_store.specs.Contents.{Marks, Pages, no_marks}
 use Rattle.segment_store.specs.Lanes.{tag_at}

@@ -2,7 +2,7 @@
 use Rattle.std.proofs.Common.{ℕ, List, [], Option, Some, None, Err, refl, sym}
 use Rattle.std.specs.Prelude.{IfSome, IsSomeAnd}
 use Rattle.std.proofs.lemmas.List.{append-nil}
-use Rattle.log_device.specs.Bytes.{GainsPrefix, Puts}
+use Rattle.byte_devices.specs.Bytes.{GainsPrefix, Puts}
 
 gains_nothing : (text : List ℕ) (old : Option (List ℕ)) → IfSome old (λ bytes. IsSomeAnd old (GainsPrefix text bytes))
 gains_nothing text None = tt

@@ -3,8 +3,8 @@ use Rattle.std.proofs.Common.{◌≡◌, ◌≢◌, ℕ, zero, suc, ◌+◌, ◌
 use Rattle.std.specs.Prelude.{IfSome, IsErrOf, IsSome, IsSomeAnd, get_or, sum_by}
 use Rattle.std.proofs.lemmas.List.{length-map}
 use Rattle.std.proofs.lemmas.List.Sums.{get_or-le-sum_by}
-use Rattle.log_device.specs.Faults.{Added, Rose}
-use Rattle.log_device.specs.MemoryLog.{StoredLog}
+use Rattle.byte_devices.specs.Faults.{Added, Rose}
+use Rattle.byte_devices.specs.MemoryLog.{StoredLog}
 use Rattle.segment_store.specs.Contents.{Marks, Pages}
 use Rattle.segment_store.specs.Logs.{IsOpenedSource, Logs}
 use Rattle.segment_store.specs.Paths.{Paths}

@@ -13,8 +13,8 @@ use Rattle.block_tag.specs.declared.tag.Fork.{Fork}
 use Rattle.block_tag.specs.declared.tag.Fork.TheVariants.{Main}
 use Rattle.block_tag.specs.declared.tag.Tag.{Tag}
 use Rattle.block_tag.specs.Names.{lane_number, packed_tag}
-use Rattle.log_device.specs.Faults.{Rose}
-use Rattle.log_device.specs.MemoryLog.{StoredLog}
+use Rattle.byte_devices.specs.Faults.{Rose}
+use Rattle.byte_devices.specs.MemoryLog.{StoredLog}
 use Rattle.segment_store.specs.declared.host.HostError.{HostError}
 use Rattle.segment_store.specs.declared.host.HostError.TheVariants as host
 use Rattle.segment_store.specs.declared.host.Opened.{Opened}

@@ -10,7 +10,7 @@ use Rattle.block_tag.specs.declared.tag.Fork.TheVariants.{Main}
 use Rattle.block_tag.specs.Catalogue.{IsCatalogue}
 use Rattle.command_line.specs.RelationPath.{relation_number}
 use Rattle.grid.proofs.Lists.{at_end, at_last, at_longer}
-use Rattle.log_device.specs.MemoryLog.{StoredLog}
+use Rattle.byte_devices.specs.MemoryLog.{StoredLog}
 use Rattle.pin_core.specs.State.{Page}
 use Rattle.history_core.specs.Log.{AreOfPages, Change, Entry, IsChange, IsEntryOf, Log, LogLaw, change_size, end_of, head_bytes, head_size, image, log_bytes, log_end, page_after, record_bytes, record_size, records, tag_in}
 use Rattle.history_core.specs.State.{last_position}

@@ -8,7 +8,7 @@ use Rattle.std.proofs.lemmas.List.{drop_all, length-take, take_all}
 use Rattle.std.proofs.lemmas.Option.{same_Some}
 use mathlib.Core.Option.{some, some-ne-none}
 use lib.ListN.{get_elem?, length-replicate}
-use Rattle.log_device.specs.MemoryLog.{StoredLog}
+use Rattle.byte_devices.specs.MemoryLog.{StoredLog}
 use Rattle.segment_store.specs.Growth.{extended}
 use Rattle.segment_store.specs.Paths.{Paths}
 use Rattle.segment_store.specs.Relation.{relation_of, segment_pages}

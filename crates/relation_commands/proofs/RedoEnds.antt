@@ -3,7 +3,7 @@ use Rattle.std.proofs.Common.{◌⊎◌, inl, inr, ℕ, List, map, Option, Some,
 use Rattle.std.specs.Prelude.{IfSome, IsErrOf}
 use Rattle.std.proofs.lemmas.Option.{IfSome_then}
 use Rattle.block_tag.specs.declared.catalogue.RelEntry.{RelEntry}
-use Rattle.log_device.specs.Faults.{Rose}
+use Rattle.byte_devices.specs.Faults.{Rose}
 use Rattle.segment_store.specs.Contents.{Marks, Pages}
 use Rattle.log_recovery.specs.declared.error.RecoverError.{RecoverError}
 use Rattle.log_recovery.specs.declared.error.RecoverError.TheVariants as recovery

@@ -9,8 +9,8 @@ use Rattle.std.proofs.lemmas.List.Sums.{count_by-le-length}
 use Rattle.block_tag.specs.declared.tag.Fork.{Fork}
 use Rattle.block_tag.specs.declared.tag.Fork.TheVariants.{Main}
 use Rattle.command_line.specs.RelationPath.{relation_number}
-use Rattle.log_device.specs.Bytes.{Puts}
-use Rattle.log_device.specs.MemoryLog.{StoredLog}
+use Rattle.byte_devices.specs.Bytes.{Puts}
+use Rattle.byte_devices.specs.MemoryLog.{StoredLog}
 use Rattle.page_layout.specs.declared.outcomes.RewriteTotals.{RewriteTotals}
 use Rattle.page_layout.specs.Outcomes.{is_changed_outcome, page_rewrite_of, rewrite_totals_of}
 use Rattle.segment_store.specs.declared.host.Opened.{Opened}

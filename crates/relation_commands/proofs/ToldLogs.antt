@@ -1,7 +1,7 @@
 -- The log that a file's bytes tell.
 use Rattle.std.proofs.Common.{◌≡◌, ℕ, ◌-◌, ◌%◌, ◌^◌, ◌<◌, ◌≤◌, List, [], ◌∷◌, ◌++◌, append-nil, length, unwrap_or, sym, refl, ap, ◌∙◌, subst, arith}
 use Rattle.std.proofs.lemmas.List.{append_cancel_left}
-use Rattle.log_device.specs.MemoryLog.{StoredLog}
+use Rattle.byte_devices.specs.MemoryLog.{StoredLog}
 use Rattle.block_tag.specs.declared.catalogue.RelEntry.{RelEntry}
 use Rattle.block_tag.specs.Catalogue.{IsCatalogue}
 use Rattle.command_line.specs.RelationPath.{relation_number}

@@ -3,9 +3,9 @@ use Rattle.std.specs.Prelude.{◌≡◌, ◌≢◌, ◌<◌, ◌≤◌, ◌⊎�
 use Rattle.std.specs.Prelude.{[], ◌++◌, length, Option, Some, None, Result, Ok, Err, IfSome, IsSome}
 use Rattle.std.specs.Prelude.{IsSomeAnd, option_map, unwrap_or, if◌then◌else◌, codes}
 use Rattle.command_line.specs.declared.numbers.Options.{Options}
-use Rattle.log_device.specs.declared.device.Failed.{Failed}
-use Rattle.log_device.specs.Bytes.{GainsPrefix, Puts}
-use Rattle.log_device.specs.Faults.{HasCause, Rose}
+use Rattle.byte_devices.specs.declared.device.Failed.{Failed}
+use Rattle.byte_devices.specs.Bytes.{GainsPrefix, Puts}
+use Rattle.byte_devices.specs.Faults.{HasCause, Rose}
 use Rattle.segment_store.specs.Logs.{Logs}
 use Rattle.segment_store.specs.Paths.{PathMarks, Paths}
 use Rattle.segment_store.specs.Relation.{relation_of}

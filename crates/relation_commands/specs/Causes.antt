@@ -1,6 +1,6 @@
 -- When a listing of blocks ends before its end.
 use Rattle.std.specs.Prelude.{◌≡◌, ℕ, ◌≤◌, Result, Ok, Err, MatchResult}
-use Rattle.log_device.specs.Faults.{Rose}
+use Rattle.byte_devices.specs.Faults.{Rose}
 use Rattle.page_jobs.specs.declared.ending.JobError.{JobError}
 use Rattle.page_jobs.specs.declared.ending.JobError.TheVariants as job
 use Rattle.page_jobs.specs.declared.ending.Totals.{Totals}

@@ -2,7 +2,7 @@
 use Rattle.std.specs.Prelude.{◌≡◌, ◌≢◌, ◌≤◌, ◌⊎◌, ℕ, List, Option, IfErr, IfOk, IfSome, IsErrOf}
 use Rattle.std.specs.Prelude.{OnErr, OnOk, Result, length, map}
 use Rattle.block_tag.specs.declared.catalogue.RelEntry.{RelEntry}
-use Rattle.log_device.specs.Faults.{Rose}
+use Rattle.byte_devices.specs.Faults.{Rose}
 use Rattle.segment_store.specs.Contents.{Marks, Pages}
 use Rattle.segment_store.specs.Logs.{Logs}
 use Rattle.log_recovery.specs.declared.error.RecoverError.{RecoverError}

@@ -8,8 +8,8 @@ use Rattle.block_tag.specs.declared.catalogue.RelEntry.{RelEntry}
 use Rattle.block_tag.specs.declared.tag.Fork.TheVariants.{Main}
 use Rattle.block_tag.specs.Names.{packed_tag}
 use Rattle.command_line.specs.RelationPath.{relation_number}
-use Rattle.log_device.specs.Faults.{Rose}
-use Rattle.log_device.specs.MemoryLog.{StoredLog}
+use Rattle.byte_devices.specs.Faults.{Rose}
+use Rattle.byte_devices.specs.MemoryLog.{StoredLog}
 use Rattle.segment_store.specs.Growth.{extended}
 use Rattle.segment_store.specs.Lanes.{tag_at}
 use Rattle.segment_store.specs.Logs.{Logs}

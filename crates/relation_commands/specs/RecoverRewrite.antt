@@ -6,7 +6,7 @@ use lib.ListN.{get_elem?}
 use Rattle.block_tag.specs.declared.catalogue.RelEntry.{RelEntry}
 use Rattle.block_tag.specs.declared.tag.Fork.TheVariants.{Main}
 use Rattle.command_line.specs.RelationPath.{relation_number}
-use Rattle.log_device.specs.MemoryLog.{StoredLog}
+use Rattle.byte_devices.specs.MemoryLog.{StoredLog}
 use Rattle.pin_core.specs.State.{Page}
 use Rattle.history_core.specs.Log.{Entry, IsEntryOf, Log, end_of, head_size, log_end, page_after}
 use Rattle.history_core.specs.Log.{record_size, tag_in}

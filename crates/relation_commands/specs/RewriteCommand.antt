@@ -3,7 +3,7 @@
 use Rattle.std.specs.Prelude.{◌≡◌, ◌≢◌, ◌⊎◌, ℕ, ◌+◌, ◌*◌, ◌%◌, ◌<◌, ◌≤◌, List, [], All, length, map}
 use Rattle.std.specs.Prelude.{sum_by, Option, Some, None, IfSome, Result, Ok, Err, MatchResult}
 use Rattle.std.specs.Prelude.{option_map}
-use Rattle.log_device.specs.Faults.{Rose}
+use Rattle.byte_devices.specs.Faults.{Rose}
 use Rattle.segment_store.specs.Contents.{Marks, Pages, no_marks}
 use Rattle.segment_store.specs.Lanes.{HasBlocks}
 use Rattle.segment_store.specs.Logs.{Logs, empty_log, with_log}

@@ -4,8 +4,8 @@ use Rattle.std.specs.Prelude.{IfSome, IsSomeAnd, if◌then◌else◌, unwrap_or,
 use Rattle.std.specs.Str.{bytes_eq}
 use Rattle.block_tag.specs.declared.tag.Fork.TheVariants.{Main}
 use Rattle.command_line.specs.RelationPath.{relation_number}
-use Rattle.log_device.specs.Faults.{Rose}
-use Rattle.log_device.specs.MemoryLog.{StoredLog}
+use Rattle.byte_devices.specs.Faults.{Rose}
+use Rattle.byte_devices.specs.MemoryLog.{StoredLog}
 use Rattle.segment_store.specs.Logs.{Logs, with_log}
 use Rattle.segment_store.specs.Paths.{OpenAt, PathMarks, Paths}
 use Rattle.segment_store.specs.Relation.{relation_of}

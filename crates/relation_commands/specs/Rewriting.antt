@@ -5,7 +5,7 @@ use Rattle.std.specs.Prelude.{is_some}
 use Rattle.segment_store.specs.Contents.{Marks, Pages}
 use Rattle.segment_store.specs.Lanes.{HoldPages, mark_in, tag_at}
 use Rattle.segment_store.specs.Restored.{pages_in}
-use Rattle.log_device.specs.Faults.{Rose}
+use Rattle.byte_devices.specs.Faults.{Rose}
 use Rattle.page_layout.specs.declared.outcomes.RewriteTotals.{RewriteTotals}
 use Rattle.page_layout.specs.Outcomes.{rewrite_totals_of}
 use Rattle.pin_core.specs.State.{Page}

@@ -1,6 +1,6 @@
 -- What a sample prints, and why it isn't done.
 use Rattle.std.specs.Prelude.{◌≡◌, ℕ, List, ◌++◌, map}
-use Rattle.log_device.specs.Faults.{Rose}
+use Rattle.byte_devices.specs.Faults.{Rose}
 use Rattle.command_line.specs.declared.numbers.Options.{Options}
 use Rattle.page_layout.specs.Scan.{totals_of}
 use Rattle.page_jobs.specs.Printed.{totals_line}

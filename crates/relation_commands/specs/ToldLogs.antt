@@ -4,7 +4,7 @@ use Rattle.block_tag.specs.declared.catalogue.RelEntry.{RelEntry}
 use Rattle.block_tag.specs.declared.tag.Fork.TheVariants.{Main}
 use Rattle.block_tag.specs.Catalogue.{IsCatalogue}
 use Rattle.command_line.specs.RelationPath.{relation_number}
-use Rattle.log_device.specs.MemoryLog.{StoredLog}
+use Rattle.byte_devices.specs.MemoryLog.{StoredLog}
 use Rattle.pin_core.specs.State.{Page}
 use Rattle.history_core.specs.Log.{Log, LogLaw, log_bytes, record_size}
 use Rattle.history_core.specs.State.{last_position}

@@ -4,7 +4,7 @@ ghost use Rattle.relation_commands.specs.Rounds.{MakesRounds};
 
 use backend_pass::{FlushError, Manager, Pass};
 use bg_writer::round;
-use log_device::LogDevice;
+use byte_devices::LogDevice;
 use page_jobs::Beside;
 use segment_store::BlockLane;
 use std::sync::Wait;

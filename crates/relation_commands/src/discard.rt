@@ -1,5 +1,5 @@
 //! A sink for what isn't wanted.
-use log_device::{Failed, Sink};
+use byte_devices::{Failed, Sink};
 
 /// Drops what is put. No put fails.
 #[derive(Drop)]

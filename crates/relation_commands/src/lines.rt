@@ -1,10 +1,10 @@
 //! The lines that a command prints in the end.
 ghost use Rattle.std.specs.Prelude.{◌≡◌, ◌≢◌, ◌≤◌, ℕ, List, IfErr, IfOk, OnOk, string_bytes};
-ghost use Rattle.log_device.specs.Bytes.{Puts};
+ghost use Rattle.byte_devices.specs.Bytes.{Puts};
 ghost use Rattle.relation_commands.specs.RewriteCommand.{IsPutRefusal};
 
 use crate::rewriting::RewriteError;
-use log_device::Sink;
+use byte_devices::Sink;
 use std::alloc::AllocError;
 
 /// Puts lines, unless there was no memory for them.

@@ -5,7 +5,7 @@
 //! and a log in memory that begins at 0 with room for its head alone.
 ghost use Rattle.std.specs.Prelude.{◌≡◌, ◌≤◌, ◌%◌, ◌^◌, List, Ok, IfOk, IfErr, OnOk, All, length};
 ghost use Rattle.std.specs.Prelude.{map, sum_by, vec_len};
-ghost use Rattle.log_device.specs.Bytes.{Puts};
+ghost use Rattle.byte_devices.specs.Bytes.{Puts};
 ghost use Rattle.segment_store.specs.Contents.{no_marks};
 ghost use Rattle.segment_store.specs.Lanes.{HasBlocks, HoldPages};
 ghost use Rattle.pin_core.specs.State.{Page};
@@ -27,8 +27,8 @@ use crate::beside::Rounds;
 use crate::starting::{RelationFork, new_log, start};
 use backend_pass::{Manager, Pass};
 use block_tag::RelNo;
+use byte_devices::{MemLog, Sink};
 use command_line::{Listing, Options};
-use log_device::{MemLog, Sink};
 use page_jobs::{Gate, JobEnd, JobError, Totals, dump, scan};
 use page_layout::{Lsn, ScanTotals};
 use segment_store::BlockLane;

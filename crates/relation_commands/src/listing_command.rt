@@ -1,7 +1,7 @@
 //! The commands `scan` and `dump` over a host.
 ghost use Rattle.std.specs.Prelude.{◌≡◌, ◌≤◌, IfErr, IfSome};
 ghost use Rattle.command_line.specs.Numbers.{HasOptionsInRange};
-ghost use Rattle.log_device.specs.Bytes.{Puts};
+ghost use Rattle.byte_devices.specs.Bytes.{Puts};
 ghost use Rattle.segment_store.specs.Opening.{IsOpened};
 ghost use Rattle.segment_store.specs.Paths.{fork_of};
 ghost use Rattle.relation_commands.specs.Answers.{EndsCommand, counts_of, pages_asked, text_asked};
@@ -13,8 +13,8 @@ ghost use Rattle.relation_commands.specs.Status.{status_of_error};
 use crate::error::{ToolError, crowding_in};
 use crate::listing::{Listed, ListingEnd, ListingError, list};
 use crate::starting::RelationFork;
+use byte_devices::Sink;
 use command_line::{ListRequest, Request};
-use log_device::Sink;
 use page_jobs::Gate;
 use segment_store::{Host, Opened};
 use std::alloc::Global;

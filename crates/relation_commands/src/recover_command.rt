@@ -1,7 +1,7 @@
 //! Recovers the relation at a path, by the log of a rewrite at another.
 ghost use Rattle.std.specs.Prelude.{◌≡◌, ◌≢◌, ◌≤◌, ◌<◌, IfErr, IfOk, IfSome, OnOk, length, map};
 ghost use Rattle.command_line.specs.Numbers.{HasOptionsInRange};
-ghost use Rattle.log_device.specs.Bytes.{Puts};
+ghost use Rattle.byte_devices.specs.Bytes.{Puts};
 ghost use Rattle.segment_store.specs.Lanes.{HoldTheirs};
 ghost use Rattle.segment_store.specs.Logs.{IsOpenedSource};
 ghost use Rattle.segment_store.specs.Opening.{IsOpened};
@@ -20,8 +20,8 @@ use crate::lines::put_lines;
 use crate::rewriting::RewriteError;
 use crate::starting::RelationFork;
 use block_tag::Fork;
+use byte_devices::{Sink, Source};
 use command_line::{RecoverRequest, Request};
-use log_device::{Sink, Source};
 use log_recovery::{RecoverError, Redone, recover};
 use page_layout::{Page, Position};
 use segment_store::{BlockLane, Host, Opened};

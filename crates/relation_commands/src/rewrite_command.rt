@@ -7,7 +7,7 @@ ghost use Rattle.std.specs.Prelude.{◌≡◌, ◌≢◌, ◌≤◌, ◌<◌, �
 ghost use Rattle.std.specs.Prelude.{IfSome, MatchResult, OnOk, length, map, option_map, sum_by};
 ghost use Rattle.std.specs.Option.{option_map_or};
 ghost use Rattle.command_line.specs.Numbers.{HasOptionsInRange};
-ghost use Rattle.log_device.specs.Bytes.{Puts};
+ghost use Rattle.byte_devices.specs.Bytes.{Puts};
 ghost use Rattle.segment_store.specs.Lanes.{HasBlocks};
 ghost use Rattle.segment_store.specs.Opening.{IsOpened};
 ghost use Rattle.segment_store.specs.Paths.{fork_of};
@@ -34,8 +34,8 @@ use crate::lines::put_lines;
 use crate::rewriting::{RewriteEnd, RewriteError, rewrite_lanes};
 use crate::starting::RelationFork;
 use block_tag::Fork;
+use byte_devices::Sink;
 use command_line::{Request, RewriteRequest};
-use log_device::Sink;
 use page_jobs::{Gate, survey};
 use page_layout::{Lsn, Page, Position, RewriteTotals};
 use segment_store::{BlockLane, Host, LogOpen, Opened};

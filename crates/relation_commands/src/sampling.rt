@@ -7,7 +7,7 @@
 ghost use Rattle.std.specs.Prelude.{◌≡◌, ◌≢◌, ◌≤◌, ◌%◌, ◌^◌, List, IfErr, IfOk, OnOk, length};
 ghost use Rattle.std.specs.Prelude.{sum_by};
 ghost use Rattle.command_line.specs.Numbers.{HasOptionsInRange};
-ghost use Rattle.log_device.specs.Bytes.{Puts};
+ghost use Rattle.byte_devices.specs.Bytes.{Puts};
 ghost use Rattle.page_layout.specs.Scan.{totals_of};
 ghost use Rattle.pin_core.specs.State.{Page};
 ghost use Rattle.relation_commands.specs.Crowded.{IsCrowded};
@@ -27,8 +27,8 @@ use crate::rewrite_command::survey_base;
 use crate::rewriting::{RewriteEnd, RewriteError, rewrite_lanes};
 use crate::starting::{RelationFork, new_log};
 use block_tag::Fork;
+use byte_devices::Sink;
 use command_line::{Listing, Options, SampleRequest};
-use log_device::Sink;
 use page_jobs::Gate;
 use page_layout::{Lsn, Memory, Position, RewriteTotals, ScanTotals, all_positions};
 use sample_relation::sample_lanes;

@@ -12,8 +12,8 @@ ghost use Rattle.relation_commands.specs.Starting.{IsStarted, log_of, relation_e
 
 use backend_pass::{Config, Manager, Pass, StartRefused};
 use block_tag::{Catalog, Fork, RelEntry};
+use byte_devices::{LogDevice, LogPlan, MemLog};
 use command_line::Options;
-use log_device::{LogDevice, LogPlan, MemLog};
 use log_recovery::HEAD_SIZE;
 use page_layout::Lsn;
 use segment_store::BlockLane;

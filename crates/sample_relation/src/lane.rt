@@ -3,7 +3,7 @@ ghost use Rattle.std.specs.Prelude.{◌≡◌, []};
 ghost use Rattle.segment_store.specs.MemoryLane.{plan_of};
 
 use block_tag::Tag;
-use log_device::Failed;
+use byte_devices::Failed;
 use page_layout::{Memory, Page};
 use segment_store::{BlockLane, LanePlan, MemLane};
 use std::alloc::Global;

@@ -6,14 +6,14 @@ ghost use Rattle.segment_store.specs.Contents.{no_marks};
 ghost use Rattle.segment_store.specs.History.{unsynced_in};
 ghost use Rattle.segment_store.specs.Faults.{HasOpeningCause};
 ghost use Rattle.segment_files.specs.Catalog.{HaveNoClashes};
-ghost use Rattle.log_device.specs.Faults.{Added};
+ghost use Rattle.byte_devices.specs.Faults.{Added};
 
 use crate::catalog::{CatalogFile, OpenedCatalog, open_catalog};
 use crate::lane::FileLane;
 use crate::opening::{FileIdentity, open_empty, open_source};
 use crate::shared::SharedFiles;
 use block_tag::RelNo;
-use log_device::{FaultCount, FileLog, FileSource};
+use byte_devices::{FaultCount, FileLog, FileSource};
 use segment_store::{Host, HostError, LogOpen, Opened, fork_of_path};
 use std::alloc::Global;
 use std::io::{ErrorKind, Read};

@@ -6,7 +6,7 @@ ghost use Rattle.segment_store.specs.History.{calls_in, unsynced_in};
 use crate::opening::open_segment;
 use crate::shared::{SharedFiles, files_of};
 use block_tag::{Fork, RelNo, Tag, segment_place};
-use log_device::{Failed, FaultCount};
+use byte_devices::{Failed, FaultCount};
 use page_layout::{PAGE_SIZE, Page};
 use segment_store::{BlockLane, LaneHistory};
 use std::alloc::Global;

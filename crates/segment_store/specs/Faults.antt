@@ -1,6 +1,6 @@
 -- Counts of faults of openings.
 use Rattle.std.specs.Prelude.{◌≡◌, ℕ, ◌+◌, ◌-◌, ◌^◌, ◌≤◌, min, Result, MatchResult}
-use Rattle.log_device.specs.Faults.{Rose}
+use Rattle.byte_devices.specs.Faults.{Rose}
 use Rattle.segment_store.specs.declared.host.HostError.{HostError}
 use Rattle.segment_store.specs.declared.host.HostError.TheVariants.{Missing, Failed, Memory}
 

@@ -1,6 +1,6 @@
 -- What a lane's calls were.
 use Rattle.std.specs.Prelude.{ℕ, true}
-use Rattle.log_device.specs.Calls.{calls_counted}
+use Rattle.byte_devices.specs.Calls.{calls_counted}
 use Rattle.segment_store.specs.Contents.{Marks, no_marks, with_mark}
 use Rattle.segment_store.specs.declared.history.LaneHistory.{LaneHistory}
 use Rattle.segment_store.specs.declared.history.WrittenTags.{WrittenTags}

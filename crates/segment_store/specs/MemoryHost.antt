@@ -4,7 +4,7 @@ use Rattle.std.specs.declared.alloc.Global.{Global}
 use Rattle.segment_store.specs.Lanes.{mark_in, tag_at}
 use Rattle.segment_store.specs.MemoryLane.{marks_of}
 use Rattle.segment_store.specs.Paths.{OpenAt, PathMarks, Paths, fork_of, of_first}
-use Rattle.log_device.specs.Plan.{Plan}
+use Rattle.byte_devices.specs.Plan.{Plan}
 use Rattle.segment_store.specs.declared.memory_file.MemFile.{MemFile}
 use Rattle.segment_store.specs.declared.memory_host.MemHost.{MemHost}
 use Rattle.segment_store.specs.declared.memory_lane.LanePlan.{LanePlan}

@@ -6,7 +6,7 @@ use Rattle.std.proofs.Common.{refl}
 use Rattle.std.specs.BTreeMap as tree
 use Rattle.block_tag.specs.contracts.tag.TagOrd.TheImpl as tags
 use Rattle.segment_store.specs.Contents.{Marks, Pages}
-use Rattle.log_device.specs.Plan.{fresh_plan}
+use Rattle.byte_devices.specs.Plan.{fresh_plan}
 use Rattle.segment_store.specs.History.{calls_in, unsynced_in}
 use Rattle.segment_store.specs.declared.memory_lane.LanePlan.{LanePlan}
 use Rattle.segment_store.specs.declared.memory_block.MemBlock.{MemBlock}

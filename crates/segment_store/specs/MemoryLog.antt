@@ -1,6 +1,6 @@
 -- The logs of a host in memory.
 use Rattle.std.specs.Prelude.{ℕ, List, length, Option, Some, None, string_bytes}
-use Rattle.log_device.specs.MemoryLog.{StoredLog, as_stored}
+use Rattle.byte_devices.specs.MemoryLog.{StoredLog, as_stored}
 use Rattle.segment_store.specs.Logs.{Logs}
 use Rattle.segment_store.specs.Paths.{of_first}
 use Rattle.segment_store.specs.declared.memory_logs.LogFile.{LogFile}

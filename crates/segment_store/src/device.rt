@@ -2,12 +2,12 @@
 ghost use Rattle.std.specs.Prelude.{◌≡◌, ◌+◌, ◌<◌, ◌^◌, ℕ, Option, Some, OnOk, IfSome, IsSome};
 ghost use Rattle.std.specs.Prelude.{MatchResult, true};
 ghost use Rattle.std.specs.Option.{ForSome};
-ghost use Rattle.log_device.specs.Faults.{HasCause};
+ghost use Rattle.byte_devices.specs.Faults.{HasCause};
 ghost use Rattle.segment_store.specs.Contents.{AfterWrite, AreFullPages, HasRoom, Marks, Pages};
 ghost use Rattle.segment_store.specs.Contents.{no_marks, with_mark};
 
 use block_tag::Tag;
-use log_device::Failed;
+use byte_devices::Failed;
 use page_layout::Page;
 
 /// Blocks by their tags, as a storage manager keeps them for one backend at a time.

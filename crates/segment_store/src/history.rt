@@ -3,7 +3,7 @@ ghost use Rattle.std.specs.Prelude.{◌≡◌, ◌+◌, true};
 ghost use Rattle.segment_store.specs.Contents.{no_marks, with_mark};
 
 use block_tag::Tag;
-use log_device::CallCount;
+use byte_devices::CallCount;
 use std::snapshot::Snapshot;
 
 /// Blocks that were written, by their tags.

@@ -2,7 +2,7 @@
 ghost use Rattle.std.specs.Prelude.{◌≡◌, ◌≢◌, ℕ, ◌+◌, ◌<◌, ◌≤◌, ◌^◌, List, [], Option, IfOk};
 ghost use Rattle.std.specs.Prelude.{IfSome, IsErrOf, IsSome, MatchResult, map, option_map, sum_by};
 ghost use Rattle.std.specs.Option.{option_map_or};
-ghost use Rattle.log_device.specs.Faults.{Added};
+ghost use Rattle.byte_devices.specs.Faults.{Added};
 ghost use Rattle.segment_store.specs.Faults.{HasOpeningCause};
 ghost use Rattle.segment_store.specs.Growth.{paths_given};
 ghost use Rattle.segment_store.specs.Logs.{HasLogCause, IsOpenedLog, IsOpenedSource, Logs};
@@ -12,7 +12,7 @@ ghost use Rattle.segment_store.specs.Paths.{OpenAt, PathMarks, Paths, fork_of};
 ghost use Rattle.segment_store.specs.Restored.{cleared, marks_after};
 
 use crate::device::BlockLane;
-use log_device::{LogDevice, Source};
+use byte_devices::{LogDevice, Source};
 use std::alloc::Global;
 use thiserror::Error;
 

@@ -2,13 +2,13 @@
 ghost use Rattle.std.specs.Prelude.{[], IsSome, MatchResult, option_map, ◌≡◌, ◌+◌, Some};
 ghost use Rattle.std.specs.Prelude.{IfOk, OnOk, OnErr, is_ok, not, ◌&&◌, true, false};
 ghost use Rattle.std.specs.Option.{ForSome};
-ghost use Rattle.log_device.specs.Faults.{CountsOne, HasCause};
+ghost use Rattle.byte_devices.specs.Faults.{CountsOne, HasCause};
 ghost use Rattle.segment_store.specs.Contents.{AfterWrite, no_marks, no_pages, with_mark};
 ghost use Rattle.segment_store.specs.Contents.{with_page};
 ghost use Rattle.segment_store.specs.MemoryLane.{calls_of, fresh_lane_plan, marks_of, pages_of};
 ghost use Rattle.segment_store.specs.MemoryLane.{plan_of, room_of, there_has_room, torn_page};
 ghost use Rattle.segment_store.specs.MemoryLane.{unsynced_of, whole_page};
-ghost use Rattle.log_device.specs.Plan.{after_call, fails_next};
+ghost use Rattle.byte_devices.specs.Plan.{after_call, fails_next};
 ghost use Rattle.std.specs.BTreeMap as tree;
 ghost use Rattle.block_tag.specs.contracts.tag.TagOrd.TheImpl as tags;
 
@@ -16,7 +16,7 @@ use crate::device::BlockLane;
 use crate::history::LaneHistory;
 use crate::memory_block::MemBlock;
 use block_tag::Tag;
-use log_device::{Failed, FaultCount, FaultPlan};
+use byte_devices::{Failed, FaultCount, FaultPlan};
 use page_layout::Page;
 use std::alloc::{AllocError, Global};
 use std::collections::BTreeMap;

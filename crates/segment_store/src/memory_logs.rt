@@ -3,17 +3,17 @@ ghost use Rattle.std.specs.Prelude.{◌≡◌, [], Some, None, IfOk, IsErrOf, Is
 ghost use Rattle.std.specs.Prelude.{MatchResult, option_map, string_bytes, true, ◌↔◌};
 ghost use Rattle.std.specs.List.{position};
 ghost use Rattle.std.specs.Str.{bytes_eq};
-ghost use Rattle.log_device.specs.Faults.{Added};
+ghost use Rattle.byte_devices.specs.Faults.{Added};
 ghost use Rattle.segment_store.specs.Logs.{CountsOneLogOpening, HasLogCause, empty_log, logs_after};
 ghost use Rattle.segment_store.specs.Logs.{with_log};
 ghost use Rattle.segment_store.specs.MemoryLog.{all_durable, logs_at, opened_path};
-ghost use Rattle.log_device.specs.MemorySource.{left_of};
-ghost use Rattle.log_device.specs.MemoryLog.{appends_of, as_stored, room_of, syncs_of};
-ghost use Rattle.log_device.specs.Plan.{after_call, fails_next, fresh_plan};
+ghost use Rattle.byte_devices.specs.MemorySource.{left_of};
+ghost use Rattle.byte_devices.specs.MemoryLog.{appends_of, as_stored, room_of, syncs_of};
+ghost use Rattle.byte_devices.specs.Plan.{after_call, fails_next, fresh_plan};
 
 use crate::host::{HostError, LogOpen};
 use crate::source_plan::SourcePlan;
-use log_device::{FaultCount, FaultPlan, LogDevice, LogPlan, MemLog, MemSource};
+use byte_devices::{FaultCount, FaultPlan, LogDevice, LogPlan, MemLog, MemSource};
 use std::alloc::{AllocError, Global};
 
 /// A log's path, and the log as it was put or given back last: empty if none was since it was

@@ -1,7 +1,7 @@
 //! How the logs of a host in memory are read.
 ghost use Rattle.std.specs.Prelude.{◌≡◌, ◌≤◌};
 
-use log_device::FaultPlan;
+use byte_devices::FaultPlan;
 
 /// How logs are read: which openings are to fail, which calls of each source, and how many bytes a
 /// call gives at most.

@@ -28,11 +28,11 @@ use buffer_frames::{
     Backend, BlockError, FlushedPage, FrameFlushError, HeldPins, PinnedBlock, flush_frame,
     put_locked, read_block,
 };
+use byte_devices::LogDevice;
 use cleanup_lock::{CleanupError, lock};
 use clock_sweep::Sweep;
 use content_locks::{Direction, IoRight, copy_out, end_io, start_io};
 use frame_table::{FrameTable, Value};
-use log_device::LogDevice;
 use page_layout::{Lsn, Page};
 use pin_core::View;
 use segment_store::BlockLane;

@@ -9,9 +9,9 @@ ghost use Rattle.clock_sweep.specs.FreeLists.{IsOfSweep};
 
 use access_rings::Ring;
 use atomic_table::Seat;
+use byte_devices::LogDevice;
 use clock_sweep::{Census, LockedFrame, NoUnpinned, QueuePass, Sweep, victim};
 use frame_table::{FrameTable, Value};
-use log_device::LogDevice;
 use pin_core::View;
 use segment_store::BlockLane;
 use std::sync::Wait;

@@ -9,8 +9,8 @@ ghost use Rattle.frame_table.specs.WordSteps.{load_counter, view_of, view_publis
 ghost use Rattle.wal_flush.specs.Flushes.{Flushed};
 
 use atomic_table::Seat;
+use byte_devices::LogDevice;
 use frame_table::{EndLoad, FrameTable, Turn, Value};
-use log_device::LogDevice;
 use page_layout::Lsn;
 use pin_core::View;
 use segment_store::BlockLane;

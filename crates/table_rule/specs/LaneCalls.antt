@@ -1,6 +1,6 @@
 -- What the one call of a lane that is out did to the lane, and what the lane was as it went out.
 use Rattle.std.specs.Prelude.{◌≡◌, ℕ, ◌+◌, true, false, List, Option, Some, None, IsSomeAnd}
-use Rattle.log_device.specs.Faults.{Rose}
+use Rattle.byte_devices.specs.Faults.{Rose}
 use Rattle.block_tag.specs.declared.tag.Tag.{Tag}
 use Rattle.segment_store.specs.declared.device.BlockLane as lane_trait
 use Rattle.segment_store.specs.Contents.{Pages, Marks, no_marks, with_page, with_mark, IsTorn}

@@ -1,7 +1,7 @@
 -- The record of a page, and what a call of the log makes of its device.
 use Rattle.std.specs.Prelude.{◌≡◌, ℕ, ◌+◌, Bool, true, false, List, ◌++◌, length, Option, None, option_map, IfSome, IsSomeAnd}
-use Rattle.log_device.specs.Bytes.{GainsPrefix}
-use Rattle.log_device.specs.Faults.{Rose}
+use Rattle.byte_devices.specs.Bytes.{GainsPrefix}
+use Rattle.byte_devices.specs.Faults.{Rose}
 use Rattle.block_tag.specs.declared.tag.Tag.{Tag}
 use Rattle.block_tag.specs.declared.catalogue.RelEntry.{RelEntry}
 use Rattle.block_tag.specs.Names.{packed_tag}

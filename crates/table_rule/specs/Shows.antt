@@ -9,7 +9,7 @@ use Rattle.state_word.specs.Fields.{fields, bit}
 use Rattle.block_tag.specs.declared.tag.Tag.{Tag}
 use Rattle.block_tag.specs.Names.{unpacked_tag, lane_number}
 use Rattle.block_tag.specs.declared.catalogue.RelEntry.{RelEntry}
-use Rattle.log_device.specs.declared.device.LogDevice as log_trait
+use Rattle.byte_devices.specs.declared.device.LogDevice as log_trait
 use Rattle.segment_store.specs.declared.device.BlockLane as lane_trait
 use Rattle.segment_store.specs.Contents.{Pages, Marks}
 use Rattle.pin_core.specs.declared.view.View.{View}

@@ -12,7 +12,7 @@ ghost use Rattle.table_rule.specs.LaneCalls.{LaneDid, NotesRead, NotesWritten, N
 use crate::value::Value;
 use atomic_table::Seat;
 use block_tag::Tag;
-use log_device::Failed;
+use byte_devices::Failed;
 use page_layout::Page;
 use pin_core::View;
 use segment_store::BlockLane;

@@ -11,8 +11,8 @@ ghost use Rattle.table_rule.specs.LogCalls.{IsAppended, IsFailedAppend, LogDid, 
 ghost use Rattle.table_rule.specs.declared.noted_log.LogCall.TheVariants as log_call;
 
 use block_tag::{RelEntry, Tag};
+use byte_devices::{Failed, LogDevice};
 use byteorder::{ByteOrder, LittleEndian};
-use log_device::{Failed, LogDevice};
 use page_layout::{Lsn, Page};
 use std::snapshot::Snapshot;
 

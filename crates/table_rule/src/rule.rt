@@ -2,7 +2,7 @@
 use crate::opening::Opening;
 use crate::value::Value;
 use atomic_table::TableRule;
-use log_device::LogDevice;
+use byte_devices::LogDevice;
 use pin_core::View;
 use segment_store::BlockLane;
 

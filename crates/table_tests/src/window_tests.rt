@@ -3,7 +3,7 @@ ghost use Rattle.std.specs.Prelude.{◌≡◌, ◌<◌, ℕ, List, Some};
 ghost use Rattle.text_window.specs.Shares.{KeepsParts};
 
 use crate::checks::check_eq;
-use log_device::{FaultPlan, MemSink};
+use byte_devices::{FaultPlan, MemSink};
 use std::alloc::{AllocError, Global};
 use std::marker::Brand;
 use std::process::Abort;

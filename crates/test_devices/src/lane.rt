@@ -1,7 +1,7 @@
 //! A lane for tests.
 use crate::pages::{one_item, unsound};
 use block_tag::Tag;
-use log_device::{Failed, FaultCount};
+use byte_devices::{Failed, FaultCount};
 use page_layout::{Lsn, Page};
 use segment_store::{BlockLane, LaneHistory};
 

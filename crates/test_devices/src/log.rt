@@ -1,5 +1,5 @@
 //! A log for tests.
-use log_device::{CallCount, Failed, FaultCount, LogDevice};
+use byte_devices::{CallCount, Failed, FaultCount, LogDevice};
 use std::alloc::Global;
 
 /// A log whose contents contracts don't know. It has what was appended, and one of its calls may
@@ -19,7 +19,7 @@ pub struct TestLog {
 
 impl TestLog {
     ghost use Rattle.std.specs.Prelude.{◌≡◌, ◌+◌};
-    ghost use Rattle.log_device.specs.Calls.{calls_counted};
+    ghost use Rattle.byte_devices.specs.Calls.{calls_counted};
 
     pub fn new(alloc: Global, failing: u32) -> TestLog {
         TestLog {
@@ -45,7 +45,7 @@ impl TestLog {
 
 impl LogDevice for TestLog {
     ghost use Rattle.std.specs.Prelude.{None};
-    ghost use Rattle.log_device.specs.Calls.{calls_counted};
+    ghost use Rattle.byte_devices.specs.Calls.{calls_counted};
 
     ghost bytes = { λ _. None };
 

@@ -4,7 +4,7 @@ use native.Mathlib.Decide.{dec_le}
 use Rattle.std.specs.Prelude.{is_some, max, option_map, replicate}
 use Rattle.std.proofs.lemmas.Bool.{cases_lt}
 use Rattle.std.proofs.lemmas.List.{append-nil, length-replicate}
-use Rattle.log_device.specs.Faults.{Rose}
+use Rattle.byte_devices.specs.Faults.{Rose}
 use Rattle.text_window.specs.declared.window.Stop.{Stop}
 use Rattle.text_window.specs.declared.window.Stop.TheVariants.{Output}
 use Rattle.text_window.specs.Texts.{AreFirstTexts, AreWaiting, HasPut, HasPutSome, IsBroken, IsFinished, IsStream, IsTextBy, IsWindow, Job, is_output, waiting_count}

@@ -3,8 +3,8 @@ use Rattle.std.specs.Prelude.{◌≡◌, ℕ, zero, suc, ◌+◌, ◌-◌, ◌<�
 use Rattle.std.specs.Prelude.{MatchBool, List, [], ◌∷◌, ◌++◌, length, Option, Some, None, IfSome}
 use Rattle.std.specs.Prelude.{IsSomeAnd, option_map, slice_index_or}
 use Rattle.std.specs.Option.{option_or}
-use Rattle.log_device.specs.Bytes.{GainsPrefix}
-use Rattle.log_device.specs.Faults.{Rose}
+use Rattle.byte_devices.specs.Bytes.{GainsPrefix}
+use Rattle.byte_devices.specs.Faults.{Rose}
 use Rattle.text_window.specs.declared.window.Stop.{Stop}
 use Rattle.text_window.specs.declared.window.Stop.TheVariants.{Output, Worker}
 

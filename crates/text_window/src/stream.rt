@@ -1,11 +1,11 @@
 //! Texts are put in the order of their chunks.
 ghost use Rattle.std.specs.Prelude.{◌≡◌, ◌+◌, ◌<◌, ◌^◌, None, OnErr, OnOk, slice_index_or};
-ghost use Rattle.log_device.specs.Faults.{Rose};
+ghost use Rattle.byte_devices.specs.Faults.{Rose};
 ghost use Rattle.text_window.specs.Texts.{IsBroken, IsStream, waiting_count};
 
 use crate::naming::Naming;
 use crate::waiting::Waiting;
-use log_device::{Failed, Sink};
+use byte_devices::{Failed, Sink};
 
 /// Puts the text of the next chunk, and those that follow it without a gap.
 pub(crate) fn put_waiting<N: Naming, O: Sink>(

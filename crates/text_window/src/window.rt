@@ -5,7 +5,7 @@
 //! workers wait for it. A text is one put, under the lock, and a failed put is never tried again.
 ghost use Rattle.std.specs.Prelude.{◌≡◌, ◌+◌, ◌<◌, ◌≤◌, ◌^◌, ◌≢◌, None, Some, true, is_some, max};
 ghost use Rattle.std.specs.Prelude.{replicate, IfErr, IfOk, MatchBool};
-ghost use Rattle.log_device.specs.Faults.{Rose};
+ghost use Rattle.byte_devices.specs.Faults.{Rose};
 ghost use Rattle.text_window.specs.declared.window.Delivery.TheVariants.{Delivered, Later, Stopped};
 ghost use Rattle.text_window.specs.declared.window.Stop.TheVariants.{Output};
 ghost use Rattle.text_window.specs.Shares.{KeepsParts};
@@ -16,7 +16,7 @@ use crate::naming::Naming;
 use crate::shares::Shares;
 use crate::stream::put_waiting;
 use crate::waiting::Waiting;
-use log_device::{Failed, Sink};
+use byte_devices::{Failed, Sink};
 use std::alloc::{AllocError, Global};
 use std::marker::Model;
 use std::sync::ledger::{Book, Ledger, Share};

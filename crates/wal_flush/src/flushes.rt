@@ -9,8 +9,8 @@ ghost use Rattle.wal_flush.specs.Flushes.{Awaits, Flushed, FlushRefused, FlushSe
 
 use crate::outings::{take_end, take_log};
 use atomic_table::Seat;
+use byte_devices::LogDevice;
 use frame_table::{FrameTable, Turn, Value};
-use log_device::LogDevice;
 use page_layout::Lsn;
 use pin_core::View;
 use segment_store::BlockLane;

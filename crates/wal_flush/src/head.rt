@@ -1,11 +1,11 @@
 //! The head of a log.
 ghost use Rattle.std.specs.Prelude.{◌≡◌, ◌+◌, ◌++◌, ◌∷◌, [], None, IfSome, List, ℕ};
-ghost use Rattle.log_device.specs.Bytes.{Puts};
-ghost use Rattle.log_device.specs.Faults.{HasCause};
+ghost use Rattle.byte_devices.specs.Bytes.{Puts};
+ghost use Rattle.byte_devices.specs.Faults.{HasCause};
 ghost use Rattle.history_core.specs.Log.{head_bytes};
 
+use byte_devices::{Failed, LogDevice};
 use byteorder::{ByteOrder, LittleEndian};
-use log_device::{Failed, LogDevice};
 use page_layout::Lsn;
 
 /// The 16 bytes with which a log begins: `PGBUFLOG`, and the position where it begins, its lowest byte first.

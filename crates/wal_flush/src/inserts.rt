@@ -16,8 +16,8 @@ ghost use Rattle.wal_flush.specs.Inserts.{AddsTorn, Appends, CanInsert, EnterRef
 use crate::outings::{take_end, take_log};
 use atomic_table::Seat;
 use block_tag::{RelEntry, Tag};
+use byte_devices::LogDevice;
 use frame_table::{FrameTable, Turn, Value};
-use log_device::LogDevice;
 use page_layout::{Lsn, Page};
 use pin_core::View;
 use segment_store::BlockLane;

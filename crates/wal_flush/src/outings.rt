@@ -13,8 +13,8 @@ ghost use Rattle.frame_table.specs.Seats.{CanTurn, Grows, IsSeat, SameSeat, fram
 ghost use Rattle.wal_flush.specs.Latched.{FindsDown, Opens, opened_log};
 
 use atomic_table::Seat;
+use byte_devices::LogDevice;
 use frame_table::{EndLoad, FrameTable, NotedLog, Turn, Value};
-use log_device::LogDevice;
 use page_layout::Lsn;
 use pin_core::View;
 use segment_store::BlockLane;

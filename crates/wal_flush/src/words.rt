@@ -4,8 +4,8 @@ ghost use Rattle.frame_table.specs.WordSteps.{DidWord, load_end, load_flushed, v
 ghost use Rattle.frame_table.specs.Seats.{Grows, IsSeat, SameSeat, base_of};
 
 use atomic_table::Seat;
+use byte_devices::LogDevice;
 use frame_table::{EndLoad, FrameTable, Value};
-use log_device::LogDevice;
 use page_layout::Lsn;
 use pin_core::View;
 use segment_store::BlockLane;

@@ -1,6 +1,6 @@
 //! Devices that tell which calls were made, and in which order.
 use block_tag::Tag;
-use log_device::{CallCount, Failed, FaultCount, LogDevice};
+use byte_devices::{CallCount, Failed, FaultCount, LogDevice};
 use page_layout::Page;
 use segment_store::{BlockLane, LaneHistory};
 use std::alloc::{AllocError, Global};
@@ -202,7 +202,7 @@ impl ByteLog {
 
 impl LogDevice for ByteLog {
     ghost use Rattle.std.specs.Prelude.{None};
-    ghost use Rattle.log_device.specs.Calls.{calls_counted};
+    ghost use Rattle.byte_devices.specs.Calls.{calls_counted};
 
     ghost bytes = { λ _. None };
 

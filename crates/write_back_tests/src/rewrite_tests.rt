@@ -6,8 +6,8 @@ use crate::devices::TestCall::{Append, ReadBlock, SyncLane, SyncLog, WriteBlock}
 use crate::devices::{ByteLog, Failing, Journal, PageLane};
 use crate::rewriting::rewrite_then_checkpoint;
 use backend_pass::{FlushError, Manager, Pass, Pinned};
+use byte_devices::LogDevice;
 use checkpointer::Checkpoint;
-use log_device::LogDevice;
 use page_jobs::{Beside, Gate, NoBeside};
 use page_layout::Page;
 use segment_store::BlockLane;

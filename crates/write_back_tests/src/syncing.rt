@@ -3,8 +3,8 @@ ghost use Rattle.manager_bench.specs.Bench.{IsFree};
 
 use backend_pass::{FlushError, Manager, Pass};
 use bg_writer::{Round, round};
+use byte_devices::LogDevice;
 use checkpointer::{Checkpoint, CheckpointError, checkpoint};
-use log_device::LogDevice;
 use segment_store::BlockLane;
 use std::sync::Wait;
 

@@ -1,6 +1,6 @@
 use Rattle.std.proofs.Common.{◌∙◌, ◌++◌, ◌∷◌, [], List, ap, subst, sym}
-use Rattle.log_device.specs.declared.memory_log.MemLog.{MemLog}
-use Rattle.log_device.specs.contracts.memory_log.MemLogLogDevice.TheImpl as mem_log
+use Rattle.byte_devices.specs.declared.memory_log.MemLog.{MemLog}
+use Rattle.byte_devices.specs.contracts.memory_log.MemLogLogDevice.TheImpl as mem_log
 use Rattle.segment_store.specs.declared.memory_lane.MemLane.{MemLane}
 use Rattle.segment_store.specs.contracts.memory_lane.MemLaneBlockLane.TheImpl as mem_lane
 use Rattle.table_rule.specs.Shows.{AreLanes, devices}

@@ -1,6 +1,6 @@
 use Rattle.std.proofs.Common.{◌≡◌, ℕ, ◌<◌, ◌≤◌, List, MatchBool, length, Ok, Err, OnOk, sym, ap, ◌∙◌, subst, rules, arith, refl}
 use Rattle.std.specs.Prelude.{IfErr}
-use Rattle.log_device.specs.Faults.{Rose}
+use Rattle.byte_devices.specs.Faults.{Rose}
 use Rattle.text_window.specs.Texts.{IsFinished, Job, is_output}
 use Rattle.text_window.proofs.Streams.{finished_by}
 use Rattle.backend_pass.specs.Passes.{PassState}

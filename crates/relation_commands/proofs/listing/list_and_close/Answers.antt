@@ -1,5 +1,5 @@
 use Rattle.std.proofs.Common.{length, rules}
-use Rattle.log_device.specs.declared.memory_log.MemLog.{MemLog}
+use Rattle.byte_devices.specs.declared.memory_log.MemLog.{MemLog}
 use Rattle.page_jobs.proofs.Backends.{all_given, new_are_free}
 use Rattle.page_jobs.proofs.Starting.{is_origin}
 use Rattle.relation_commands.proofs.Listed.{all_at_base, cause, leaves, puts_as, totals_as}

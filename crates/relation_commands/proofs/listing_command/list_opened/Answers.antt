@@ -1,5 +1,5 @@
 use Rattle.std.proofs.Common.{map}
-use Rattle.log_device.specs.Bytes.{Puts}
+use Rattle.byte_devices.specs.Bytes.{Puts}
 use Rattle.segment_store.specs.Lanes.{HoldPages}
 use Rattle.segment_store.specs.Paths.{OpenAt, fork_of}
 use Rattle.page_jobs.specs.Ending.{as_done}

@@ -1,6 +1,6 @@
 use Rattle.std.proofs.Common.{◌≡◌, ◌+◌, List, Result, drop, length, refl, subst, sym, arith, rules}
 use Rattle.std.specs.Prelude.{sum_by}
-use Rattle.log_device.specs.Faults.{Added}
+use Rattle.byte_devices.specs.Faults.{Added}
 use Rattle.segment_store.proofs.PutBlocks.{take_prefix}
 use Rattle.log_recovery.specs.declared.recovering.Redone.{Redone}
 use Rattle.relation_commands.specs.declared.error.ToolError.{ToolError}

@@ -1,6 +1,6 @@
 use Rattle.std.proofs.Common.{take}
 use Rattle.std.specs.Prelude.{sum_by}
-use Rattle.log_device.specs.Faults.{Added}
+use Rattle.byte_devices.specs.Faults.{Added}
 use Rattle.segment_store.proofs.memory_host.count_writes.Given as goal
 
 abbrev pub invariant-loop-lane : goal.invariant-loop-lane

@@ -1,7 +1,7 @@
 use Rattle.std.proofs.Common.{◌≡◌, ℕ, List, ap, ◌∙◌}
 use Rattle.std.specs.Prelude.{◌&&◌, ◌==◌, is_ok, not}
 use Rattle.std.specs.List.{list_any}
-use Rattle.log_device.specs.Plan.{next_call}
+use Rattle.byte_devices.specs.Plan.{next_call}
 use Rattle.std.specs.BTreeMap as tree
 use Rattle.block_tag.specs.contracts.tag.TagOrd.TheImpl as tags
 use Rattle.segment_store.specs.MemoryLane.{marks_of, pages_of, room_of, there_has_room, torn_page}

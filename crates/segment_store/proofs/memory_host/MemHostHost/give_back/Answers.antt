@@ -1,13 +1,13 @@
 use Rattle.std.proofs.Common.{List, Option, Some, map, option_map, string_bytes, sym, ap, ◌∙◌}
 use Rattle.segment_store.specs.Logs.{logs_after}
-use Rattle.log_device.specs.MemoryLog.{as_stored}
+use Rattle.byte_devices.specs.MemoryLog.{as_stored}
 use Rattle.segment_store.specs.MemoryFile.{room_at}
 use Rattle.segment_store.specs.MemoryHost.{marks_at, open_now, segments_at}
 use Rattle.segment_store.specs.MemoryLane.{marks_of, pages_of}
 use Rattle.segment_store.specs.MemoryLog.{logs_at, opened_path}
 use Rattle.segment_store.specs.declared.memory_host.MemHost.{MemHost}
 use Rattle.segment_store.specs.declared.memory_lane.MemLane.{MemLane}
-use Rattle.log_device.specs.declared.memory_log.MemLog.{MemLog}
+use Rattle.byte_devices.specs.declared.memory_log.MemLog.{MemLog}
 use Rattle.segment_store.proofs.GrownBack.{marks_given, paths_given}
 use Rattle.segment_store.proofs.memory_host.MemHostHost.give_back.Goals as goal
 

@@ -1,7 +1,7 @@
 use Rattle.std.proofs.Common.{◌≡◌, [], ◌∷◌, ◌++◌, List, Some, None, string_bytes, refl, ap, ◌∙◌}
 use Rattle.std.specs.List.{position}
 use Rattle.segment_store.specs.Logs.{with_log}
-use Rattle.log_device.specs.MemoryLog.{as_stored}
+use Rattle.byte_devices.specs.MemoryLog.{as_stored}
 use Rattle.segment_store.specs.MemoryLog.{log_in_file, log_path, logs_at}
 use Rattle.segment_store.specs.declared.memory_logs.LogFile.{LogFile}
 use Rattle.segment_store.proofs.FilesByPath.{first_named, has_path, is_first, read_becomes, read_pushed}

@@ -1,6 +1,6 @@
 use Rattle.std.proofs.Common.{◌≡◌, subst}
 use Rattle.std.specs.Prelude.{MatchResult}
-use Rattle.log_device.specs.MemoryLog.{StoredLog}
+use Rattle.byte_devices.specs.MemoryLog.{StoredLog}
 use Rattle.segment_store.specs.Logs.{with_log}
 use Rattle.segment_store.specs.MemoryLog.{logs_at}
 use Rattle.segment_store.proofs.memory_logs.MemLogs.put.Goals as goal

@@ -1,6 +1,6 @@
 use Rattle.std.proofs.Common.{◌≡◌, ℕ, List, Option, Some, None, option_map, string_bytes, sym, ap, ap₂, ◌∙◌}
 use Rattle.std.specs.List.{position}
-use Rattle.log_device.specs.MemoryLog.{StoredLog, as_stored}
+use Rattle.byte_devices.specs.MemoryLog.{StoredLog, as_stored}
 use Rattle.segment_store.specs.MemoryLog.{log_in_file, log_path, logs_at}
 use Rattle.segment_store.specs.declared.memory_logs.LogFile.{LogFile}
 use Rattle.segment_store.proofs.FilesByPath.{first_named, has_path, is_first, read_absent, read_becomes, read_first, read_none}

@@ -1,8 +1,8 @@
 use Rattle.std.proofs.Common.{◌≡◌, ◌+◌, ◌-◌, ◌/◌, ◌++◌, drop, length, min, List, ℕ, arith, sym}
 use Rattle.std.proofs.lemmas.Grind.{common_steps}
 use Rattle.std.proofs.lemmas.List.{take-append-drop}
-use Rattle.log_device.specs.Memory.{prefix_of}
-use Rattle.log_device.proofs.memory.MemSinkSink.put.Goals as goal
+use Rattle.byte_devices.specs.Memory.{prefix_of}
+use Rattle.byte_devices.proofs.memory.MemSinkSink.put.Goals as goal
 
 pub returns-clause-bytes : goal.returns-clause-bytes
 returns-clause-bytes c =

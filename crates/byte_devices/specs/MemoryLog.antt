@@ -1,7 +1,7 @@
 -- Logs in memory.
 use Rattle.std.specs.Prelude.{ℕ, List}
-use Rattle.log_device.specs.Plan.{Plan}
-use Rattle.log_device.specs.declared.memory_log.MemLog.{MemLog}
+use Rattle.byte_devices.specs.Plan.{Plan}
+use Rattle.byte_devices.specs.declared.memory_log.MemLog.{MemLog}
 
 -- a log's bytes, and how many of them are durable
 pub record StoredLog : Type 0 where

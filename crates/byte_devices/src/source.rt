@@ -1,7 +1,7 @@
 //! Pieces that are filled from a source.
 ghost use Rattle.std.specs.Prelude.{◌≡◌, ◌<◌, ◌≤◌, [], IfOk, IfSome, length};
-ghost use Rattle.log_device.specs.Faults.{HasCause};
-ghost use Rattle.log_device.specs.Sources.{Takes};
+ghost use Rattle.byte_devices.specs.Faults.{HasCause};
+ghost use Rattle.byte_devices.specs.Sources.{Takes};
 
 use crate::device::{Failed, Source};
 

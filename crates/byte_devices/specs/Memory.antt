@@ -1,7 +1,7 @@
 -- Sinks in memory.
 use Rattle.std.specs.Prelude.{ℕ, ◌+◌, ◌-◌, ◌/◌, Bool, ◌&&◌, not, nat_le, List, length, take, min}
-use Rattle.log_device.specs.declared.count.FaultCount.{FaultCount}
-use Rattle.log_device.specs.Plan.{Plan, fails_next}
+use Rattle.byte_devices.specs.declared.count.FaultCount.{FaultCount}
+use Rattle.byte_devices.specs.Plan.{Plan, fails_next}
 
 -- the bytes of a sink, how many it has room for in all, which puts are to fail, and its count of
 -- faults

@@ -1,8 +1,8 @@
 //! A source in memory.
 ghost use Rattle.std.specs.Prelude.{[], ◌≡◌, ◌<◌, ◌≤◌, Some, IfOk, OnErr, is_ok, length, min, not};
-ghost use Rattle.log_device.specs.Faults.{CountsOne, HasCause};
-ghost use Rattle.log_device.specs.Plan.{after_call, fails_next};
-ghost use Rattle.log_device.specs.Sources.{Takes};
+ghost use Rattle.byte_devices.specs.Faults.{CountsOne, HasCause};
+ghost use Rattle.byte_devices.specs.Plan.{after_call, fails_next};
+ghost use Rattle.byte_devices.specs.Sources.{Takes};
 
 use crate::count::FaultCount;
 use crate::device::{Failed, Source};
@@ -21,7 +21,7 @@ pub struct MemSource {
 }
 
 impl MemSource {
-    ghost use Rattle.log_device.specs.MemorySource.{left_of};
+    ghost use Rattle.byte_devices.specs.MemorySource.{left_of};
 
     pub fn new(bytes: Vec<u8>, most: usize, calls: FaultPlan) -> MemSource
         requires { 1 ≤ most }
@@ -48,7 +48,7 @@ impl MemSource {
 }
 
 impl Source for MemSource {
-    ghost use Rattle.log_device.specs.MemorySource.{left_of};
+    ghost use Rattle.byte_devices.specs.MemorySource.{left_of};
 
     ghost left = { λ s. Some (left_of s) };
 

@@ -1,6 +1,6 @@
 -- Sources in memory.
 use Rattle.std.specs.Prelude.{ℕ, List, drop}
-use Rattle.log_device.specs.declared.memory_source.MemSource.{MemSource}
+use Rattle.byte_devices.specs.declared.memory_source.MemSource.{MemSource}
 
 -- the bytes that are left
 abbrev pub left_of : MemSource → List ℕ

@@ -1,6 +1,6 @@
 -- Bytes that are taken from a source.
 use Rattle.std.specs.Prelude.{◌≡◌, ℕ, ◌≤◌, List, length, Option}
-use Rattle.log_device.specs.Sources.{Takes}
+use Rattle.byte_devices.specs.Sources.{Takes}
 
 -- The first `at` bytes of a piece of `long` bytes were taken
 pub record IsTakenUpto (at long : ℕ) (piece : List ℕ) (old new : Option (List ℕ))

@@ -1,6 +1,6 @@
 //! Calls that are to fail, for the forms in memory.
 ghost use Rattle.std.specs.Prelude.{◌≡◌, IfOk};
-ghost use Rattle.log_device.specs.Plan.{after_call, fails_next, fresh_plan};
+ghost use Rattle.byte_devices.specs.Plan.{after_call, fails_next, fresh_plan};
 
 use std::alloc::{AllocError, Global};
 use std::marker::Model;
@@ -13,7 +13,7 @@ pub struct FaultPlan {
 }
 
 impl Model for FaultPlan {
-    ghost use Rattle.log_device.specs.Plan.{Plan};
+    ghost use Rattle.byte_devices.specs.Plan.{Plan};
 
     ghost Value = { Plan };
 

@@ -46,7 +46,7 @@ pub enum CallCount {
 }
 
 impl CallCount {
-    ghost use Rattle.log_device.specs.Calls.{calls_counted};
+    ghost use Rattle.byte_devices.specs.Calls.{calls_counted};
 
     pub fn new() -> CallCount
         ensures { calls_counted result ≡ 0 }

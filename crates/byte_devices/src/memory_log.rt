@@ -1,10 +1,10 @@
 //! Logs in memory.
 ghost use Rattle.std.specs.Prelude.{◌≡◌, ◌+◌, ◌≤◌, ◌++◌, [], Some, IfOk, OnErr, is_ok, length, not};
-ghost use Rattle.log_device.specs.Bytes.{Puts, Syncs};
-ghost use Rattle.log_device.specs.Calls.{calls_counted};
-ghost use Rattle.log_device.specs.Faults.{CountsOne, HasCause};
-ghost use Rattle.log_device.specs.Memory.{prefix_of, takes_piece};
-ghost use Rattle.log_device.specs.Plan.{after_call, fails_next, fresh_plan};
+ghost use Rattle.byte_devices.specs.Bytes.{Puts, Syncs};
+ghost use Rattle.byte_devices.specs.Calls.{calls_counted};
+ghost use Rattle.byte_devices.specs.Faults.{CountsOne, HasCause};
+ghost use Rattle.byte_devices.specs.Memory.{prefix_of, takes_piece};
+ghost use Rattle.byte_devices.specs.Plan.{after_call, fails_next, fresh_plan};
 
 use crate::count::{CallCount, FaultCount};
 use crate::device::{Failed, LogDevice, Sink};

@@ -1,9 +1,9 @@
 //! Logs, sinks of bytes, and sources of bytes.
 ghost use Rattle.std.specs.Prelude.{[], ◌≡◌, ◌+◌, ◌<◌, ◌≤◌, ◌^◌, ℕ, List, OnErr, Option, None};
 ghost use Rattle.std.specs.Prelude.{IfOk, IfSome, length};
-ghost use Rattle.log_device.specs.Bytes.{Puts, Syncs};
-ghost use Rattle.log_device.specs.Faults.{HasCause};
-ghost use Rattle.log_device.specs.Sources.{Takes};
+ghost use Rattle.byte_devices.specs.Bytes.{Puts, Syncs};
+ghost use Rattle.byte_devices.specs.Faults.{HasCause};
+ghost use Rattle.byte_devices.specs.Sources.{Takes};
 
 use thiserror::Error;
 

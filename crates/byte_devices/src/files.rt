@@ -2,9 +2,9 @@
 //! known.
 ghost use Rattle.std.specs.Prelude.{◌≡◌, ◌+◌, ◌≤◌, ◌<◌, None, IfOk, OnOk, length, take};
 ghost use Rattle.std.specs.Io.KnownBytes.{Appends, Consumes, IsAtEnd};
-ghost use Rattle.log_device.specs.Bytes.{Puts};
-ghost use Rattle.log_device.specs.Calls.{calls_counted};
-ghost use Rattle.log_device.specs.Faults.{HasCause};
+ghost use Rattle.byte_devices.specs.Bytes.{Puts};
+ghost use Rattle.byte_devices.specs.Calls.{calls_counted};
+ghost use Rattle.byte_devices.specs.Faults.{HasCause};
 
 use crate::count::{CallCount, FaultCount};
 use crate::device::{Failed, LogDevice, Sink, Source};

@@ -1,7 +1,7 @@
 -- Counts of calls.
 use Rattle.std.specs.Prelude.{ℕ, ◌+◌}
-use Rattle.log_device.specs.declared.count.CallCount.{CallCount}
-use Rattle.log_device.specs.declared.count.CallCount.TheVariants.{Zero, After'}
+use Rattle.byte_devices.specs.declared.count.CallCount.{CallCount}
+use Rattle.byte_devices.specs.declared.count.CallCount.TheVariants.{Zero, After'}
 
 -- how many calls were counted
 abbrev pub calls_counted : CallCount → ℕ

@@ -1,9 +1,9 @@
 //! A sink in memory.
 ghost use Rattle.std.specs.Prelude.{◌≡◌, ◌++◌, [], Some, IfOk, OnErr, is_ok};
-ghost use Rattle.log_device.specs.Faults.{CountsOne, HasCause};
-ghost use Rattle.log_device.specs.Bytes.{Puts};
-ghost use Rattle.log_device.specs.Memory.{SinkState, prefix_of, takes_piece};
-ghost use Rattle.log_device.specs.Plan.{after_call};
+ghost use Rattle.byte_devices.specs.Faults.{CountsOne, HasCause};
+ghost use Rattle.byte_devices.specs.Bytes.{Puts};
+ghost use Rattle.byte_devices.specs.Memory.{SinkState, prefix_of, takes_piece};
+ghost use Rattle.byte_devices.specs.Plan.{after_call};
 
 use crate::count::FaultCount;
 use crate::device::{Failed, Sink};
@@ -22,7 +22,7 @@ pub struct MemSink {
 
 impl Model for MemSink {
     ghost use Rattle.std.specs.Prelude.{◌≤◌, length, vec_capacity};
-    ghost use Rattle.log_device.specs.Memory.{SinkState};
+    ghost use Rattle.byte_devices.specs.Memory.{SinkState};
 
     ghost Value = { SinkState };
 

@@ -2,8 +2,8 @@
 use Rattle.std.proofs.Common.{◌≡◌, ℕ, ◌+◌, ◌-◌, ◌<◌, ◌≤◌, List, ◌++◌, length, take, drop, Option, Some, None, sym, ap, ◌∙◌, subst, arith, take-add, drop-drop, length-take-le, length-drop}
 use Rattle.std.proofs.lemmas.List.{take_at, drop_at, take-append-le}
 use borrow.Rule.Slice.PartMut.{put_mid, post_of, same_len_mid, mid_of}
-use Rattle.log_device.specs.Sources.{Takes}
-use Rattle.log_device.specs.Taken.{IsTakenUpto}
+use Rattle.byte_devices.specs.Sources.{Takes}
+use Rattle.byte_devices.specs.Taken.{IsTakenUpto}
 
 -- the first bytes of what was put there
 put_first : (at k n : ℕ) (xs ys : List ℕ) → at ≤ length xs → n ≤ length ys → take (at + n) (put_mid at k xs ys) ≡ take at xs ++ take n ys
