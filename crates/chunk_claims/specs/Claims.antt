@@ -36,7 +36,13 @@ with_one_part c = record { chunks = c.chunks; workers = c.workers; parts = 1; pa
 
 -- a seat without a part may not know the work, so the other one's is taken
 abbrev pub joined_claimants : Claimant → Claimant → Claimant
-joined_claimants c d = record { chunks = d.chunks; workers = d.workers; parts = c.parts + d.parts; past = c.past + d.past; drawn = c.drawn ++ d.drawn }
+joined_claimants c d = record {
+  chunks = d.chunks;
+  workers = d.workers;
+  parts = c.parts + d.parts;
+  past = c.past + d.past;
+  drawn = c.drawn ++ d.drawn;
+}
 
 abbrev pub spent_claimant : Claimant
 spent_claimant = record { chunks = 0; workers = 0; parts = 0; past = 0; drawn = [] }

@@ -38,7 +38,8 @@ impl Claims {
         chunks: u32,
         workers: u32,
     ) -> Result<(Claims, Seat<(), Claimant>), AllocError>
-        ensures { IfOk result (λ c. (c.0.chunks ≡ chunks) × (c.0.workers ≡ workers) × (c.1.table_id ≡ c.0.table.shared.table_id)
+        ensures { IfOk result (λ c. (c.0.chunks ≡ chunks) × (c.0.workers ≡ workers)
+            × (c.1.table_id ≡ c.0.table.shared.table_id)
             × (c.1.me ≡ (first_claimant record { chunks = chunks; workers = workers }, []))) }
     {
         let work = Work {

@@ -26,7 +26,8 @@ use Rattle.cleanup_lock.specs.declared.locking.CleanupError.TheVariants as lock
 use Rattle.cleanup_lock.specs.declared.trying.TryCleanup.{TryCleanup}
 use Rattle.cleanup_lock.specs.declared.trying.TryCleanup.TheVariants.{LocalPins, Busy, Changed, OtherPins}
 
--- What a view has at a frame whose cleanup lock it takes: it may take the content lock, and does nothing else there
+-- What a view has at a frame whose cleanup lock it takes: it may take the content lock, and does
+-- nothing else there
 pub record CanLockForCleanup (l : Link) : Type 0 where
   pub lock : CanLock l
   pub settled : l.pending ≡ false
@@ -35,7 +36,8 @@ pub record CanLockForCleanup (l : Link) : Type 0 where
 
 -- While a view has the content lock of f exclusively no other view has one there
 abbrev pub OthersAreKeptOut : State → ℕ → Type 0
-OthersAreKeptOut s f = (i j : ℕ) (v u : View) → get_elem? s.pool.core.views i ≡ some v → get_elem? s.pool.core.views j ≡ some u → i ≢ j
+OthersAreKeptOut s f = (i j : ℕ) (v u : View) → get_elem? s.pool.core.views i ≡ some v
+    → get_elem? s.pool.core.views j ≡ some u → i ≢ j
     → (link v f).content ≡ Exclusive → (link u f).content ≡ Unlocked
 
 -- whether callers have one token of the frame's pin
@@ -70,16 +72,19 @@ HasWaiter number word = is_waiter number (fields word) ≡ true
 abbrev pub SeesOtherPins : ℕ → Type 0
 SeesOtherPins word = 1 < (fields word).pins
 
--- The state word of f was loaded as the view had the content lock exclusively, and the count was 1, the view's own pin: no other view had a pin or a content lock there
+-- The state word of f was loaded as the view had the content lock exclusively, and the count was 1,
+-- the view's own pin: no other view had a pin or a content lock there
 pub record Alone (f : ℕ) (v w : View) : Type 0 where
   pub word : ℕ
   pub right : (link v f).content ≡ Exclusive
   pub pinned : (link v f).role ≢ Absent
   pub loads : Did looking f v w word
   pub single : (fields word).pins ≡ 1
-  pub others : (j : ℕ) (u : View) → get_elem? loads.state.pool.core.views j ≡ some u → j ≢ loads.seat → ((link u f).role ≡ Absent) × ((link u f).content ≡ Unlocked)
+  pub others : (j : ℕ) (u : View) → get_elem? loads.state.pool.core.views j ≡ some u
+      → j ≢ loads.seat → ((link u f).role ≡ Absent) × ((link u f).content ≡ Unlocked)
 
--- The content lock of f was taken exclusively, and then the header locked: the view has both, a pin, and no wait there
+-- The content lock of f was taken exclusively, and then the header locked: the view has both, a
+-- pin, and no wait there
 pub record UnderExclusive (f : ℕ) (v w : View) : Type 0 where
   pub locked : View
   pub was : ℕ
@@ -103,7 +108,8 @@ pub record WaitsUntilOver (number f : ℕ) (v w : View) : Type 0 where
   pub sees : Did looking f last w seen
   pub over : is_waiter number (fields seen) ≡ false
 
--- One turn of the wait: under both locks a word showed other pins, and no waiter; the view set bit and number, gave the content lock up, and waited
+-- One turn of the wait: under both locks a word showed other pins, and no waiter; the view set bit
+-- and number, gave the content lock up, and waited
 pub record WaitsARound (number f : ℕ) (v w : View) : Type 0 where
   pub looked : View
   pub noted : View
@@ -131,7 +137,8 @@ pub record GrantsAtOnce (f : ℕ) (v w : View) : Type 0 where
   pub alone : Alone f held looked
   pub unlocks : Did (pins unlock_header) f looked w left
 
--- Under both locks a word showed other pins, and another backend that waits; both locks were given up
+-- Under both locks a word showed other pins, and another backend that waits; both locks were given
+-- up
 pub record FindsOtherWaiter (f backend : ℕ) (v w : View) : Type 0 where
   pub looked : View
   pub headless : View
@@ -162,10 +169,12 @@ pub record GrantsCleanup (number f : ℕ) (v w : View) : Type 0 where
   pub waits : Retried number f v tried
   pub grants : GrantsAtOnce f tried w
 
--- why it was not: callers have other tokens of the pin, and nothing was done; or after turns of the wait another backend waits
+-- why it was not: callers have other tokens of the pin, and nothing was done; or after turns of the
+-- wait another backend waits
 abbrev pub RefusesCleanup : ℕ → ℕ → View → View → CleanupError → Type 0
 RefusesCleanup number f v w (lock.LocalPins count) = w ≡ v
-RefusesCleanup number f v w (lock.OtherWaiter backend) = (u : View) × Retried number f v u × FindsOtherWaiter f backend u w
+RefusesCleanup number f v w (lock.OtherWaiter backend) = (u : View) × Retried number f v u
+    × FindsOtherWaiter f backend u w
 
 -- The content lock was taken exclusively without a wait, and then the view was alone
 pub record GrantsTry (f : ℕ) (v w : View) : Type 0 where
@@ -184,7 +193,8 @@ pub record FindsOtherPins (f word : ℕ) (v w : View) : Type 0 where
   pub others : SeesOtherPins word
   pub gives_up : Did (pages unexclude) f looked w found
 
--- why a try refuses: callers have other tokens of the pin, and nothing was done; the content lock was not taken; or there are other pins
+-- why a try refuses: callers have other tokens of the pin, and nothing was done; the content lock
+-- was not taken; or there are other pins
 abbrev pub RefusesTry : ℕ → View → View → TryCleanup → Type 0
 RefusesTry f v w (LocalPins count) = w ≡ v
 RefusesTry f v w (Busy word) = RefusesLock ShowsLock f v w (try.Busy word)

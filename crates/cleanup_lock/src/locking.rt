@@ -53,7 +53,8 @@ fn shows_waiter(word: u64, number: u32) -> bool
     has(word, Flag::PinCountWaiter) && waiter(word) == number
 }
 
-/// Takes the content lock exclusively, once no backend has it, and then the header's lock, and loads the state word under both.
+/// Takes the content lock exclusively, once no backend has it, and then the header's lock, and
+/// loads the state word under both.
 fn look_under_exclusive<L: BlockLane, G: LogDevice, R: Wait>(
     table: &FrameTable<L, G>,
     rt: &R,
@@ -67,7 +68,8 @@ fn look_under_exclusive<L: BlockLane, G: LogDevice, R: Wait>(
     ensures seat { SameSeat seat.old seat.new }
     ensures touches { Touches frame seat.old.me.0 seat.new.me.0 }
     ensures marks { SameMarks seat.old.me.0 seat.new.me.0 }
-    ensures held { Looked (locked_link result (exclusive_link (link seat.old.me.0 frame))) (link seat.new.me.0 frame) }
+    ensures held { Looked (locked_link result (exclusive_link (link seat.old.me.0 frame)))
+        (link seat.new.me.0 frame) }
     ensures some { 0 < (fields result).pins }
     ensures did { LooksUnderBoth frame result seat.old.me.0 seat.new.me.0 }
 {
@@ -139,7 +141,9 @@ fn attempt_lock<L: BlockLane, G: LogDevice, R: Wait>(
     Attempt::Waited
 }
 
-/// Takes the cleanup lock of a pinned frame, by the backend of this number, of whose pin callers have so many tokens. It waits until no other backend has the content lock or pins the frame; one backend at a time may wait so.
+/// Takes the cleanup lock of a pinned frame, by the backend of this number, of whose pin callers
+/// have so many tokens. It waits until no other backend has the content lock or pins the frame; one
+/// backend at a time may wait so.
 pub fn lock<L: BlockLane, G: LogDevice, R: Wait>(
     table: &FrameTable<L, G>,
     rt: &R,
@@ -156,7 +160,8 @@ pub fn lock<L: BlockLane, G: LogDevice, R: Wait>(
     ensures touches { Touches frame seat.old.me.0 seat.new.me.0 }
     ensures marks { SameMarks seat.old.me.0 seat.new.me.0 }
     ensures local { local_pins result ≡ refused_tokens tokens }
-    ensures locked { IfOk result (λ _. Looked (exclusive_link (link seat.old.me.0 frame)) (link seat.new.me.0 frame)) }
+    ensures locked { IfOk result (λ _. Looked (exclusive_link (link seat.old.me.0 frame))
+        (link seat.new.me.0 frame)) }
     ensures left { IfErr result (λ _. Looked (link seat.old.me.0 frame) (link seat.new.me.0 frame)) }
     ensures granted { IfOk result (λ _. GrantsCleanup number frame seat.old.me.0 seat.new.me.0) }
     ensures cause { IfErr result (RefusesCleanup number frame seat.old.me.0 seat.new.me.0) }

@@ -40,7 +40,8 @@ pub fn try_lock<L: BlockLane, G: LogDevice>(
     ensures touches { Touches frame seat.old.me.0 seat.new.me.0 }
     ensures marks { SameMarks seat.old.me.0 seat.new.me.0 }
     ensures local { tried_local_pins result ≡ refused_tokens tokens }
-    ensures locked { IfOk result (λ _. Looked (exclusive_link (link seat.old.me.0 frame)) (link seat.new.me.0 frame)) }
+    ensures locked { IfOk result (λ _. Looked (exclusive_link (link seat.old.me.0 frame))
+        (link seat.new.me.0 frame)) }
     ensures left { IfErr result (λ _. Looked (link seat.old.me.0 frame) (link seat.new.me.0 frame)) }
     ensures granted { IfOk result (λ _. GrantsTry frame seat.old.me.0 seat.new.me.0) }
     ensures cause { IfErr result (RefusesTry frame seat.old.me.0 seat.new.me.0) }

@@ -26,7 +26,8 @@ fn shows_lone_waiter(word: u64) -> bool
     has(word, Flag::PinCountWaiter) && pins(word) == 1
 }
 
-/// Wakes the backend that waits, if its pin is the only one still: another backend may have pinned the frame meanwhile, and will wake it then.
+/// Wakes the backend that waits, if its pin is the only one still: another backend may have pinned
+/// the frame meanwhile, and will wake it then.
 fn wake<L: BlockLane, G: LogDevice, R: Wait>(
     table: &FrameTable<L, G>,
     rt: &R,
@@ -50,7 +51,8 @@ fn wake<L: BlockLane, G: LogDevice, R: Wait>(
     table.unlock_header(seat, frame);
 }
 
-/// Gives up a pin, once the header is not locked, and wakes the backend that waits for its own pin to be the only one. Each pin of a backend is to be given up so.
+/// Gives up a pin, once the header is not locked, and wakes the backend that waits for its own pin
+/// to be the only one. Each pin of a backend is to be given up so.
 pub fn unpin_and_wake<L: BlockLane, G: LogDevice, R: Wait>(
     table: &FrameTable<L, G>,
     rt: &R,
@@ -64,7 +66,8 @@ pub fn unpin_and_wake<L: BlockLane, G: LogDevice, R: Wait>(
     ensures seat { SameSeat seat.old seat.new }
     ensures touches { Touches pin.frame seat.old.me.0 seat.new.me.0 }
     ensures marks { SameMarks seat.old.me.0 seat.new.me.0 }
-    ensures unpinned { Looked (unpinned_link (link seat.old.me.0 pin.frame)) (link seat.new.me.0 pin.frame) }
+    ensures unpinned { Looked (unpinned_link (link seat.old.me.0 pin.frame))
+        (link seat.new.me.0 pin.frame) }
     ensures did { Woken pin.frame seat.old.me.0 seat.new.me.0 }
 {
     let frame = pin.frame();

@@ -1,4 +1,5 @@
--- The free list: a queue of frames, of which each backend knows what it pushed there and took from there.
+-- The free list: a queue of frames, of which each backend knows what it pushed there and took from
+-- there.
 use Rattle.std.specs.Prelude.{◌≡◌, ℕ, ◌+◌, ◌-◌, ◌<◌, zero, suc, nat_eq, List, [], ◌∷◌, ◌++◌, if◌then◌else◌}
 use Rattle.std.specs.List.{All}
 use mathlib.Core.Option.{some}
@@ -19,7 +20,12 @@ times f frames = total (λ g. if nat_eq f g then 1 else 0) frames
 
 -- what a backend knows
 abbrev pub queue_view : ℕ → ℕ → List ℕ → List ℕ → QueueView
-queue_view parts frames pushed taken = record { parts = parts; frames = frames; pushed = pushed; taken = taken }
+queue_view parts frames pushed taken = record {
+  parts = parts;
+  frames = frames;
+  pushed = pushed;
+  taken = taken;
+}
 
 -- all parts, as many as there may be backends: who has them knows what all others did
 abbrev pub all_parts : ℕ
@@ -41,7 +47,8 @@ abbrev pub new_part : QueueView → QueueView
 new_part v = queue_view 1 v.frames [] []
 
 abbrev pub joined_parts : QueueView → QueueView → QueueView
-joined_parts v w = queue_view (v.parts + w.parts) v.frames (v.pushed ++ w.pushed) (v.taken ++ w.taken)
+joined_parts v w = queue_view (v.parts + w.parts) v.frames (v.pushed ++ w.pushed)
+    (v.taken ++ w.taken)
 
 abbrev pub no_part : QueueView
 no_part = queue_view 0 0 [] []
@@ -52,12 +59,14 @@ pub record KnowsList (many : ℕ) (v : QueueView) : Type 0 where
   pub pushed : v.parts ≡ 0 → v.pushed ≡ []
   pub taken : v.parts ≡ 0 → v.taken ≡ []
 
--- The rule: however frames are weighed, those of the pool and those that were pushed weigh as much as those that were taken and those in the list, and only frames of the pool stand there
+-- The rule: however frames are weighed, those of the pool and those that were pushed weigh as much
+-- as those that were taken and those in the list, and only frames of the pool stand there
 pub record Accounts (frames : List ℕ) (views : List QueueView) : Type 0 where
   pub many : ℕ
   pub parts : total (λ (v : QueueView). v.parts) views ≡ all_parts
   pub known : (i : ℕ) (v : QueueView) → get_elem? views i ≡ some v → KnowsList many v
-  pub even : (h : ℕ → ℕ) → total h (frames_below many) + total (λ (v : QueueView). total h v.pushed) views ≡ total (λ (v : QueueView). total h v.taken) views + total h frames
+  pub even : (h : ℕ → ℕ) → total h (frames_below many) + total (λ (v : QueueView). total h v.pushed)
+      views ≡ total (λ (v : QueueView). total h v.taken) views + total h frames
   pub inside : All (λ f. f < many) frames
 
 -- The rule holds of these frames, with this view among those of all backends
@@ -90,7 +99,8 @@ lasting q = record q { known = record q.known { pushed = []; taken = [] } }
 abbrev pub SameQueue : QueueState → QueueState → Type 0
 SameQueue q r = lasting r ≡ lasting q
 
--- Who has all parts has taken each frame once, and once more for each time that it was pushed, but for those that the list still has
+-- Who has all parts has taken each frame once, and once more for each time that it was pushed, but
+-- for those that the list still has
 pub record Settles (v : QueueView) : Type 0 where
   pub left : List ℕ
   pub inside : All (λ f. f < v.frames) left

@@ -12,6 +12,7 @@ pub record IsOfSweep (s : Sweep) (q : QueueState) : Type 0 where
   pub room : ruled_capacity s.queue ≡ q.known.frames
 
 -- it is that of the sweep, and the sweep's list is the free list of the table's frames
-pub record IsFreeList {L G : Type 0} (t : FrameTable L G) (s : Sweep) (q : QueueState) : Type 0 where
+pub record IsFreeList {L G : Type 0} (t : FrameTable L G) (s : Sweep) (q : QueueState) :
+    Type 0 where
   pub pass : IsOfSweep s q
   pub frames : q.known.frames ≡ frames_of t

@@ -4,7 +4,8 @@ use Rattle.pin_core.specs.declared.view.View.{View}
 use Rattle.pin_core.specs.State.{link}
 use Rattle.frame_table.specs.Seats.{Grows, Looked, locked_link}
 
--- What a choice leaves of a view: all but its links, and what it lists and counts of steps, loads, changed words and moves of the hand
+-- What a choice leaves of a view: all but its links, and what it lists and counts of steps, loads,
+-- changed words and moves of the hand
 abbrev pub aside_of : View → View
 aside_of v = record v { links = []; steps = 0; ticks = 0; loads = []; changes = []; residents = [] }
 

@@ -38,7 +38,8 @@ fn next_place(ring: &mut Option<Ring>) -> Option<u32>
     }
 }
 
-/// The ring's current place gets the frame that was chosen (`AddBufferToRing`), if that came from elsewhere.
+/// The ring's current place gets the frame that was chosen (`AddBufferToRing`), if that came from
+/// elsewhere.
 fn keep_place(ring: &mut Option<Ring>, held: &LockedFrame)
     ensures { ring.new ≡ ring_keeping held.now.from_ring held.now.frame ring.old }
 {
@@ -60,7 +61,8 @@ fn from_ring<L: BlockLane, G: LogDevice, R: Wait>(
     requires seat { IsSeat table.now seat.old }
     requires headless { HoldsNoHeader seat.old.me.0 }
     ensures seat { SameSeat seat.old seat.new }
-    ensures frame { IfSome result (λ held. (place ≡ Some held.frame) × (held.frame < frames_of table.now) × (held.from_ring ≡ true)) }
+    ensures frame { IfSome result (λ held. (place ≡ Some held.frame)
+        × (held.frame < frames_of table.now) × (held.from_ring ≡ true)) }
     ensures takes { IfSome result (λ held. Takes 1 held seat.old.me.0 seat.new.me.0) }
     ensures leaves { IfNone result (LeavesRing (frames_of table.now) place seat.old.me.0 seat.new.me.0) }
 {
@@ -81,9 +83,13 @@ fn from_free_list<L: BlockLane, G: LogDevice, R: Wait>(
     requires queue { IsOfSweep sweep.now queue.old }
     ensures seat { SameSeat seat.old seat.new }
     ensures queue { SameQueue queue.old queue.new }
-    ensures frame { IfSome result (λ held. (held.frame < frames_of table.now) × (held.from_ring ≡ false)) }
-    ensures takes { IfSome result (λ held. (v : View) × (q : QueueState) × LeavesFree (frames_of table.now) seat.old.me.0 queue.old v q × Takes 0 held v seat.new.me.0 × (queue.new ≡ taking held.frame q)) }
-    ensures leaves { IfNone result (LeavesFree (frames_of table.now) seat.old.me.0 queue.old seat.new.me.0 queue.new) }
+    ensures frame { IfSome result (λ held. (held.frame < frames_of table.now)
+        × (held.from_ring ≡ false)) }
+    ensures takes { IfSome result (λ held. (v : View) × (q : QueueState)
+        × LeavesFree (frames_of table.now) seat.old.me.0 queue.old v q
+        × Takes 0 held v seat.new.me.0 × (queue.new ≡ taking held.frame q)) }
+    ensures leaves { IfNone result (LeavesFree (frames_of table.now) seat.old.me.0 queue.old
+        seat.new.me.0 queue.new) }
     ensures empty { IfNone result (ListHad 0 queue.new.known) }
 {
     for _ in rt.forever() {
@@ -97,7 +103,10 @@ fn from_free_list<L: BlockLane, G: LogDevice, R: Wait>(
 
 /// Chooses a frame that no backend pins, and holds its header (`StrategyGetBuffer`).
 ///
-/// The ring, if there is one, goes on by a place, and its frame there is taken if it is one of the pool, not pinned, and its usage count is at most 1. Otherwise the frames of the free list are tried in order, and then those that the clock comes to. A frame from elsewhere is kept at the ring's place.
+/// The ring, if there is one, goes on by a place, and its frame there is taken if it is one of the
+/// pool, not pinned, and its usage count is at most 1. Otherwise the frames of the free list are
+/// tried in order, and then those that the clock comes to. A frame from elsewhere is kept at the
+/// ring's place.
 ///
 /// The clock has as many tries as there are frames. A pinned frame takes one; a frame that isn't
 /// pinned and has been used loses 1 of its usage count and gives all tries back. If none is left a
@@ -122,14 +131,18 @@ pub fn victim<L: BlockLane, G: LogDevice, R: Wait>(
     ensures held { IfOk result (λ held. GetsHeader held.frame held.word seat.old.me.0 seat.new.me.0) }
     ensures absent { IfOk result (λ held. (link seat.old.me.0 held.frame).role ≡ Absent) }
     ensures fit { IfOk result (λ held. IsFit (usage_allowed held.from_ring) (fields held.word)) }
-    ensures kept { IfOk result (λ held. ring.new ≡ ring_keeping held.from_ring held.frame (ring_gone_on ring.old)) }
-    ensures stands { IfOk result (λ held. held.from_ring ≡ true → frame_at_place ring.new ≡ Some held.frame) }
-    ensures did { IfOk result (Chooses (frames_of table.now) (frame_at_place (ring_gone_on ring.old)) seat.old.me.0 queue.old seat.new.me.0 queue.new) }
+    ensures kept { IfOk result (λ held. ring.new ≡ ring_keeping held.from_ring held.frame
+        (ring_gone_on ring.old)) }
+    ensures stands { IfOk result (λ held. held.from_ring ≡ true
+        → frame_at_place ring.new ≡ Some held.frame) }
+    ensures did { IfOk result (Chooses (frames_of table.now) (frame_at_place (ring_gone_on ring.old))
+        seat.old.me.0 queue.old seat.new.me.0 queue.new) }
     ensures no_census { IfOk result (λ _. census.new ≡ new_census (frames_of table.now)) }
     ensures frames { IfErr result (λ why. why.frames ≡ frames_of table.now) }
     ensures left { IfErr result (λ _. KeepsFrames seat.old.me.0 seat.new.me.0) }
     ensures passed { IfErr result (λ _. ring.new ≡ ring_gone_on ring.old) }
-    ensures cause { IfErr result (λ _. FindsNone (frames_of table.now) (frame_at_place (ring_gone_on ring.old)) seat.old.me.0 queue.old seat.new.me.0 queue.new census.new.words) }
+    ensures cause { IfErr result (λ _. FindsNone (frames_of table.now) (frame_at_place (ring_gone_on ring.old))
+        seat.old.me.0 queue.old seat.new.me.0 queue.new census.new.words) }
     ensures counted { IfErr result (λ _. length census.new.words ≡ frames_of table.now) }
     ensures pinned { IfErr result (λ _. All (λ word. 0 < (fields word).pins) census.new.words) }
     ensures room { census.new.frames ≡ census.old.frames }
@@ -162,10 +175,12 @@ fn choose<L: BlockLane, G: LogDevice, R: Wait>(
     ensures seat { SameSeat seat.old seat.new }
     ensures queue { SameQueue queue.old queue.new }
     ensures inside { IfOk result (λ held. held.frame < frames_of table.now) }
-    ensures did { IfOk result (Chooses (frames_of table.now) place seat.old.me.0 queue.old seat.new.me.0 queue.new) }
+    ensures did { IfOk result (Chooses (frames_of table.now) place seat.old.me.0 queue.old
+        seat.new.me.0 queue.new) }
     ensures cleared { IfOk result (λ _. census.new ≡ census.old) }
     ensures frames { IfErr result (λ why. why.frames ≡ frames_of table.now) }
-    ensures cause { IfErr result (λ _. FindsNone (frames_of table.now) place seat.old.me.0 queue.old seat.new.me.0 queue.new census.new.words) }
+    ensures cause { IfErr result (λ _. FindsNone (frames_of table.now) place seat.old.me.0 queue.old
+        seat.new.me.0 queue.new census.new.words) }
     ensures room { census.new.frames ≡ census.old.frames }
 {
     if let Some(held) = from_ring(table, rt, seat, place) {

@@ -32,7 +32,8 @@ enum Treated {
     Passed(u32),
 }
 
-/// The clock's hand, as it was loaded: it counts up, and points at its remainder by the number of frames.
+/// The clock's hand, as it was loaded: it counts up, and points at its remainder by the number of
+/// frames.
 pub fn hand<L: BlockLane, G: LogDevice>(
     table: &FrameTable<L, G>,
     seat: &mut Seat<Value<L, G>, View>,
@@ -56,9 +57,11 @@ fn take_census<L: BlockLane, G: LogDevice>(
     requires seat { IsSeat table.now seat.old }
     requires census { census.old ≡ new_census (frames_of table.now) }
     ensures seat { SameSeat seat.old seat.new }
-    ensures found { IfSome result (λ frame. FindsUnpinned (frames_of table.now) frame seat.old.me.0 seat.new.me.0) }
+    ensures found { IfSome result (λ frame. FindsUnpinned (frames_of table.now) frame seat.old.me.0
+        seat.new.me.0) }
     ensures cleared { IfSome result (λ _. census.new ≡ census.old) }
-    ensures none { IfNone result (Counts seat.old.me.0 seat.old.me.0 (frames_of table.now) seat.new.me.0 census.new.words) }
+    ensures none { IfNone result (Counts seat.old.me.0 seat.old.me.0 (frames_of table.now)
+        seat.new.me.0 census.new.words) }
     ensures room { census.new.frames ≡ census.old.frames }
 {
     for frame in 0..table.frames() {
@@ -84,11 +87,14 @@ fn next_frame<L: BlockLane, G: LogDevice>(
     requires tries { tries ≤ frames_of table.now }
     requires census { census.old ≡ new_census (frames_of table.now) }
     ensures seat { SameSeat seat.old seat.new }
-    ensures next { IfSome result (λ next. NextIs (frames_of table.now) tries seat.old.me.0 seat.new.me.0 next.frame next.tries) }
-    ensures inside { IfSome result (λ next. (next.frame < frames_of table.now) × (0 < next.tries) × (next.tries ≤ frames_of table.now)) }
+    ensures next { IfSome result (λ next. NextIs (frames_of table.now) tries seat.old.me.0
+        seat.new.me.0 next.frame next.tries) }
+    ensures inside { IfSome result (λ next. (next.frame < frames_of table.now) × (0 < next.tries)
+        × (next.tries ≤ frames_of table.now)) }
     ensures cleared { IfSome result (λ _. census.new ≡ census.old) }
     ensures tired { IfNone result (tries ≡ 0) }
-    ensures none { IfNone result (Counts seat.old.me.0 seat.old.me.0 (frames_of table.now) seat.new.me.0 census.new.words) }
+    ensures none { IfNone result (Counts seat.old.me.0 seat.old.me.0 (frames_of table.now)
+        seat.new.me.0 census.new.words) }
     ensures room { census.new.frames ≡ census.old.frames }
 {
     if tries == 0 {
@@ -148,10 +154,13 @@ pub(crate) fn from_clock<L: BlockLane, G: LogDevice, R: Wait>(
     ensures seat { SameSeat seat.old seat.new }
     ensures inside { IfOk result (λ held. held.frame < frames_of table.now) }
     ensures source { IfOk result (λ held. held.from_ring ≡ false) }
-    ensures comes { IfOk result (λ held. (v : View) × (left : ℕ) × Comes (frames_of table.now) seat.old.me.0 v held.frame left × Takes 0 held v seat.new.me.0) }
+    ensures comes { IfOk result (λ held. (v : View) × (left : ℕ)
+        × Comes (frames_of table.now) seat.old.me.0 v held.frame left
+        × Takes 0 held v seat.new.me.0) }
     ensures cleared { IfOk result (λ _. census.new ≡ census.old) }
     ensures frames { IfErr result (λ why. why.frames ≡ frames_of table.now) }
-    ensures none { IfErr result (λ _. (tired : View) × Sweeps (frames_of table.now) seat.old.me.0 tired 0 × Counts tired tired (frames_of table.now) seat.new.me.0 census.new.words) }
+    ensures none { IfErr result (λ _. (tired : View) × Sweeps (frames_of table.now) seat.old.me.0
+        tired 0 × Counts tired tired (frames_of table.now) seat.new.me.0 census.new.words) }
     ensures room { census.new.frames ≡ census.old.frames }
 {
     let mut tries = table.frames();

@@ -13,7 +13,9 @@ use crossbeam_queue::protocol::{Join, Lesson, Outcome, Protocol, Split};
 use std::collections::LinkedList;
 use std::marker::Model;
 
-/// What a backend knows of the free list: its parts of the right to know the whole, of how many frames the list was made, and the frames that it pushed and took, in order. No value of it is made.
+/// What a backend knows of the free list: its parts of the right to know the whole, of how many
+/// frames the list was made, and the frames that it pushed and took, in order. No value of it is
+/// made.
 pub struct QueueView {
     pub parts: u64,
     pub frames: u32,
@@ -21,7 +23,8 @@ pub struct QueueView {
     pub taken: LinkedList<u32>,
 }
 
-/// The rule: each frame of the pool was listed once, and then each time that it was pushed, and was taken or is still there.
+/// The rule: each frame of the pool was listed once, and then each time that it was pushed, and was
+/// taken or is still there.
 pub(crate) struct FreeFrames;
 
 impl Protocol<u32, QueueView> for FreeFrames {
@@ -94,7 +97,8 @@ impl Join<QueueView> for Parting {
     ghost spent = { no_part };
 }
 
-/// A backend's pass of the free list: only its calls change what it knows. Contracts see of which queue it is, and what it knows.
+/// A backend's pass of the free list: only its calls change what it knows. Contracts see of which
+/// queue it is, and what it knows.
 #[derive(Drop)]
 pub struct QueuePass {
     pub(crate) pass: Pass<u32, QueueView>,

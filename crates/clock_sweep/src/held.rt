@@ -1,6 +1,7 @@
 //! What a choice answers.
 
-/// A frame that was chosen, whose header this backend holds. It has to be pinned, by a call that takes its number and its word, or its header unlocked, which takes the number alone.
+/// A frame that was chosen, whose header this backend holds. It has to be pinned, by a call that
+/// takes its number and its word, or its header unlocked, which takes the number alone.
 pub struct LockedFrame {
     pub(crate) frame: u32,
     pub(crate) word: u64,
@@ -23,7 +24,8 @@ impl LockedFrame {
         self.word
     }
 
-    /// Whether the frame came from the ring's current place (`from_ring`): only then may the ring reject it.
+    /// Whether the frame came from the ring's current place (`from_ring`): only then may the ring
+    /// reject it.
     pub fn is_from_ring(&self) -> bool
         ensures { result ≡ self.now.from_ring }
     {
@@ -43,7 +45,8 @@ impl LockedFrame {
     }
 }
 
-/// Each of so many frames was seen pinned, by loads of the call that answers this. The census has their words.
+/// Each of so many frames was seen pinned, by loads of the call that answers this. The census has
+/// their words.
 #[derive(Clone, Copy, PartialEq, Eq, Debug)]
 pub struct NoUnpinned {
     pub frames: u32,

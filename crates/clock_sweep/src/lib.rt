@@ -1,9 +1,9 @@
-//! The choice of a victim (`StrategyGetBuffer`), after `src/backend/storage/buffer/freelist.c`, over `frame_table`: the
-//! ring if the caller has one, the free list, then the clock sweep.
+//! The choice of a victim (`StrategyGetBuffer`), after `src/backend/storage/buffer/freelist.c`,
+//! over `frame_table`: the ring if the caller has one, the free list, then the clock sweep.
 //!
-//! [`victim`] returns a frame under its header lock. It gives up only after a [`Census`], an array of the state words,
-//! that shows every frame pinned; PostgreSQL counts tries instead. A manager has one [`Sweep`], and each backend a
-//! [`QueuePass`] for its free list.
+//! [`victim`] returns a frame under its header lock. It gives up only after a [`Census`], an array
+//! of the state words, that shows every frame pinned; PostgreSQL counts tries instead. A manager
+//! has one [`Sweep`], and each backend a [`QueuePass`] for its free list.
 #![tactic(auto)]
 
 mod census;

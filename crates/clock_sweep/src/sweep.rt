@@ -25,8 +25,8 @@ fn list_all(queue: &FreeQueue, pass: &mut Pass<u32, QueueView>, frames: u32) -> 
     ensures known { IfOk result (λ _. view pass.new ≡ queue_view all_parts frames [] []) }
 {
     for frame in 0..frames {
-        // No other thread can be in the way, so no push fails. If one did, the answer would be out of memory,
-        // which needs no cause.
+        // No other thread can be in the way, so no push fails. If one did, the answer would be out
+        // of memory, which needs no cause.
         match queue.try_push_as::<Filling>(pass, frame) {
             Ok(()) => {}
             Err(_) => return Err(AllocError),
@@ -41,7 +41,8 @@ impl Sweep {
     ghost use Rattle.clock_sweep.specs.FreeFrames.{ListHad, SameQueue, Settles, all_parts, joined_parts, kept_part, new_part, pushing, queue_view, taking};
     ghost use Rattle.clock_sweep.specs.FreeLists.{IsOfSweep};
 
-    /// Makes the free list of so many frames, all free and frame 0 first, and its first pass, which has all parts. Nothing is allocated after that.
+    /// Makes the free list of so many frames, all free and frame 0 first, and its first pass, which
+    /// has all parts. Nothing is allocated after that.
     pub fn build(alloc: Global, frames: u32) -> Result<(Sweep, QueuePass), Memory>
         requires some { 0 < frames }
         ensures pass { IfOk result (λ s. IsOfSweep s.0 s.1) }
@@ -70,20 +71,25 @@ impl Sweep {
         requires pass { IsOfSweep self.now pass.old }
         requires other { IsOfSweep self.now other }
         ensures pass { IsOfSweep self.now pass.new }
-        ensures known { pass.new ≡ record pass.old { known = joined_parts pass.old.known other.known } }
+        ensures known { pass.new ≡ record pass.old {
+          known = joined_parts pass.old.known other.known;
+        } }
     {
         let QueuePass { pass: theirs } = other;
         self.queue.absorb::<Parting>(&mut pass.pass, theirs);
     }
 
-    /// Pushes a frame of the pool, which is then the last of the list (`StrategyFreeBuffer` puts it first). Returns false only if the list was full at one moment of the call; then the frame is left to the clock. A frame may be listed more than once.
+    /// Pushes a frame of the pool, which is then the last of the list (`StrategyFreeBuffer` puts it
+    /// first). Returns false only if the list was full at one moment of the call; then the frame is
+    /// left to the clock. A frame may be listed more than once.
     pub fn free<R: Wait>(&self, rt: &R, pass: &mut QueuePass, frame: u32) -> bool
         requires pass { IsOfSweep self.now pass.old }
         requires inside { frame < pass.old.known.frames }
         ensures pass { IsOfSweep self.now pass.new }
         ensures same { SameQueue pass.old pass.new }
         ensures pushed { OnTrue result (pass.new ≡ pushing frame pass.old) }
-        ensures full { OnFalse result ((pass.new ≡ pass.old) × ListHad pass.old.known.frames pass.old.known) }
+        ensures full { OnFalse result ((pass.new ≡ pass.old)
+            × ListHad pass.old.known.frames pass.old.known) }
     {
         let answer = self.queue.push_as::<Freeing, R>(rt, &mut pass.pass, frame);
         answer.is_ok()
@@ -94,12 +100,14 @@ impl Sweep {
         requires { IsOfSweep self.now pass.old }
         ensures pass { IsOfSweep self.now pass.new }
         ensures same { SameQueue pass.old pass.new }
-        ensures took { MatchOption result ((pass.new ≡ pass.old) × ListHad 0 pass.old.known) (λ f. (f < pass.old.known.frames) × (pass.new ≡ taking f pass.old)) }
+        ensures took { MatchOption result ((pass.new ≡ pass.old) × ListHad 0 pass.old.known)
+            (λ f. (f < pass.old.known.frames) × (pass.new ≡ taking f pass.old)) }
     {
         self.queue.pop_as::<Taking, R>(rt, &mut pass.pass)
     }
 
-    /// Ends the free list, with the pass that has all parts: each frame was taken once, and once more for each time that it was pushed, but for those that the list still has.
+    /// Ends the free list, with the pass that has all parts: each frame was taken once, and once
+    /// more for each time that it was pushed, but for those that the list still has.
     pub fn close(self, mut pass: QueuePass)
         requires pass { IsOfSweep self pass }
         requires whole { pass.known.parts ≡ all_parts }

@@ -60,10 +60,13 @@ pub(crate) fn try_frame<L: BlockLane, G: LogDevice, R: Wait>(
     requires seat { IsSeat table.now seat.old }
     requires headless { HoldsNoHeader seat.old.me.0 }
     ensures seat { SameSeat seat.old seat.new }
-    ensures frame { IfSome result (λ held. (held.frame ≡ frame) × (held.from_ring ≡ is_ring origin)) }
+    ensures frame { IfSome result (λ held. (held.frame ≡ frame)
+        × (held.from_ring ≡ is_ring origin)) }
     ensures inside { IfSome result (λ _. frame < frames_of table.now) }
-    ensures takes { IfSome result (λ held. Takes (usage_allowed (is_ring origin)) held seat.old.me.0 seat.new.me.0) }
-    ensures skips { IfNone result (Skips (frames_of table.now) (usage_allowed (is_ring origin)) frame seat.old.me.0 seat.new.me.0) }
+    ensures takes { IfSome result (λ held. Takes (usage_allowed (is_ring origin)) held seat.old.me.0
+        seat.new.me.0) }
+    ensures skips { IfNone result (Skips (frames_of table.now) (usage_allowed (is_ring origin))
+        frame seat.old.me.0 seat.new.me.0) }
 {
     if frame >= table.frames() {
         return None;

@@ -31,7 +31,8 @@ abbrev pub is_nothing : Bool → StateWord → Bool
 is_nothing true w = w.valid
 is_nothing false w = not w.dirty
 
--- A read, or a write, may begin: for a read the pin is handed out, and for a write the content lock is shared
+-- A read, or a write, may begin: for a read the pin is handed out, and for a write the content lock
+-- is shared
 pub record CanStartIo (input : Bool) (l : Link) : Type 0 where
   pub pinned : l.role ≢ Absent
   pub settled : l.pending ≡ false
@@ -88,7 +89,8 @@ pub record FindsNothing (input : Bool) (f : ℕ) (v w : View) : Type 0 where
   pub looks : Did looking f under looked seen
   pub unlocks : Did (pins unlock_header) f looked w word
 
--- The header was locked, and the read, or the write, ended; what is marked of it is made of the word that was held
+-- The header was locked, and the read, or the write, ended; what is marked of it is made of the
+-- word that was held
 pub record EndsIo (end : IoEnd) (f : ℕ) (v w : View) : Type 0 where
   pub under : View
   pub was : ℕ
@@ -101,5 +103,7 @@ pub record EndsIo (end : IoEnd) (f : ℕ) (v w : View) : Type 0 where
 -- what one try leaves, and why
 abbrev pub TriedIo : Bool → ℕ → View → View → TryIo → Type 0
 TriedIo input f v w InProgress = Looked (link v f) (link w f) × FindsWork f v w × SameMarks v w
-TriedIo input f v w Nothing = Looked (link v f) (link w f) × (input ≡ true → (link w f).seen_valid ≡ true) × FindsNothing input f v w × SameMarks v w
-TriedIo input f v w (Begun right) = (right.frame ≡ f) × (right.input ≡ input) × Looked (begun_link input (link v f)) (link w f) × BeginsIo input f v w × MarksBegun input v w
+TriedIo input f v w Nothing = Looked (link v f) (link w f)
+    × (input ≡ true → (link w f).seen_valid ≡ true) × FindsNothing input f v w × SameMarks v w
+TriedIo input f v w (Begun right) = (right.frame ≡ f) × (right.input ≡ input)
+    × Looked (begun_link input (link v f)) (link w f) × BeginsIo input f v w × MarksBegun input v w

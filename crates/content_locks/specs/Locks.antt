@@ -13,10 +13,12 @@ use Rattle.frame_table.specs.Content.{copying_link, has_exclusive, looking_conte
 use Rattle.content_locks.specs.declared.locks.TryLock.{TryLock}
 use Rattle.content_locks.specs.declared.locks.TryLock.TheVariants.{Busy, Changed}
 
--- the view v became w by loads of the content word of f (`Looks` of `frame_table` is by loads of its state word)
+-- the view v became w by loads of the content word of f (`Looks` of `frame_table` is by loads of
+-- its state word)
 pub data LooksAtContent (f : ℕ) : View → View → Type 0 where
   still : {v : View} → LooksAtContent f v v
-  again : {v u w : View} (found : ℕ) → LooksAtContent f v u → Did looking_content f u w found → LooksAtContent f v w
+  again : {v u w : View} (found : ℕ) → LooksAtContent f v u → Did looking_content f u w found
+      → LooksAtContent f v w
 
 -- after such loads a step of the kind k was made at the content word
 abbrev pub LocksContent : paged.Kind → ℕ → View → View → Type 0
@@ -24,7 +26,8 @@ LocksContent k f v w = (u : View) × (was : ℕ) × LooksAtContent f v u × Did 
 
 -- after one such load a step of the kind k was made at it, at the word that was loaded
 abbrev pub LocksAtOnce : paged.Kind → ℕ → View → View → Type 0
-LocksAtOnce k f v w = (u : View) × (was : ℕ) × Did looking_content f v u was × Did (pages k) f u w was
+LocksAtOnce k f v w = (u : View) × (was : ℕ) × Did looking_content f v u was
+    × Did (pages k) f u w was
 
 -- a content word that shows an exclusive lock, and one that shows any
 abbrev pub ShowsExclusive : ℕ → Type 0
@@ -33,17 +36,20 @@ ShowsExclusive word = has_exclusive word ≡ true
 abbrev pub ShowsLock : ℕ → Type 0
 ShowsLock word = (has_exclusive word ≡ true) ⊎ (0 < word % 2 ^ 18)
 
--- Why a content lock is not taken: a word that this call loaded shows a holder in conflict, or this call loaded two different words
+-- Why a content lock is not taken: a word that this call loaded shows a holder in conflict, or this
+-- call loaded two different words
 abbrev pub RefusesLock : (ℕ → Type 0) → ℕ → View → View → TryLock → Type 0
 RefusesLock Conflicts f v w (Busy word) = Did looking_content f v w word × Conflicts word
-RefusesLock Conflicts f v w (Changed was now) = (was ≢ now) × ((u : View) × Did looking_content f v u was × Did looking_content f u w now)
+RefusesLock Conflicts f v w (Changed was now) = (was ≢ now)
+    × ((u : View) × Did looking_content f v u was × Did looking_content f u w now)
 
 -- the link of a sharer that has taken the copy latch, or hasn't
 abbrev pub copying_link_if : Bool → Link → Link
 copying_link_if true l = copying_link true l
 copying_link_if false l = l
 
--- The view may copy the page under its content lock: no entry is unapplied, and neither the page nor the copy latch is taken
+-- The view may copy the page under its content lock: no entry is unapplied, and neither the page
+-- nor the copy latch is taken
 pub record CanCopy (l : Link) : Type 0 where
   pub right : l.content ≢ Unlocked
   pub applied : l.unapplied ≡ false
@@ -74,7 +80,8 @@ pub record CopiesPage (f : ℕ) (page : Page) (v w : View) : Type 0 where
 -- left
 pub data Copies (f : ℕ) (page : Page) : View → View → Type 0 where
   alone : {v u w : View} → LooksAtContent f v u → CopiesPage f page u w → Copies f page v w
-  latched : {v u x w : View} (left : ℕ) → LocksContent paged.take_copy f v u → CopiesPage f page u x → Did (pages paged.leave_copy) f x w left → Copies f page v w
+  latched : {v u x w : View} (left : ℕ) → LocksContent paged.take_copy f v u → CopiesPage f page u x
+      → Did (pages paged.leave_copy) f x w left → Copies f page v w
 
 -- one try to take the copy latch: it is taken, or the word was loaded
 abbrev pub TriedCopy : ℕ → View → View → Bool → Type 0

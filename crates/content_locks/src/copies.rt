@@ -93,7 +93,9 @@ fn copy_page<L: BlockLane, G: LogDevice>(
     table.page_back(seat, frame, out);
 }
 
-/// Copies the page of a frame, which is sound, under the content lock that the backend has. The copy is noted, and is the frame's page for as long as the lock is held. Sharers copy one after the other.
+/// Copies the page of a frame, which is sound, under the content lock that the backend has. The
+/// copy is noted, and is the frame's page for as long as the lock is held. Sharers copy one after
+/// the other.
 pub fn copy_out<L: BlockLane, G: LogDevice, R: Wait>(
     table: &FrameTable<L, G>,
     rt: &R,
@@ -119,7 +121,8 @@ pub fn copy_out<L: BlockLane, G: LogDevice, R: Wait>(
     table.leave_copy(seat, frame);
 }
 
-/// The page of a frame goes out with the backend: under the exclusive lock, with the copy latch, or under an input right.
+/// The page of a frame goes out with the backend: under the exclusive lock, with the copy latch, or
+/// under an input right.
 pub fn page_out<L: BlockLane, G: LogDevice>(
     table: &FrameTable<L, G>,
     seat: &mut Seat<Value<L, G>, View>,
@@ -128,7 +131,8 @@ pub fn page_out<L: BlockLane, G: LogDevice>(
     requires seat { CanStep table.now seat.old frame }
     requires can { MayTakePage (link seat.old.me.0 frame) }
     ensures seat { (seat.new.table_id ≡ seat.old.table_id) × (seat.new.id ≡ seat.old.id) }
-    ensures hand { seat.new.me.1 ≡ (slot_of (frames_of table.now) (place.Page frame), value.Away) ∷ seat.old.me.1 }
+    ensures hand { seat.new.me.1 ≡ (slot_of (frames_of table.now) (place.Page frame), value.Away)
+        ∷ seat.old.me.1 }
     ensures touches { Touches frame seat.old.me.0 seat.new.me.0 }
     ensures marks { SameMarks seat.old.me.0 seat.new.me.0 }
     ensures out { link seat.new.me.0 frame ≡ page_out_link result (link seat.old.me.0 frame) }
@@ -138,7 +142,8 @@ pub fn page_out<L: BlockLane, G: LogDevice>(
     table.page_out(seat, frame)
 }
 
-/// The page is back: as it was taken, or as the image of the backend's entry, or as the page that the lane gave.
+/// The page is back: as it was taken, or as the image of the backend's entry, or as the page that
+/// the lane gave.
 pub fn page_back<L: BlockLane, G: LogDevice>(
     table: &FrameTable<L, G>,
     seat: &mut Seat<Value<L, G>, View>,
@@ -146,14 +151,16 @@ pub fn page_back<L: BlockLane, G: LogDevice>(
     page: Page,
 )
     requires seat { CanStep table.now seat.old frame }
-    requires hand { seat.old.me.1 ≡ (slot_of (frames_of table.now) (place.Page frame), value.Away) ∷ rest seat.old.me.1 }
+    requires hand { seat.old.me.1 ≡ (slot_of (frames_of table.now) (place.Page frame), value.Away)
+        ∷ rest seat.old.me.1 }
     requires can { MayReturnPage page (link seat.old.me.0 frame) }
     ensures seat { (seat.new.table_id ≡ seat.old.table_id) × (seat.new.id ≡ seat.old.id) }
     ensures hand { seat.new.me.1 ≡ rest seat.old.me.1 }
     ensures touches { Touches frame seat.old.me.0 seat.new.me.0 }
     ensures marks { SameMarks seat.old.me.0 seat.new.me.0 }
     ensures back { link seat.new.me.0 frame ≡ returned_link page (link seat.old.me.0 frame) }
-    ensures did { (found : ℕ) × ReturnsBy (overwriting (link seat.old.me.0 frame)) frame seat.old.me.0 seat.new.me.0 found }
+    ensures did { (found : ℕ) × ReturnsBy (overwriting (link seat.old.me.0 frame)) frame
+        seat.old.me.0 seat.new.me.0 found }
 {
     table.page_back(seat, frame, page);
 }

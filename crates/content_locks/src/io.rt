@@ -51,7 +51,8 @@ enum TryIo {
     Begun(IoRight),
 }
 
-/// Whether a state word shows nothing to do: a page that is valid, or for a write one that isn't dirty.
+/// Whether a state word shows nothing to do: a page that is valid, or for a write one that isn't
+/// dirty.
 fn shows_nothing(word: u64, direction: Direction) -> bool
     ensures { result ≡ is_nothing (is_input direction) (fields word) }
 {
@@ -107,12 +108,16 @@ pub fn start_io<L: BlockLane, G: LogDevice, R: Wait>(
     requires view { CanStartIo (is_input direction) (link seat.old.me.0 frame) }
     ensures seat { SameSeat seat.old seat.new }
     ensures touches { Touches frame seat.old.me.0 seat.new.me.0 }
-    ensures marks { MatchOption result (SameMarks seat.old.me.0 seat.new.me.0) (λ _. MarksBegun (is_input direction) seat.old.me.0 seat.new.me.0) }
+    ensures marks { MatchOption result (SameMarks seat.old.me.0 seat.new.me.0)
+        (λ _. MarksBegun (is_input direction) seat.old.me.0 seat.new.me.0) }
     ensures right { IfSome result (λ r. (r.frame ≡ frame) × (r.input ≡ is_input direction)) }
-    ensures begun { IfSome result (λ _. Looked (begun_link (is_input direction) (link seat.old.me.0 frame)) (link seat.new.me.0 frame)) }
+    ensures begun { IfSome result (λ _. Looked (begun_link (is_input direction) (link seat.old.me.0 frame))
+        (link seat.new.me.0 frame)) }
     ensures left { IfNone result (Looked (link seat.old.me.0 frame) (link seat.new.me.0 frame)) }
-    ensures seen { IfNone result (is_input direction ≡ true → (link seat.new.me.0 frame).seen_valid ≡ true) }
-    ensures did { IfSome result (λ _. BeginsIo (is_input direction) frame seat.old.me.0 seat.new.me.0) }
+    ensures seen { IfNone result (is_input direction ≡ true
+        → (link seat.new.me.0 frame).seen_valid ≡ true) }
+    ensures did { IfSome result (λ _. BeginsIo (is_input direction) frame seat.old.me.0
+        seat.new.me.0) }
     ensures cause { IfNone result (FindsNothing (is_input direction) frame seat.old.me.0 seat.new.me.0) }
 {
     for _ in rt.forever() {
@@ -139,8 +144,10 @@ pub fn end_io<L: BlockLane, G: LogDevice, R: Wait>(
     requires view { MayEndIo end (link seat.old.me.0 right.frame) }
     ensures seat { SameSeat seat.old seat.new }
     ensures touches { Touches right.frame seat.old.me.0 seat.new.me.0 }
-    ensures marks { (word : ℕ) × MarksEnded (unlocked_fields (io_ended_fields end (fields word))) seat.old.me.0 seat.new.me.0 }
-    ensures ended { Looked (finished_link end (link seat.old.me.0 right.frame)) (link seat.new.me.0 right.frame) }
+    ensures marks { (word : ℕ) × MarksEnded (unlocked_fields (io_ended_fields end (fields word)))
+        seat.old.me.0 seat.new.me.0 }
+    ensures ended { Looked (finished_link end (link seat.old.me.0 right.frame))
+        (link seat.new.me.0 right.frame) }
     ensures seen { end ≡ ReadOk → (link seat.new.me.0 right.frame).seen_valid ≡ true }
     ensures did { EndsIo end right.frame seat.old.me.0 seat.new.me.0 }
 {

@@ -1,8 +1,9 @@
-//! Content locks (`LockBuffer`), copies of pages, and the right to do I/O on a buffer (`StartBufferIO`), over
-//! `frame_table`. Engines call the methods of `Pass` instead.
+//! Content locks (`LockBuffer`), copies of pages, and the right to do I/O on a buffer
+//! (`StartBufferIO`), over `frame_table`. Engines call the methods of `Pass` instead.
 //!
-//! [`share`] and [`exclusive`] wait, [`try_share`] and [`try_exclusive`] don't. Under a lock, [`copy_out`] copies the
-//! page. [`start_io`] takes the right to read a page in or write it out, and [`end_io`] gives it back.
+//! [`share`] and [`exclusive`] wait, [`try_share`] and [`try_exclusive`] don't. Under a lock,
+//! [`copy_out`] copies the page. [`start_io`] takes the right to read a page in or write it out,
+//! and [`end_io`] gives it back.
 #![tactic(auto)]
 
 mod content_word;

@@ -5,10 +5,12 @@
 ghost use Rattle.std.specs.Prelude.{◌≡◌, ℕ, IfErr, IfOk};
 ghost use Rattle.pin_core.specs.State.{link};
 ghost use Rattle.page_core.specs.Kinds as kinds;
-ghost use Rattle.frame_table.specs.Seats.{CanStep, SameMarks, SameSeat, Touches};
+ghost use Rattle.frame_table.specs.Seats.{CanStep, SameMarks, SameSeat, Touches, TouchesOrNotes};
 ghost use Rattle.frame_table.specs.Kinds.{pages};
 ghost use Rattle.frame_table.specs.FrameSteps.{Did};
-ghost use Rattle.frame_table.specs.Content.{CanDropExclusive, CanDropShare, CanLock, exclusive_link, shared_link, unexclusive_link, unshared_link};
+ghost use Rattle.frame_table.specs.Content.{CanDropExclusive, CanDropShare, CanLock};
+ghost use Rattle.frame_table.specs.Content.{HoldsNoUnentered, exclusive_link, shared_link};
+ghost use Rattle.frame_table.specs.Content.{unexclusive_link, unshared_link};
 ghost use Rattle.content_locks.specs.Locks.{ShowsLock, ShowsExclusive, LocksAtOnce, LocksContent, RefusesLock};
 
 use crate::content_word::is_exclusive;
@@ -148,7 +150,8 @@ pub fn unshare<L: BlockLane, G: LogDevice>(
     table.drop_share(seat, frame);
 }
 
-/// Gives up the exclusive lock.
+/// Gives up the exclusive lock. The frame's block is noted as unentered if the frame was marked
+/// dirty under the lock, and no entry made.
 pub fn unexclusive<L: BlockLane, G: LogDevice>(
     table: &FrameTable<L, G>,
     seat: &mut Seat<Value<L, G>, View>,
@@ -157,7 +160,9 @@ pub fn unexclusive<L: BlockLane, G: LogDevice>(
     requires seat { CanStep table.now seat.old frame }
     requires view { CanDropExclusive (link seat.old.me.0 frame) }
     ensures seat { SameSeat seat.old seat.new }
-    ensures touches { Touches frame seat.old.me.0 seat.new.me.0 }
+    ensures touches { TouchesOrNotes frame seat.old.me.0 seat.new.me.0 }
+    ensures unnoted { HoldsNoUnentered (link seat.old.me.0 frame)
+        → seat.new.me.0.unentered ≡ seat.old.me.0.unentered }
     ensures marks { SameMarks seat.old.me.0 seat.new.me.0 }
     ensures unexclusive { link seat.new.me.0 frame ≡ unexclusive_link (link seat.old.me.0 frame) }
     ensures did { (was : ℕ) × Did (pages kinds.unexclude) frame seat.old.me.0 seat.new.me.0 was }

@@ -26,7 +26,7 @@ use Rattle.table_rule.specs.declared.turn.Place.TheVariants as place
 use Rattle.table_rule.specs.declared.turn.Turn.TheVariants as turn
 use Rattle.table_rule.specs.Layout.{slot_of, first_lane_slot, log_slot, list_slot, slot_count, lane_of_tag}
 use Rattle.table_rule.specs.Laid.{lanes_among, HasNoDevices, EndsWith}
-use Rattle.table_rule.specs.Shows.{is_out, IsHome, Devices, Gives, GivesPage, GivesMap, GivesLane, GivesLog, IsPlaced, IsLane, IsLog, IsPlaceIn, RuleHolds}
+use Rattle.table_rule.specs.Shows.{is_out, IsHome, Devices, Gives, GivesPage, GivesMap, GivesLane, GivesLog, IsPlaced, IsLane, IsLog, IsPlaceIn, RuleHolds, lane_opened}
 use Rattle.table_rule.proofs.Emptying.{at_take, two_last, plain_each, LanesAt, AreThose, are_those, same_item, IsOther, other_plain, other_lanes, lane_plain, log_lanes, list_lanes, one_log}
 use Rattle.table_rule.proofs.Opens.{length_low}
 use Rattle.frame_table.specs.Closes.{Closes}
@@ -97,10 +97,10 @@ module _ {L G : Type 0} (d : Devices L G) (o : Opening L G) (t : table.State (Va
     other_at i y low at = dite (dec_lt i n) (λ a. page_at i y a at) (λ a. map_at (i - n) i y (omega arith) (omega arith) at)
 
     -- a lane's slot has it, and the log's slot the log
-    lane_at : (q : ℕ) → q < o.config.lanes → (l : NotedLane L) × (get_elem? xs (first_lane_slot n + q) ≡ some (value.Lane l)) × IsLane {L = L} {G = G} d o.catalog.value s.lanes q l.device (s.lane q)
+    lane_at : (q : ℕ) → q < o.config.lanes → (l : NotedLane L) × (get_elem? xs (first_lane_slot n + q) ≡ some (value.Lane l)) × IsLane {L = L} {G = G} d o.catalog.value s.lanes q (lane_opened d o q) l.device (s.lane q)
     lane_at q low = let r = value_at (place.Of (turn.Lane q)) low in of_value r.0 r.1 r.2
       where
-        of_value : (z : Value L G) → get_elem? xs (first_lane_slot n + q) ≡ some z → GivesLane d o.catalog.value s.lanes q z (s.lane q) → (l : NotedLane L) × (get_elem? xs (first_lane_slot n + q) ≡ some (value.Lane l)) × IsLane {L = L} {G = G} d o.catalog.value s.lanes q l.device (s.lane q)
+        of_value : (z : Value L G) → get_elem? xs (first_lane_slot n + q) ≡ some z → GivesLane d o.catalog.value s.lanes q (lane_opened d o q) z (s.lane q) → (l : NotedLane L) × (get_elem? xs (first_lane_slot n + q) ≡ some (value.Lane l)) × IsLane {L = L} {G = G} d o.catalog.value s.lanes q (lane_opened d o q) l.device (s.lane q)
         of_value (value.Page p) at g = absurd g
         of_value (value.Map m) at g = absurd g
         of_value (value.Lane l) at g = (l, at, g.0)
@@ -155,12 +155,12 @@ module _ {L G : Type 0} (d : Devices L G) (o : Opening L G) (t : table.State (Va
     room_so = let a = those.counted in let b = h.shows.list.room in omega arith
 
     -- the lane q of those that come back
-    lane_so : (lanes : List L) → lanes ≡ lanes_among xs → (q : ℕ) (l : L) → get_elem? lanes q ≡ some l → IsLane {L = L} {G = G} d o.catalog.value s.lanes q l (s.lane q)
+    lane_so : (lanes : List L) → lanes ≡ lanes_among xs → (q : ℕ) (l : L) → get_elem? lanes q ≡ some l → IsLane {L = L} {G = G} d o.catalog.value s.lanes q (lane_opened d o q) l (s.lane q)
     lane_so lanes all q l at = let low : q < o.config.lanes = (let a = length_low lanes q l at in let b = ap (λ (z : List L). length z) all in let c = those.counted in omega arith) in let r = lane_at q low in
-        subst (λ (x : L). IsLane {L = L} {G = G} d o.catalog.value s.lanes q x (s.lane q)) (some-injective r.0.device l (sym (those.each q (first_lane_slot n + q) r.0 refl low r.1) ∙ sym (ap (λ (z : List L). get_elem? z q) all) ∙ at)) r.2
+        subst (λ (x : L). IsLane {L = L} {G = G} d o.catalog.value s.lanes q (lane_opened d o q) x (s.lane q)) (some-injective r.0.device l (sym (those.each q (first_lane_slot n + q) r.0 refl low r.1) ∙ sym (ap (λ (z : List L). get_elem? z q) all) ∙ at)) r.2
 
     -- where its own list doesn't have a block its sync covered what it has
-    covered_so : (q word : ℕ) (l : L) (tag : Tag) → IsLane {L = L} {G = G} d o.catalog.value s.lanes q l (s.lane q) → IsPlaced o.catalog.value s.lanes q word tag → d.unsynced l tag ≡ false → synced_upto s word ≡ stored_upto s word
+    covered_so : (q word : ℕ) (l : L) (tag : Tag) → IsLane {L = L} {G = G} d o.catalog.value s.lanes q (lane_opened d o q) l (s.lane q) → IsPlaced o.catalog.value s.lanes q word tag → d.unsynced l tag ≡ false → synced_upto s word ≡ stored_upto s word
     covered_so q word l tag is placed clean = let count = h.shows.fixed.lanes in let here : s.lane_of word ≡ q = ap (λ (g : ℕ → ℕ). g word) h.shows.fixed.lane_of ∙ ap (lane_of_tag o.config.lanes) placed.named ∙ ap (lane_number tag) (sym count) ∙ placed.placed in
         syncs_cover s h.laws.reached word (ap (λ (n : ℕ). (s.lane n).unsynced word) here ∙ is.unsynced word tag placed ∙ clean)
 

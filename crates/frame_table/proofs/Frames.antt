@@ -8,6 +8,7 @@ use lib.ListN.{get_elem?}
 use Rattle.atomic_table.specs.Table.{keeps, stepped}
 use Rattle.atomic_table.specs.Table as table
 use Rattle.state_word.specs.Fields.{fields, bit}
+use Rattle.segment_store.specs.Contents.{Pages}
 use Rattle.pin_core.specs.declared.view.Link.{Link}
 use Rattle.pin_core.specs.declared.view.MapEntry.{MapEntry}
 use Rattle.pin_core.specs.declared.view.PartitionHold.{PartitionHold}
@@ -35,7 +36,7 @@ use Rattle.table_rule.specs.Layout.{latch_place, word_place}
 use Rattle.table_rule.proofs.Places.{word_behind}
 use Rattle.history_core.specs.Words.{word_in, words_of}
 use Rattle.frame_table.specs.Kinds.{FrameKind, pins, pages, IsAllowed, IsAllowedAround, frame_after, link_after, view_after, state_after}
-use Rattle.table_rule.specs.Shows.{ShowsFrame, ShowsLatches, is_taken, is_out, IsHome, Devices, Gives, GivesPage, GivesMap, GivesLane, GivesLog, KeepsOpening, Shows}
+use Rattle.table_rule.specs.Shows.{ShowsFrame, ShowsLatches, is_taken, is_out, IsHome, Devices, Gives, GivesPage, GivesMap, GivesLane, GivesLog, KeepsOpening, Shows, lane_opened}
 
 -- a word that none of the frame's three is leaves what they show
 pub frame_else : (words : List ℕ) (i n g : ℕ) (fr : Frame) → ¬ (i ≡ 8 * g) → ¬ (i ≡ 8 * g + 1) → ¬ (i ≡ 8 * g + 2) → ShowsFrame words g fr → ShowsFrame (set words i n) g fr
@@ -148,25 +149,28 @@ pub record SameLane (ln ln' : Lane) : Type 0 where
 pub lane_none : (ln : Lane) → SameLane ln ln
 lane_none ln = record { known = refl; stored = refl; failed = refl; unsynced = refl; reads = refl; writes = refl; reads_at_start = refl; writes_at_start = refl }
 
-gives_lane : {L G : Type 0} (d : Devices L G) (relations : List RelEntry) (lanes q : ℕ) (y : Value L G) (ln ln' : Lane) → SameLane ln ln' → GivesLane d relations lanes q y ln → GivesLane d relations lanes q y ln'
-gives_lane d relations lanes q (value.Lane l) ln ln' e h = (
+gives_lane : {L G : Type 0} (d : Devices L G) (relations : List RelEntry) (lanes q : ℕ)
+    (opened : Option Pages) (y : Value L G) (ln ln' : Lane) → SameLane ln ln'
+    → GivesLane d relations lanes q opened y ln → GivesLane d relations lanes q opened y ln'
+gives_lane d relations lanes q opened (value.Lane l) ln ln' e h = (
   record {
     known = e.known ∙ h.0.known;
     pages = λ known word tag told placed. h.0.pages known word tag told placed ∙ ap (λ (f : ℕ → Option Page). f word) (sym e.stored);
     held = h.0.held;
     failed = λ known word tag told placed. ap (λ (f : ℕ → Bool). f word) e.failed ∙ h.0.failed known word tag told placed;
     unsynced = λ word tag placed. ap (λ (f : ℕ → Bool). f word) e.unsynced ∙ h.0.unsynced word tag placed;
+    others = h.0.others;
     reads = e.reads ∙ h.0.reads;
     writes = e.writes ∙ h.0.writes;
   },
   h.1,
   h.2,
 )
-gives_lane d relations lanes q (value.Page p) ln ln' e h = h
-gives_lane d relations lanes q (value.Map m) ln ln' e h = h
-gives_lane d relations lanes q (value.Log g) ln ln' e h = h
-gives_lane d relations lanes q (value.Lanes l) ln ln' e h = h
-gives_lane d relations lanes q value.Away ln ln' e h = h
+gives_lane d relations lanes q opened (value.Page p) ln ln' e h = h
+gives_lane d relations lanes q opened (value.Map m) ln ln' e h = h
+gives_lane d relations lanes q opened (value.Log g) ln ln' e h = h
+gives_lane d relations lanes q opened (value.Lanes l) ln ln' e h = h
+gives_lane d relations lanes q opened value.Away ln ln' e h = h
 
 -- What the log's device holds and has counted is the same
 pub record SameDevice (a b : Device) : Type 0 where
@@ -198,7 +202,11 @@ module _ {L G : Type 0} (d : Devices L G) (o : Opening L G) where
   pub gives_same : (s s' : State) → SameValues s s' → (x : Place) (y : Value L G) → Gives d o s x y → Gives d o s' x y
   gives_same s s' e (place.Page f) y h = subst (GivesPage y) (sym (e.page f)) h
   gives_same s s' e (place.Of (turn.Partition p)) y h = subst (GivesMap o.config.frames y) (sym (e.map p)) h
-  gives_same s s' e (place.Of (turn.Lane q)) y h = subst (λ (n : ℕ). GivesLane d o.catalog.value n q y (s'.lane q)) (sym e.count) (gives_lane d o.catalog.value s.lanes q y (s.lane q) (s'.lane q) (e.lane q) h)
+  gives_same s s' e (place.Of (turn.Lane q)) y h =
+      subst (λ (n : ℕ). GivesLane d o.catalog.value n q (lane_opened d o q) y (s'.lane q))
+      (sym e.count)
+      (gives_lane d o.catalog.value s.lanes q (lane_opened d o q) y (s.lane q) (s'.lane q)
+      (e.lane q) h)
   gives_same s s' e (place.Of turn.Log) y h = gives_log d y s.device s'.device e.device h
 
 -- What a step of the kind k at the frame f asks, where its word i becomes n

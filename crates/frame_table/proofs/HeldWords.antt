@@ -25,13 +25,13 @@ use Rattle.table_rule.specs.Layout.{state_place}
 use Rattle.history_core.proofs.Stepping.{frame_block}
 use Rattle.frame_table.specs.Kinds.{FrameKind, pages, state_word, part_of}
 use Rattle.table_rule.specs.Shows.{Devices, RuleHolds}
-use Rattle.frame_table.specs.Seats.{Looked}
+use Rattle.frame_table.specs.Seats.{Looked, Touches}
 use Rattle.frame_table.specs.FrameSteps.{Did, SaysOf, Tried, part_place, has_locked, always, if_found, tells}
 use Rattle.frame_table.specs.Content.{CanAwait, CanBeginIo, CanClearJust, CanFinishIo, CanNeed, CanWake, begun_link, dirtied_link, start_of}
 use Rattle.frame_table.proofs.Frames.{Asks}
 use Rattle.frame_table.proofs.Acting.{acts}
 use Rattle.frame_table.proofs.Words.{AsksWord, at_word, swaps}
-use Rattle.frame_table.proofs.Told.{looks_link, link_is, looked_by, quiet}
+use Rattle.frame_table.proofs.Told.{looks_link, link_is, looked_by, quiet, touches}
 
 -- where a view holds the header, the state word is the word that it holds
 pub word_held : (s : State) (id f word : ℕ) (v : View) → Laws s → get_elem? s.pool.core.views id ≡ some v → f < s.pool.core.frames → (link v f).header ≡ Some (fields word) → (s.pool.core.frame f).word ≡ fields word
@@ -159,6 +159,13 @@ module _ {L G : Type 0} (d : Devices L G) (o : Opening L G) where
 pub begun_after : (input : Bool) (f found : ℕ) (v w : View) → Did (pages (start_of input)) f v w found → link w f ≡ begun_link input (link v f)
 begun_after true f found v w d = link_is (pages paged.start_input) f found v w d
 begun_after false f found v w d = link_is (pages paged.start_output) f found v w d
+
+pub begun_touches : (input : Bool) (f found : ℕ) (v w : View)
+    → Did (pages (start_of input)) f v w found → Touches f v w
+begun_touches true f found v w d =
+    touches (pages paged.start_input) (λ s g x. refl) f found v w d
+begun_touches false f found v w d =
+    touches (pages paged.start_output) (λ s g x. refl) f found v w d
 
 dirtied_looked : (l m : Link) → Looked l m → Looked (dirtied_link l) (dirtied_link m)
 dirtied_looked l m a = looked_by (dirtied_link l) (dirtied_link m) (ap dirtied_link (quiet l m a)) a.seen_valid a.waits a.visited a.left_to_write

@@ -44,12 +44,12 @@ use Rattle.frame_table.proofs.Listed.{listed_there}
 use Rattle.pin_core.specs.Kinds.{assigned_role}
 use Rattle.frame_table.specs.Kinds.{FrameKind, pins, part_of, link_after}
 use Rattle.table_rule.specs.Shows.{ShowsFrame, Devices, Shows, RuleHolds}
-use Rattle.frame_table.specs.Seats.{Finds, cleared_stored, mapped_link, ListsOnly, SameSelf, Looked, Touches, Stores, HoldsWord, HasRoom, IsUsed, HasFlag, HasOnlyPin, MayChange, Lacks, NamesIn, NamesStored, MayStoreTag, CanErase, CanStoreAs, partitions_erased, partitions_stored, stored_link, assigned_link, tag_word, read_link}
+use Rattle.frame_table.specs.Seats.{Finds, cleared_stored, mapped_link, ListsOnly, SameSelf, self_of, Looked, Touches, Stores, HoldsWord, HasRoom, IsUsed, HasFlag, HasOnlyPin, MayChange, Lacks, NamesIn, NamesStored, MayStoreTag, CanErase, CanStoreAs, partitions_erased, partitions_stored, stored_link, assigned_link, tag_word, read_link}
 use Rattle.frame_table.specs.FrameSteps.{Tried, if_found, Did, always, looking, storing, tells}
 use Rattle.frame_table.proofs.Frames.{Asks}
 use Rattle.frame_table.proofs.Acting.{acts}
 use Rattle.frame_table.proofs.Words.{swaps, AsksWord, held_word, stores}
-use Rattle.frame_table.proofs.Told.{looks_link, self_after, grows, lists_after, links_after, link_is, looked_by, quiet}
+use Rattle.frame_table.proofs.Told.{looks_link, noted_of, self_after, grows, lists_after, links_after, link_is, looked_by, quiet}
 
 -- one more pin, the usage count as it was
 pub pin_added : (w : ℕ) → (fields w).pins + 1 < 262144 → fields (w + 1) ≡ record (fields w) { pins = (fields w).pins + 1 }
@@ -244,9 +244,19 @@ pub assigned_tag : (f word : ℕ) (v w : View) → Did (pins pin.assign) f v w w
 assigned_tag f word v w d p tag enters unchanged = ap (λ (l : Link). l.tag) (link_is (pins pin.assign) f word v w d) ∙ ap (λ (t : ℕ). Some t) (entering_there d.state d.seat f p tag v d.laws d.there d.live d.inside enters unchanged)
 
 -- after a store of a tag word
+stored_unentered : (tag : Option Tag) (f now : ℕ) (v w : View) → Did (storing tag) f v w now
+    → w.unentered ≡ v.unentered
+stored_unentered None f now v w d = ap (λ (x : View). x.unentered) d.after
+stored_unentered (Some tag) f now v w d = ap (λ (x : View). x.unentered) d.after
+
 pub stored_self : (tag : Option Tag) (f now : ℕ) (v w : View) → Did (storing tag) f v w now → Stores f v w
 stored_self tag f now v w d = record {
-  self = subst (λ (x : View). SameSelf (record v { cleared = x.cleared }) x) (sym d.after) (self_after (storing tag) d.state f v);
+  self = subst (λ (x : View). SameSelf (noted_of x v) x) (sym d.after)
+      (self_after (storing tag) d.state f v)
+      ∙ (λ i. record (self_of v) {
+        cleared = w.cleared;
+        unentered = stored_unentered tag f now v w d i;
+      });
   grows = grows (storing tag) f now v w d;
   lists = subst (ListsOnly f v) (sym d.after) (lists_after (storing tag) d.state f v);
   others = λ g n. ap (λ (x : View). link x g) d.after ∙ ap (λ (l : List Link). get_or l g idle) (links_after (storing tag) d.state f v) ∙ get_or-set_other v.links f g (link_after (storing tag) d.state f v) idle n;

@@ -9,6 +9,7 @@ use Rattle.std.proofs.lemmas.Option.{same_Some}
 use Rattle.std.proofs.Math.Bool.{or-false}
 use mathlib.Core.Logic.{dite}
 use mathlib.Core.Option.{none, some, some-injective}
+use mathlib.Core.Option as slot
 use native.Mathlib.Decide.{ℕ_discrete, dec_lt}
 use lib.ListN.{get_elem?}
 use lib.Seq.{set-get_or}
@@ -47,13 +48,13 @@ use Rattle.table_rule.specs.declared.noted_lane.LaneCall.TheVariants.{Untouched,
 use Rattle.table_rule.specs.declared.turn.Place.TheVariants as place
 use Rattle.table_rule.specs.declared.turn.Turn.TheVariants as turn
 use Rattle.table_rule.specs.Layout.{latch_place, slot_of, tag_lane, lane_of_tag}
-use Rattle.table_rule.specs.Shows.{IsHome, Devices, GivesLane, IsLane, KeepsOpening, HasValue, RuleHolds}
+use Rattle.table_rule.specs.Shows.{IsHome, Devices, GivesLane, IsLane, KeepsOpening, HasValue, RuleHolds, contents_in, contents_at, lane_opened}
 use Rattle.table_rule.specs.LaneCalls.{LaneDevices, LaneDid, NotesRead, NotesWritten, NotesWriteFailed}
 use Rattle.table_rule.specs.TakenLanes.{IsBlockOf, taken_lane, page_held, lane_devices_of}
 use Rattle.table_rule.proofs.Tags.{packed_is}
 use Rattle.table_rule.proofs.LanesOut.{block_number, holds_blocks, can_go_out, still_is, marks_kept, marks_added, marks_gone, kept_lane, took_page, tore_page}
 use Rattle.table_rule.proofs.Opens.{there_at}
-use Rattle.frame_table.specs.LaneWork.{DidSteps, out_events, out_lane, out_view, back_events, back_view, MayNote, MayNoteRead, MayNoteWrite, was_known, is_known_in, IsTakenLane, MayReturn, NotesAt, IsNoted, back_lane, swept_lane, links_of, lane_read_link, written_link, unwritten_link, lane_went, came_by, WentOut, taken_at}
+use Rattle.frame_table.specs.LaneWork.{DidSteps, out_events, out_lane, out_view, back_events, back_view, MayNote, MayNoteRead, MayNoteWrite, IsTakenLane, MayReturn, NotesAt, IsNoted, back_lane, swept_lane, links_of, lane_read_link, written_link, unwritten_link, lane_went, came_by, WentOut, taken_at}
 use Rattle.frame_table.specs.declared.table.FrameTable.{FrameTable}
 use Rattle.frame_table.specs.Seats.{frames_of, relations_of, lanes_in, opened_of}
 use Rattle.frame_table.proofs.Moving.{Moves, shows_out, shows_back}
@@ -74,9 +75,9 @@ right_in_view v f io is busy = dite (dec_lt f (length v.links)) (λ low. low) (�
 
 module _ {L G : Type 0} (d : Devices L G) (o : Opening L G) where
   -- whether the contents of a lane are known
-  known_of : (s : State) (q : ℕ) → KeepsOpening d o s → Laws s → length o.lanes.value.items ≡ o.config.lanes → q < o.config.lanes → (s.lane q).known ≡ was_known (lane_devices_of d) o.lanes.value.items q
+  known_of : (s : State) (q : ℕ) → KeepsOpening d o s → Laws s → length o.lanes.value.items ≡ o.config.lanes → q < o.config.lanes → (s.lane q).known ≡ is_some (lane_opened d o q)
   known_of s q h laws counted low = let word = lane_word o.config.lanes q low h.few_lanes in let l = there_at o.lanes.value.items q (omega arith) in let of_word = ap (λ (g : ℕ → ℕ). g word.0) h.lane_of ∙ word.1 in
-      ap (λ (r : ℕ). (s.lane r).known) (sym of_word) ∙ laws.invariant.known word.0 ∙ h.known q l.0 word.0 l.1 word.1 ∙ sym (ap (is_known_in (lane_devices_of d)) l.1)
+      ap (λ (r : ℕ). (s.lane r).known) (sym of_word) ∙ laws.invariant.known word.0 ∙ h.known q l.0 word.0 l.1 word.1 ∙ sym (ap (λ (x : slot.Option L). is_some (contents_in d.contents x)) l.1)
 
   -- no other view has a lane out, where one holds its latch
   lane_home : (s : State) (id q : ℕ) (v : View) → Laws s → get_elem? s.pool.core.views id ≡ some v → q < s.lanes → (lane_hold v q).held ≡ true → (i : ℕ) (u : View) → i ≢ id → get_elem? s.pool.core.views i ≡ some u → (lane_hold u q).out ≡ None
@@ -105,7 +106,7 @@ module _ {L G : Type 0} (d : Devices L G) (o : Opening L G) where
           none_more n = omega arith
 
   pub goes_out : (slots id q : ℕ) (me : Me (Value L G) View) → length o.lanes.value.items ≡ o.config.lanes → q < o.config.lanes → me.0.emptied ≡ false → (lane_hold me.0 q).held ≡ true → (lane_hold me.0 q).out ≡ None
-      → Allows (RuleHolds d o) slots id me (latch_place o.config.frames (turn.Lane q)) (λ n. n) (lane_went (lane_devices_of d) (was_known (lane_devices_of d) o.lanes.value.items q) o.catalog.value o.config.lanes o.config.frames q (slot_of o.config.frames (place.Of (turn.Lane q))) (step slots (latch_place o.config.frames (turn.Lane q)) 0 0 none) me)
+      → Allows (RuleHolds d o) slots id me (latch_place o.config.frames (turn.Lane q)) (λ n. n) (lane_went (lane_devices_of d) (lane_opened d o q) o.catalog.value o.config.lanes o.config.frames q (slot_of o.config.frames (place.Of (turn.Lane q))) (step slots (latch_place o.config.frames (turn.Lane q)) 0 0 none) me)
   goes_out slots id q me counted below live held out t h deep there small = of_value value_there.value value_there.home value_there.gives
     where
       here : get_elem? h.state.pool.core.views id ≡ some me.0
@@ -128,9 +129,9 @@ module _ {L G : Type 0} (d : Devices L G) (o : Opening L G) where
       unnoted : (lane_hold me.0 q).change ≡ lane_change.Untouched
       unnoted = (h.laws.invariant.lanes.cells id me.0 q here low).hold.home out
 
-      of_value : (y : Value L G) → get_elem? t.homes (slot_of o.config.frames (place.Of (turn.Lane q))) ≡ some (some y) → GivesLane d o.catalog.value h.state.lanes q y (h.state.lane q)
+      of_value : (y : Value L G) → get_elem? t.homes (slot_of o.config.frames (place.Of (turn.Lane q))) ≡ some (some y) → GivesLane d o.catalog.value h.state.lanes q (lane_opened d o q) y (h.state.lane q)
           → (w : View) × (a : table.Act (Value L G)) × table.Valid t.homes me.1 a × RuleHolds d o (stepped t (latch_place o.config.frames (turn.Lane q)) (get_or t.words (latch_place o.config.frames (turn.Lane q)) 0) id me.1 w a)
-          × lane_went (lane_devices_of d) (was_known (lane_devices_of d) o.lanes.value.items q) o.catalog.value o.config.lanes o.config.frames q (slot_of o.config.frames (place.Of (turn.Lane q))) (step slots (latch_place o.config.frames (turn.Lane q)) 0 0 none) me (get_or t.words (latch_place o.config.frames (turn.Lane q)) 0) (w, table.carried_after me.1 a)
+          × lane_went (lane_devices_of d) (lane_opened d o q) o.catalog.value o.config.lanes o.config.frames q (slot_of o.config.frames (place.Of (turn.Lane q))) (step slots (latch_place o.config.frames (turn.Lane q)) 0 0 none) me (get_or t.words (latch_place o.config.frames (turn.Lane q)) 0) (w, table.carried_after me.1 a)
       of_value (value.Lane l) home gives_it = (
         out_view q taken me.0,
         takes (slot_of o.config.frames (place.Of (turn.Lane q))) (value.Lane l),
@@ -145,7 +146,7 @@ module _ {L G : Type 0} (d : Devices L G) (o : Opening L G) where
           refl,
           gives_it.1,
           gives_it.2,
-          record { holds = holds_blocks d o.catalog.value o.config.lanes q l.device (h.state.lane q) is_lane; known_still = sym is_lane.known ∙ known_of h.state q h.shows.fixed h.laws counted below },
+          record { holds = holds_blocks d o.catalog.value o.config.lanes q (lane_opened d o q) l.device (h.state.lane q) is_lane; known_still = sym is_lane.known ∙ known_of h.state q h.shows.fixed h.laws counted below; others = is_lane.others },
           refl,
           record { state = h.state; laws = h.laws; next = comes.next; seat = id; there = here; live = live; run = comes.run; after = ap (λ (x : List View). get_elem? x id) moves.views ∙ set_here h.state.pool.core.views id me.0 (out_view q taken me.0) here },
           ((h.laws.invariant.pool.core.views.wide id me.0 here live).0 ∙ h.shows.fixed.frames, h.laws.invariant.wide id me.0 here live ∙ h.shows.fixed.lanes),
@@ -155,14 +156,14 @@ module _ {L G : Type 0} (d : Devices L G) (o : Opening L G) where
           at : ℕ
           at = latch_place o.config.frames (turn.Lane q)
 
-          is_lane : IsLane d o.catalog.value o.config.lanes q l.device (h.state.lane q)
-          is_lane = subst (λ (n : ℕ). IsLane d o.catalog.value n q l.device (h.state.lane q)) h.shows.fixed.lanes gives_it.0
+          is_lane : IsLane d o.catalog.value o.config.lanes q (lane_opened d o q) l.device (h.state.lane q)
+          is_lane = subst (λ (n : ℕ). IsLane d o.catalog.value n q (lane_opened d o q) l.device (h.state.lane q)) h.shows.fixed.lanes gives_it.0
 
           taken : TakenLane
           taken = taken_lane (lane_devices_of d) o.catalog.value o.config.lanes q l.device
 
           comes : LaneComes d o h.state id q me.0 (out_events q taken id) (alone_view (lane_out taken) q me.0) (h.state.lane q)
-          comes = one_step d o (lane_out taken) h.state id q me.0 stands (can_go_out d o.catalog.value o.config.lanes q l.device (h.state.lane q) (lane_hold me.0 q) is_lane held out) tt (record { taken = refl; reads = refl; writes = refl })
+          comes = one_step d o (lane_out taken) h.state id q me.0 stands (can_go_out d o.catalog.value o.config.lanes q (lane_opened d o q) l.device (h.state.lane q) (lane_hold me.0 q) is_lane held out) tt (record { taken = refl; reads = refl; writes = refl })
 
           moves : Moves d o h.state comes.next id me.0 (out_view q taken me.0) (place.Of (turn.Lane q))
           moves = subst (λ (w : View). Moves d o h.state comes.next id me.0 w (place.Of (turn.Lane q))) (out_view_is q taken me.0 held unnoted) comes.moves
@@ -179,7 +180,7 @@ module _ {L G : Type 0} (d : Devices L G) (o : Opening L G) where
   record LaneReturns (s : State) (id q : ℕ) (v : View) (events : List Event) (w : View) (l : L) : Type 0 where
     lane : Lane
     comes : LaneComes d o s id q v events w lane
-    is : IsLane d o.catalog.value o.config.lanes q l lane
+    is : IsLane d o.catalog.value o.config.lanes q (lane_opened d o q) l lane
 
   returns_as : (s : State) (id q : ℕ) (v : View) (events : List Event) (w w' : View) (l : L) → w ≡ w' → LaneReturns s id q v events w l → LaneReturns s id q v events w' l
   returns_as s id q v events w w' l e r = subst (λ (x : View). LaneReturns s id q v events x l) e r
@@ -188,7 +189,7 @@ module _ {L G : Type 0} (d : Devices L G) (o : Opening L G) where
   number_placed : (s : State) (q : ℕ) (tag : Tag) → KeepsOpening d o s → IsBlockOf o.catalog.value o.config.lanes q tag → s.lane_of (packed_tag tag) ≡ q
   number_placed s q tag h b = ap (λ (g : ℕ → ℕ). g (packed_tag tag)) h.lane_of ∙ ap (lane_of_tag o.config.lanes) (packed_is tag b.named) ∙ b.placed
 
-  module _ (s : State) (id q : ℕ) (v : View) (h : StandsWithLane d o s id q v) (counted : length o.lanes.value.items ≡ o.config.lanes) (below : q < o.config.lanes) (l : NotedLane L) (m : MayReturn (lane_devices_of d) (was_known (lane_devices_of d) o.lanes.value.items q) o.catalog.value o.config.lanes q v l)
+  module _ (s : State) (id q : ℕ) (v : View) (h : StandsWithLane d o s id q v) (counted : length o.lanes.value.items ≡ o.config.lanes) (below : q < o.config.lanes) (l : NotedLane L) (m : MayReturn (lane_devices_of d) (lane_opened d o q) o.catalog.value o.config.lanes q v l)
       (reads_fit : (x : L) → d.read_faults x < 2 ^ 64) (writes_fit : (x : L) → d.write_faults x < 2 ^ 64) where
     abbrev ln : Lane
     ln = s.lane q
@@ -215,8 +216,8 @@ module _ {L G : Type 0} (d : Devices L G) (o : Opening L G) where
     writes_same = (cell.counts (taken_lane (lane_devices_of d) o.catalog.value o.config.lanes q m.before) m.out).writes (ap is_failed_write m.once)
 
     -- the lane is what it was as it went out
-    was : IsLane d o.catalog.value o.config.lanes q m.before ln
-    was = still_is d o.catalog.value o.config.lanes q m.before ln m.taken.holds (known_of s q h.opened h.laws counted below ∙ sym m.taken.known_still) reads_same writes_same (λ blocks k b told at. cell.blocks (taken_lane (lane_devices_of d) o.catalog.value o.config.lanes q m.before) blocks k b m.out m.once told at) (λ k b at. cell.marks (taken_lane (lane_devices_of d) o.catalog.value o.config.lanes q m.before) k b m.out m.once at)
+    was : IsLane d o.catalog.value o.config.lanes q (lane_opened d o q) m.before ln
+    was = still_is d o.catalog.value o.config.lanes q (lane_opened d o q) m.before ln m.taken.holds (known_of s q h.opened h.laws counted below ∙ sym m.taken.known_still) reads_same writes_same (λ blocks k b told at. cell.blocks (taken_lane (lane_devices_of d) o.catalog.value o.config.lanes q m.before) blocks k b m.out m.once told at) (λ k b at. cell.marks (taken_lane (lane_devices_of d) o.catalog.value o.config.lanes q m.before) k b m.out m.once at) m.taken.others
 
     in_view : q < length v.lanes
     in_view = let wide = h.laws.invariant.wide id v h.there h.live in let low = h.below in omega arith
@@ -296,7 +297,7 @@ module _ {L G : Type 0} (d : Devices L G) (o : Opening L G) where
         lane = lane_after k ln;
         comes = writes_noted d o k false s id q f v h write_frames can_call (refl, can_write p refl write_page) (record { taken = refl; reads = refl; writes = refl }) (quiet (lane_after k ln) (lane_change.Written f word p) refl refl refl) true
             (p, record { was_written = now_change k (lane_change.Written f word p) refl ∙ ap (λ (n : ℕ). lane_change.Written f n p) (sym (now_tag k)); lane = now_lane k; page = now_page k; right = record { right = now_right k } });
-        is = took_page d o.catalog.value o.config.lanes q m.before after ln (lane_after k ln) was refl (reads_same ∙ sym did.1.reads) (writes_same ∙ sym did.1.writes) (marks_added d o.catalog.value o.config.lanes q m.before after ln (lane_after k ln) was tag block did.2 refl) tag p block did.0 refl refl;
+        is = took_page d o.catalog.value o.config.lanes q (lane_opened d o q) m.before after ln (lane_after k ln) was refl (reads_same ∙ sym did.1.reads) (writes_same ∙ sym did.1.writes) (marks_added d o.catalog.value o.config.lanes q (lane_opened d o q) m.before after ln (lane_after k ln) was tag block did.2 refl) tag p block did.0 refl refl;
       }
 
       write_failed : LaneDid (lane_devices_of d) m.before after (WriteFailed f tag page) → LaneReturns s id q v (back_events (lane_devices_of d) q after (WriteFailed f tag page) id) (back_view (lane_devices_of d) q after (WriteFailed f tag page) v) after
@@ -304,7 +305,7 @@ module _ {L G : Type 0} (d : Devices L G) (o : Opening L G) where
         lane = lane_after k ln;
         comes = writes_noted d o k true s id q f v h write_frames (record { call = can_call; rises = write_rises did.1.writes }) (refl, can_write (s.pool.core.frame f).page write_page refl) (record { taken = refl; reads = refl; writes = refl }) (faulty (lane_after k ln) (lane_change.WriteFailed f word) refl) false
             (record { failed = now_change k (lane_change.WriteFailed f word) refl ∙ ap (λ (n : ℕ). lane_change.WriteFailed f n) (sym (now_tag k)); lane = now_lane k; right = record { right = now_right k } });
-        is = tore_page d o.catalog.value o.config.lanes q m.before after ln (lane_after k ln) was refl (reads_same ∙ sym did.1.reads) refl (marks_added d o.catalog.value o.config.lanes q m.before after ln (lane_after k ln) was tag block did.2 refl) tag p block did.0 refl refl;
+        is = tore_page d o.catalog.value o.config.lanes q (lane_opened d o q) m.before after ln (lane_after k ln) was refl (reads_same ∙ sym did.1.reads) refl (marks_added d o.catalog.value o.config.lanes q (lane_opened d o q) m.before after ln (lane_after k ln) was tag block did.2 refl) tag p block did.0 refl refl;
       }
 
     -- The steps of each call
@@ -312,35 +313,35 @@ module _ {L G : Type 0} (d : Devices L G) (o : Opening L G) where
     returns Untouched did may = record {
       lane = ln;
       comes = one_step d o (lane_back false) s id q v h (quiet ln hold.change (ap is_failed_write m.once) refl refl) (subst (λ (c : LaneChange). steps.NoWrite c) (sym m.once) tt) (record { taken = refl; reads = refl; writes = refl });
-      is = subst (λ (x : L). IsLane d o.catalog.value o.config.lanes q x ln) (sym did) was;
+      is = subst (λ (x : L). IsLane d o.catalog.value o.config.lanes q (lane_opened d o q) x ln) (sym did) was;
     }
     returns (Read f tag page) did may = let word : ℕ = packed_tag tag in let inside = in_frames f (right_in_view v f Input may.1.right (λ e. absurd (cc))) in
         returns_as s id q v _ _ _ after (view_read word page.value s id q f v in_view) record {
           lane = ln;
           comes = reads_noted d o word page.value s id q f v h inside (record { call = can_call; given = gave_stored tag page.value may.0 did.2 }) (number_placed s q tag h.opened may.0) (quiet ln (lane_change.Read word page.value) refl refl refl) (tag_there f word inside may.1.remembered) may.1.right may.1.fresh;
-          is = kept_lane d o.catalog.value o.config.lanes q m.before after ln ln was refl (reads_same ∙ sym did.1.reads) (writes_same ∙ sym did.1.writes) (marks_kept d o.catalog.value o.config.lanes q m.before after ln ln was did.3 refl) did.0 refl refl;
+          is = kept_lane d o.catalog.value o.config.lanes q (lane_opened d o q) m.before after ln ln was refl (reads_same ∙ sym did.1.reads) (writes_same ∙ sym did.1.writes) (marks_kept d o.catalog.value o.config.lanes q (lane_opened d o q) m.before after ln ln was did.3 refl) did.0 refl refl;
         }
     returns (ReadFailed tag) did may = let word : ℕ = packed_tag tag in let k : LaneKind = fail_read word (d.read_faults after) in
         returns_as s id q v _ _ _ after (view_alone k (lane_hold v q) (lane_change.ReadFailed word) true q v in_view refl refl) record {
           lane = lane_after k ln;
           comes = calls_alone d o k true s id q v h (record { call = can_call; rises = read_rises did.1.reads }) (number_placed s q tag h.opened may) (record { taken = refl; reads = refl; writes = refl }) (faulty (lane_after k ln) (lane_change.ReadFailed word) refl) tt;
-          is = kept_lane d o.catalog.value o.config.lanes q m.before after ln (lane_after k ln) was refl refl (writes_same ∙ sym did.1.writes) (marks_kept d o.catalog.value o.config.lanes q m.before after ln (lane_after k ln) was did.2 refl) did.0 refl refl;
+          is = kept_lane d o.catalog.value o.config.lanes q (lane_opened d o q) m.before after ln (lane_after k ln) was refl refl (writes_same ∙ sym did.1.writes) (marks_kept d o.catalog.value o.config.lanes q (lane_opened d o q) m.before after ln (lane_after k ln) was did.2 refl) did.0 refl refl;
         }
     returns (Written f tag page) did may = wrote f tag page may.0 may.1 did
     returns (WriteFailed f tag page) did may = write_failed f tag page may.0 may.1 did
     returns Synced did may = returns_as s id q v _ _ _ after (view_alone sync_lane (record (lane_hold v q) { swept = max (lane_hold v q).swept (swept_by v) }) lane_change.Synced false q v in_view refl refl) record {
       lane = lane_after sync_lane ln;
       comes = calls_alone d o sync_lane false s id q v h can_call tt (record { taken = refl; reads = refl; writes = refl }) (let x = quiet (lane_after sync_lane ln) lane_change.Synced refl refl refl in record { out = x.out; counts = x.counts }) tt;
-      is = kept_lane d o.catalog.value o.config.lanes q m.before after ln (lane_after sync_lane ln) was refl (reads_same ∙ sym did.1.reads) (writes_same ∙ sym did.1.writes) (marks_gone d o.catalog.value o.config.lanes q m.before after ln (lane_after sync_lane ln) was did.2 refl) did.0 refl refl;
+      is = kept_lane d o.catalog.value o.config.lanes q (lane_opened d o q) m.before after ln (lane_after sync_lane ln) was refl (reads_same ∙ sym did.1.reads) (writes_same ∙ sym did.1.writes) (marks_gone d o.catalog.value o.config.lanes q (lane_opened d o q) m.before after ln (lane_after sync_lane ln) was did.2 refl) did.0 refl refl;
     }
     returns SyncFailed did may = let k : LaneKind = fail_sync (d.write_faults after) in returns_as s id q v _ _ _ after (view_alone k (lane_hold v q) lane_change.SyncFailed true q v in_view refl refl) record {
       lane = lane_after k ln;
       comes = calls_alone d o k true s id q v h (record { call = can_call; rises = write_rises did.1.writes }) tt (record { taken = refl; reads = refl; writes = refl }) (faulty (lane_after k ln) lane_change.SyncFailed refl) tt;
-      is = kept_lane d o.catalog.value o.config.lanes q m.before after ln (lane_after k ln) was refl (reads_same ∙ sym did.1.reads) refl (marks_kept d o.catalog.value o.config.lanes q m.before after ln (lane_after k ln) was did.2 refl) did.0 refl refl;
+      is = kept_lane d o.catalog.value o.config.lanes q (lane_opened d o q) m.before after ln (lane_after k ln) was refl (reads_same ∙ sym did.1.reads) refl (marks_kept d o.catalog.value o.config.lanes q (lane_opened d o q) m.before after ln (lane_after k ln) was did.2 refl) did.0 refl refl;
     }
 
   -- the lane comes back as r: the device l after its call, without the note
-  comes_home : (slots id q : ℕ) (v : View) (c : List (ℕ × Value L G)) (l r : NotedLane L) → length o.lanes.value.items ≡ o.config.lanes → q < o.config.lanes → v.emptied ≡ false → r.number ≡ l.number → r.device ≡ l.device → r.call ≡ Untouched → MayReturn (lane_devices_of d) (was_known (lane_devices_of d) o.lanes.value.items q) o.catalog.value o.config.lanes q v l
+  comes_home : (slots id q : ℕ) (v : View) (c : List (ℕ × Value L G)) (l r : NotedLane L) → length o.lanes.value.items ≡ o.config.lanes → q < o.config.lanes → v.emptied ≡ false → r.number ≡ l.number → r.device ≡ l.device → r.call ≡ Untouched → MayReturn (lane_devices_of d) (lane_opened d o q) o.catalog.value o.config.lanes q v l
       → ((x : L) → d.read_faults x < 2 ^ 64) → ((x : L) → d.write_faults x < 2 ^ 64)
       → Allows (RuleHolds d o) slots id (v, (slot_of o.config.frames (place.Of (turn.Lane q)), value.Lane r) ∷ c) (latch_place o.config.frames (turn.Lane q)) (λ n. n) (came_by (back_events (lane_devices_of d) q l.device l.call) (back_view (lane_devices_of d) q l.device l.call) (step slots (latch_place o.config.frames (turn.Lane q)) 0 0 none) (v, (slot_of o.config.frames (place.Of (turn.Lane q)), value.Lane r) ∷ c))
   comes_home slots id q v c l r counted below live numbered same untouched m reads_fit writes_fit t h deep there small = let s : State = h.state in let at : ℕ = latch_place o.config.frames (turn.Lane q) in let w : View = back_view (lane_devices_of d) q l.device l.call v in
@@ -348,7 +349,7 @@ module _ {L G : Type 0} (d : Devices L G) (o : Opening L G) where
       let stands : StandsWithLane d o s id q v = record { opened = h.shows.fixed; laws = h.laws; there = here; live = live; below = (let e = h.shows.fixed.lanes in omega arith) } in
       let ret : LaneReturns s id q v (back_events (lane_devices_of d) q l.device l.call id) w l.device = returns s id q v stands counted below l m reads_fit writes_fit l.call m.did m.may in
       let moves : Moves d o s ret.comes.next id v w (place.Of (turn.Lane q)) = ret.comes.moves in
-      let is : IsLane d o.catalog.value ret.comes.next.lanes q r.device (ret.comes.next.lane q) = subst (λ (n : ℕ). IsLane d o.catalog.value n q r.device (ret.comes.next.lane q)) (sym moves.fixed.lanes) (subst (λ (x : L). IsLane d o.catalog.value o.config.lanes q x (ret.comes.next.lane q)) (sym same) (subst (IsLane d o.catalog.value o.config.lanes q l.device) (sym ret.comes.lane) ret.is)) in (
+      let is : IsLane d o.catalog.value ret.comes.next.lanes q (lane_opened d o q) r.device (ret.comes.next.lane q) = subst (λ (n : ℕ). IsLane d o.catalog.value n q (lane_opened d o q) r.device (ret.comes.next.lane q)) (sym moves.fixed.lanes) (subst (λ (x : L). IsLane d o.catalog.value o.config.lanes q (lane_opened d o q) x (ret.comes.next.lane q)) (sym same) (subst (IsLane d o.catalog.value o.config.lanes q (lane_opened d o q) l.device) (sym ret.comes.lane) ret.is)) in (
         w,
         gives,
         tt,
@@ -362,7 +363,7 @@ module _ {L G : Type 0} (d : Devices L G) (o : Opening L G) where
 
   -- the seat is as the exchange of the slot left it
   pub comes_back : (slots id q : ℕ) (me me' : Me (Value L G) View) (l r : NotedLane L) → me' ≡ (me.0, (slot_of o.config.frames (place.Of (turn.Lane q)), value.Lane r) ∷ rest me.1) → length o.lanes.value.items ≡ o.config.lanes → q < o.config.lanes → me.0.emptied ≡ false → r.number ≡ l.number → r.device ≡ l.device → r.call ≡ Untouched
-      → MayReturn (lane_devices_of d) (was_known (lane_devices_of d) o.lanes.value.items q) o.catalog.value o.config.lanes q me.0 l → ((x : L) → d.read_faults x < 2 ^ 64) → ((x : L) → d.write_faults x < 2 ^ 64)
+      → MayReturn (lane_devices_of d) (lane_opened d o q) o.catalog.value o.config.lanes q me.0 l → ((x : L) → d.read_faults x < 2 ^ 64) → ((x : L) → d.write_faults x < 2 ^ 64)
       → Allows (RuleHolds d o) slots id me' (latch_place o.config.frames (turn.Lane q)) (λ n. n) (came_by (back_events (lane_devices_of d) q l.device l.call) (back_view (lane_devices_of d) q l.device l.call) (step slots (latch_place o.config.frames (turn.Lane q)) 0 0 none) me')
   comes_back slots id q me me' l r e counted below live numbered same untouched m reads_fit writes_fit = let at : ℕ = latch_place o.config.frames (turn.Lane q) in
       subst (λ (x : Me (Value L G) View). Allows (RuleHolds d o) slots id x at (λ n. n) (came_by (back_events (lane_devices_of d) q l.device l.call) (back_view (lane_devices_of d) q l.device l.call) (step slots at 0 0 none) x)) (sym e) (comes_home slots id q me.0 (rest me.1) l r counted below live numbered same untouched m reads_fit writes_fit)
@@ -407,7 +408,7 @@ first_value y (x ∷ xs) = x.1
 
 -- what the call gives is the lane that went out
 pub went_out : {L G : Type 0} (d : LaneDevices L) (t : FrameTable L G) (q slot : ℕ) (m m' m'' : Me (Value L G) View) (z : Value L G)
-    → lane_went d (was_known d (opened_of t) q) (relations_of t) (lanes_in t) (frames_of t) q slot (step 0 0 0 0 none) m 0 m' → m'.1 ≡ (slot, z) ∷ rest m'.1 → m''.0 ≡ m'.0 → WentOut d t q z m.0 m''.0
+    → lane_went d (contents_at d.contents (opened_of t) q) (relations_of t) (lanes_in t) (frames_of t) q slot (step 0 0 0 0 none) m 0 m' → m'.1 ≡ (slot, z) ∷ rest m'.1 → m''.0 ≡ m'.0 → WentOut d t q z m.0 m''.0
 went_out d t q slot m m' m'' z (l, hand, untouched, number, taken, view, did, wide) e same = record {
   lane = l;
   is = ap (first_value z) (sym e ∙ hand);
@@ -450,6 +451,6 @@ module _ (relations : List RelEntry) (lanes q f : ℕ) (tag : Tag) (page : Page)
   write_may (Err x) Synced can wrong = absurd wrong
   write_may (Err x) SyncFailed can wrong = absurd wrong
 
-pub may_return : {L : Type 0} (d : LaneDevices L) (known : Bool) (relations : List RelEntry) (lanes q flushed : ℕ) (h : LaneHold) (v : View) (before : L) (l : NotedLane L) → l.number ≡ q → lane_hold v q ≡ out_lane (taken_lane d relations lanes q before) flushed h → IsTakenLane d known relations lanes q before → LaneDid d before l.device l.call → MayNote relations lanes q l.call v
-    → MayReturn d known relations lanes q v l
-may_return d known relations lanes q flushed h v before l number hold taken did may = record { number = number; before = before; out = ap (λ (h : LaneHold). h.out) hold; once = ap (λ (h : LaneHold). h.change) hold; taken = taken; did = did; may = may }
+pub may_return : {L : Type 0} (d : LaneDevices L) (opened : Option Pages) (relations : List RelEntry) (lanes q flushed : ℕ) (h : LaneHold) (v : View) (before : L) (l : NotedLane L) → l.number ≡ q → lane_hold v q ≡ out_lane (taken_lane d relations lanes q before) flushed h → IsTakenLane d opened relations lanes q before → LaneDid d before l.device l.call → MayNote relations lanes q l.call v
+    → MayReturn d opened relations lanes q v l
+may_return d opened relations lanes q flushed h v before l number hold taken did may = record { number = number; before = before; out = ap (λ (h : LaneHold). h.out) hold; once = ap (λ (h : LaneHold). h.change) hold; taken = taken; did = did; may = may }

@@ -22,7 +22,7 @@ use Rattle.table_rule.specs.declared.turn.Place.{Place}
 use Rattle.table_rule.specs.declared.turn.Place.TheVariants as place
 use Rattle.table_rule.specs.declared.turn.Turn.{Turn}
 use Rattle.table_rule.specs.declared.turn.Turn.TheVariants as turn
-use Rattle.table_rule.specs.Shows.{is_taken, is_out, Devices, Gives, GivesMap, GivesPage, GivesLane, KeepsOpening}
+use Rattle.table_rule.specs.Shows.{is_taken, is_out, Devices, Gives, GivesMap, GivesPage, GivesLane, KeepsOpening, lane_opened}
 use Rattle.frame_table.proofs.Frames.{put_keeps}
 use Rattle.frame_table.proofs.Moving.{SameWords, words_none, Moves}
 
@@ -78,7 +78,7 @@ module _ {L G : Type 0} (d : Devices L G) (o : Opening L G) where
   lane_values : (s : State) (pool' : page.State) (id q : ℕ) (w : View) (ln : Lane) → LanePool s pool' id w → (x : Place) (z : Value L G) → x ≢ place.Of (turn.Lane q) → Gives d o s x z → Gives d o (laned_state s pool' q ln) x z
   lane_values s pool' id q w ln p (place.Page f) z n h = subst (λ (fr : Frame). GivesPage z fr.page) (sym (p.frames f)) h
   lane_values s pool' id q w ln p (place.Of (turn.Partition r)) z n h = subst (λ (pt : pool.Partition). GivesMap o.config.frames z pt.map) (sym (p.partitions r)) h
-  lane_values s pool' id q w ln p (place.Of (turn.Lane r)) z n h = subst (GivesLane d o.catalog.value s.lanes r z) (sym (put_else s.lane q ln r (λ e. n (ap (λ (k : ℕ). place.Of (turn.Lane k)) e)))) h
+  lane_values s pool' id q w ln p (place.Of (turn.Lane r)) z n h = subst (GivesLane d o.catalog.value s.lanes r (lane_opened d o r) z) (sym (put_else s.lane q ln r (λ e. n (ap (λ (k : ℕ). place.Of (turn.Lane k)) e)))) h
   lane_values s pool' id q w ln p (place.Of turn.Log) z n h = h
 
   -- what was fixed at the opening stays so

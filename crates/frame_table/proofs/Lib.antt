@@ -8,6 +8,7 @@ pub mod HeldWords
 pub mod Seeing
 pub mod Residents
 pub mod Told
+pub mod Unentered
 pub mod Sightings
 pub mod Marks
 pub mod Splitting

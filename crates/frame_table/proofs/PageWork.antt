@@ -5,7 +5,7 @@ use mathlib.Core.Option.{none, some, some-injective}
 use native.Mathlib.Decide.{ℕ_discrete}
 use lib.ListN.{get_elem?}
 use lib.Seq.{set-get_or}
-use Rattle.std.specs.Prelude.{is_some, Option}
+use Rattle.std.specs.Prelude.{is_some, Option, if◌then◌else◌}
 use Rattle.std.proofs.lemmas.Option.{same_Some}
 use Rattle.atomic_table.specs.Table.{Me, step, takes, gives, stepped, Allows, rest}
 use Rattle.atomic_table.specs.Table as table
@@ -38,7 +38,7 @@ use Rattle.frame_table.specs.PageWork.{MayTakePage, MayReturnPage, by_input, ove
 use Rattle.frame_table.proofs.Frames.{fixed_after, taken_same}
 use Rattle.frame_table.specs.Seats.{Touches}
 use Rattle.frame_table.proofs.Kept.{frame_step}
-use Rattle.frame_table.proofs.Told.{link_is, touches, touches_on}
+use Rattle.frame_table.proofs.Told.{link_is, named_of, touches, touches_on}
 use Rattle.frame_table.proofs.Moving.{SameWords, words_none, Moves, moves_on, shows_out, shows_back}
 
 module _ {L G : Type 0} (d : Devices L G) (o : Opening L G) where
@@ -376,7 +376,28 @@ module _ (f found : ℕ) (v w : View) (page : Page) (can : MayReturnPage page (l
       of_flag false is = of_io l.io l.read refl refl is (subst (λ (b : Bool). ReturnsBy (cond b (Some paged.overwrite_logged) (by_input l.io l.read)) f v w found) is d) (sym (ap (λ (b : Bool). cond b l.image (input_page l.io l.read l.out)) is) ∙ can.due)
           ∙ sym (ap (λ (b : Bool). cond b (applied_link page (record l { out = None })) (read_home l.io l.read (record l { out = None; copied = paged.copied_after l.content false page l.copied }))) is)
 
--- nothing else changes
-pub back_touches : (x : Option paged.Kind) (f found : ℕ) (v w : View) → ReturnsBy x f v w found → Touches f v w
-back_touches None f found v w d = touches (pages paged.page_back) (λ s g u. refl) f found v w d
-back_touches (Some k) f found v w (u, d, e) = touches_on f v u w (touches (pages k) (λ s g x. refl) f found v u d) (touches (pages paged.page_back) (λ s g x. refl) f found u w e)
+-- nothing else changes, if the kind that overwrites it changes nothing else
+overwritten_touches : (k : paged.Kind)
+    → ((s : State) (f : ℕ) (v : View) → named_of (view_after (pages k) s f v) ≡ named_of v)
+    → (f found : ℕ) (v w : View) → ReturnsBy (Some k) f v w found → Touches f v w
+overwritten_touches k still f found v w (u, d, e) = touches_on f v u w
+    (touches (pages k) still f found v u d)
+    (touches (pages paged.page_back) (λ s g x. refl) f found u w e)
+
+back_by : (unapplied : Bool) (io : Io) (read : Option Page) (f found : ℕ) (v w : View)
+    → ReturnsBy (if unapplied then Some paged.overwrite_logged else by_input io read) f v w found
+    → Touches f v w
+back_by true io read f found v w r =
+    overwritten_touches paged.overwrite_logged (λ s g x. refl) f found v w r
+back_by false Input (Some p) f found v w r =
+    overwritten_touches (paged.overwrite_read p) (λ s g x. refl) f found v w r
+back_by false Input None f found v w r =
+    touches (pages paged.page_back) (λ s g x. refl) f found v w r
+back_by false Output read f found v w r =
+    touches (pages paged.page_back) (λ s g x. refl) f found v w r
+back_by false Quiet read f found v w r =
+    touches (pages paged.page_back) (λ s g x. refl) f found v w r
+
+pub back_touches : (l : Link) (f found : ℕ) (v w : View) → ReturnsBy (overwriting l) f v w found
+    → Touches f v w
+back_touches l f found v w r = back_by l.unapplied l.io l.read f found v w r

@@ -24,24 +24,32 @@ use Rattle.page_core.specs.Kinds as paged
 use Rattle.history_core.specs.State.{State}
 use Rattle.history_core.proofs.Trail.{Lists, pins_list, pages_list}
 use Rattle.frame_table.specs.Kinds.{FrameKind, pins, pages, part_of, load_kind, block_of_frame, link_after, view_after}
-use Rattle.frame_table.specs.Seats.{AddsOnly, SameSelf, self_of, KeepsResidents, Grows, IsOfNoOther, ListsOnly, Touches, Looked, MayUnpin, loaded_link, pinned_link, unpinned_link, locked_link}
+use Rattle.frame_table.specs.Seats.{AddsOnly, SameSelf, self_of, KeepsResidents, Grows, IsOfNoOther, ListsOnly, Touches, TouchesOrNotes, Looked, MayUnpin, loaded_link, pinned_link, unpinned_link, locked_link}
 use Rattle.frame_table.proofs.Residents.{residents_same, residents_on, residents_pinned, residents_paged}
 use Rattle.frame_table.specs.FrameSteps.{Choice, choice_part, part_place, Did, Looks, still, again, Tried, Unpinned, if_found, if_unlocked, chosen, has_locked, looking}
 
--- What a kind that stores no tag word leaves of a view: its partitions, and how many tags it took from frames
+-- What a kind that stores no tag word, and gives up no exclusive lock, leaves of a view: its
+-- partitions, how many tags it took from frames, and the blocks that it noted as unentered
 pub record Named : Type 0 where
   pub partitions : List PartitionHold
   pub cleared : ℕ
+  pub unentered : List ℕ
 
 abbrev pub named_of : View → Named
-named_of v = record { partitions = v.partitions; cleared = v.cleared }
+named_of v = record { partitions = v.partitions; cleared = v.cleared; unentered = v.unentered }
 
-pub self_after : (k : FrameKind) (s : State) (f : ℕ) (v : View) → SameSelf (record v { cleared = (view_after k s f v).cleared }) (view_after k s f v)
+-- what any kind leaves
+abbrev pub noted_of : View → View → View
+noted_of w v = record v { cleared = w.cleared; unentered = w.unentered }
+
+pub self_after : (k : FrameKind) (s : State) (f : ℕ) (v : View)
+    → SameSelf (noted_of (view_after k s f v) v) (view_after k s f v)
 self_after (pins k) s f v = refl
 self_after (pages k) s f v = refl
 
 self_named : (k : FrameKind) (s : State) (f : ℕ) (v : View) → named_of (view_after k s f v) ≡ named_of v → SameSelf v (view_after k s f v)
-self_named k s f v e = self_after k s f v ∙ ap (λ (n : Named). record (self_of v) { cleared = n.cleared }) e
+self_named k s f v e = self_after k s f v
+    ∙ ap (λ (n : Named). record (self_of v) { cleared = n.cleared; unentered = n.unentered }) e
 
 residents_after : (k : FrameKind) (s : State) (f : ℕ) (v : View) → KeepsResidents v.residents (view_after k s f v).residents
 residents_after (pins k) s f v = residents_pinned k f (s.pool.core.frame f) (link v f) v.residents
@@ -132,6 +140,50 @@ touches k none f found v w d = record {
   lists = subst (ListsOnly f v) (sym d.after) (lists_after k d.state f v);
   partitions = ap (λ (x : View). x.partitions) d.after ∙ ap (λ (n : Named). n.partitions) (none d.state f v);
   others = λ g n. ap (λ (x : View). link x g) d.after ∙ ap (λ (l : List Link). get_or l g idle) (links_after k d.state f v) ∙ get_or-set_other v.links f g (link_after k d.state f v) idle n;
+}
+
+-- so does one that may note the block, but for the note
+pub touches_or_notes : (k : FrameKind)
+    → ((s : State) (f : ℕ) (v : View)
+    → named_of (view_after k s f v)
+    ≡ record (named_of v) { unentered = (view_after k s f v).unentered })
+    → (f found : ℕ) (v w : View) → Did k f v w found → TouchesOrNotes f v w
+touches_or_notes k none f found v w d = record {
+  self = subst (λ (x : View). SameSelf (record v { unentered = x.unentered }) x) (sym d.after)
+      (self_after k d.state f v
+      ∙ ap (λ (n : Named). record (self_of v) { cleared = n.cleared; unentered = n.unentered })
+      (none d.state f v));
+  grows = let g = grows k f found v w d in record {
+    loads = g.loads;
+    changes = g.changes;
+    steps = g.steps;
+    residents = g.residents;
+  };
+  lists = let l = subst (ListsOnly f v) (sym d.after) (lists_after k d.state f v) in record {
+    loads = l.loads;
+    changes = l.changes;
+  };
+  partitions = ap (λ (x : View). x.partitions) d.after
+      ∙ ap (λ (n : Named). n.partitions) (none d.state f v);
+  others = λ g n. ap (λ (x : View). link x g) d.after
+      ∙ ap (λ (l : List Link). get_or l g idle) (links_after k d.state f v)
+      ∙ get_or-set_other v.links f g (link_after k d.state f v) idle n;
+}
+
+-- it touches f alone if it notes none
+pub touches_unnoted : (f : ℕ) (v w : View) → TouchesOrNotes f v w → w.unentered ≡ v.unentered
+    → Touches f v w
+touches_unnoted f v w t same = record {
+  self = t.self ∙ (λ i. record (self_of v) { unentered = same i });
+  grows = record {
+    loads = t.grows.loads;
+    changes = t.grows.changes;
+    steps = t.grows.steps;
+    residents = t.grows.residents;
+  };
+  lists = record { loads = t.lists.loads; changes = t.lists.changes };
+  partitions = t.partitions;
+  others = t.others;
 }
 
 -- what the view has there after it

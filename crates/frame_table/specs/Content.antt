@@ -1,4 +1,5 @@
--- What the calls at content words, and the calls that give a header up with a new word, ask of a view, and what they leave of it.
+-- What the calls at content words, and the calls that give a header up with a new word, ask of a
+-- view, and what they leave of it.
 use Rattle.std.specs.Prelude.{◌≡◌, ◌≢◌, ℕ, Bool, true, false, None, Some}
 use Rattle.state_word.specs.declared.word.IoEnd.{IoEnd}
 use Rattle.state_word.specs.Fields.{fields, bit}
@@ -10,6 +11,7 @@ use Rattle.pin_core.specs.declared.view.LastWrite.TheVariants.{Unwritten}
 use Rattle.page_core.specs.Kinds.{EndsAs}
 use Rattle.page_core.specs.Kinds as paged
 use Rattle.page_core.specs.Kinds.{saw_valid}
+use Rattle.history_core.specs.Unentered.{HoldsUnentered}
 use Rattle.frame_table.specs.Kinds.{FrameKind, pages}
 
 -- the load of the content word
@@ -42,6 +44,11 @@ pub record CanDropExclusive (l : Link) : Type 0 where
   pub applied : l.unapplied ≡ false
   pub page_home : l.out ≡ None
 
+-- a frame that the view hasn't marked dirty under the exclusive lock, or for which it made an entry
+-- under it: its block isn't noted as unentered if the lock is given up
+abbrev pub HoldsNoUnentered : Link → Type 0
+HoldsNoUnentered l = HoldsUnentered l → ⊥
+
 -- a frame whose copy latch the view gives up
 pub record CanDropCopy (l : Link) : Type 0 where
   pub right : l.copying ≡ true
@@ -61,7 +68,12 @@ unshared_link l = record l { content = Unlocked; copied = None }
 
 -- the link without the exclusive lock, and so without what was copied, marked or entered under it
 abbrev pub unexclusive_link : Link → Link
-unexclusive_link l = record l { content = Unlocked; copied = None; dirtied = false; entered = false }
+unexclusive_link l = record l {
+  content = Unlocked;
+  copied = None;
+  dirtied = false;
+  entered = false;
+}
 
 -- the link with the copy latch, and without it
 abbrev pub copying_link : Bool → Link → Link
@@ -127,7 +139,14 @@ begun_link false l = record l { header = None; io = Output }
 
 -- the link without the right, after this end: a good read has seen BM_VALID
 abbrev pub finished_link : IoEnd → Link → Link
-finished_link end l = record l { seen_valid = saw_valid end l.seen_valid; header = None; io = Quiet; read = None; read_is_home = false; last_write = Unwritten }
+finished_link end l = record l {
+  seen_valid = saw_valid end l.seen_valid;
+  header = None;
+  io = Quiet;
+  read = None;
+  read_is_home = false;
+  last_write = Unwritten;
+}
 
 -- the link at a frame that the checkpoint has visited and that is left for it to write
 abbrev pub left_to_write_link : Link → Link

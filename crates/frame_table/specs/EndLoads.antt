@@ -27,16 +27,24 @@ IsEndAllowed frames _ v = Unit {0}
 
 -- the page that was copied, and is read, is the one that its lane held at the start
 abbrev pub ReadsHeld : List RelEntry → ℕ → List (Option Pages) → EndLoad → View → Type 0
-ReadsHeld relations lanes held (Read f) v = (tag : Tag) (page : Page) → (link v f).tag ≡ Some (packed_tag tag) → (link v f).copied ≡ Some page → WasHeld relations lanes held tag page
+ReadsHeld relations lanes held (Read f) v = (tag : Tag) (page : Page)
+    → (link v f).tag ≡ Some (packed_tag tag) → (link v f).copied ≡ Some page
+    → WasHeld relations lanes held tag page
 ReadsHeld relations lanes held _ v = Unit {0}
 
 module _ {L G : Type 0} where
   -- the log's end is at its base or past it, and each copied page is logged before it, or is the
   -- one at the start; if it is at the base each page that is read is that one
-  abbrev pub tells_end_load : EndLoad → ℕ → ℕ → List RelEntry → ℕ → List (Option Pages) → Step (Value L G) → Me (Value L G) View → ℕ → Me (Value L G) View → Type 0
-  tells_end_load what frames base relations lanes held st m found m' = tells_word (end_kind what) st m found m' × ((base ≤ found) × (found ≡ base → ReadsHeld relations lanes held what m.0) × CopiesAreLogged relations lanes held frames found m.0)
+  abbrev pub tells_end_load : EndLoad → ℕ → ℕ → List RelEntry → ℕ → List (Option Pages)
+      → Step (Value L G) → Me (Value L G) View → ℕ → Me (Value L G) View → Type 0
+  tells_end_load what frames base relations lanes held st m found m' =
+      tells_word (end_kind what) st m found m'
+      × ((base ≤ found) × (found ≡ base → ReadsHeld relations lanes held what m.0)
+      × CopiesAreLogged relations lanes held frames found m.0)
 
   -- a read whose place is the log's base is of that page
   abbrev pub ReadsOpening : (L → Option Pages) → FrameTable L G → EndLoad → ℕ → View → Type 0
-  ReadsOpening contents t (Read f) place v = place ≡ base_of t → (tag : Tag) (page : Page) → (link v f).tag ≡ Some (packed_tag tag) → (link v f).copied ≡ Some page → WasAtOpening contents t tag page
+  ReadsOpening contents t (Read f) place v = place ≡ base_of t → (tag : Tag) (page : Page)
+      → (link v f).tag ≡ Some (packed_tag tag) → (link v f).copied ≡ Some page
+      → WasAtOpening contents t tag page
   ReadsOpening contents t _ place v = Unit {0}

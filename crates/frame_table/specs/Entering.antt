@@ -43,13 +43,16 @@ pub record MayBecomeEntry (f : ℕ) (tag : Tag) (p : Page) (start : ℕ) (v : Vi
   pub room : start + record_size ≤ last_position
 
 -- the bytes are the record of the entry, if the relations name the block
-pub record IsRecord (relations : List RelEntry) (tag : Tag) (start : ℕ) (p : Page) (bytes : List ℕ) : Type 0 where
+pub record IsRecord (relations : List RelEntry) (tag : Tag) (start : ℕ) (p : Page) (bytes : List ℕ)
+    : Type 0 where
   pub entry : RelEntry
   pub listed : slice_get relations tag.rel.0 ≡ Some entry
   pub is : bytes ≡ block_record entry tag start p
 
--- The log's end may be stored as `end`: the view has appended the record of such an entry, and that ends there
-pub record MayStoreEnd (relations : List RelEntry) (f : ℕ) (tag : Tag) (p : Page) (end : ℕ) (v : View) : Type 0 where
+-- The log's end may be stored as `end`: the view has appended the record of such an entry, and that
+-- ends there
+pub record MayStoreEnd (relations : List RelEntry) (f : ℕ) (tag : Tag) (p : Page) (end : ℕ)
+    (v : View) : Type 0 where
   pub start : ℕ
   pub enters : MayBecomeEntry f tag p start v
   pub next : end ≡ start + record_size
@@ -90,5 +93,7 @@ view_entered f tag p end v = record v {
 
 module _ {L G : Type 0} where
   -- the entry of such a page became part of the log, and the slots in hand stay
-  abbrev pub tells_end : List RelEntry → ℕ → ℕ → Step (Value L G) → Me (Value L G) View → ℕ → Me (Value L G) View → Type 0
-  tells_end relations f end st m found m' = (m'.1 ≡ m.1) × ((tag : Tag) × (p : Page) × MayStoreEnd relations f tag p end m.0 × DidEnter f p m.0 m'.0)
+  abbrev pub tells_end : List RelEntry → ℕ → ℕ → Step (Value L G) → Me (Value L G) View → ℕ
+      → Me (Value L G) View → Type 0
+  tells_end relations f end st m found m' = (m'.1 ≡ m.1)
+      × ((tag : Tag) × (p : Page) × MayStoreEnd relations f tag p end m.0 × DidEnter f p m.0 m'.0)

@@ -35,7 +35,8 @@ part_place content_word f = content_place f
 abbrev pub SaysOf : FrameWord → ℕ → Frame → Type 0
 SaysOf state_word n fr = fr.word ≡ fields n
 SaysOf tag_word n fr = fr.tag ≡ n
-SaysOf content_word n fr = (fr.sharers ≡ n % 2 ^ 18) × (fr.exclusive ≡ bit 18 n) × (fr.copying ≡ bit 19 n) × (n < 2 ^ 20)
+SaysOf content_word n fr = (fr.sharers ≡ n % 2 ^ 18) × (fr.exclusive ≡ bit 18 n)
+    × (fr.copying ≡ bit 19 n) × (n < 2 ^ 20)
 
 -- The view v became w by a step of the kind k at the frame f, which found the kind's word as
 -- `found`
@@ -76,12 +77,16 @@ choice_part (if_unlocked k) = part_of k
 
 module _ {L G : Type 0} where
   -- a step at a word of the frame f: the slots in hand stay
-  abbrev pub tells : Choice → Step (Value L G) → Me (Value L G) View → ℕ → Me (Value L G) View → Type 0
-  tells choice st m found m' = (m'.1 ≡ m.1) × ((f : ℕ) → st.word ≡ part_place (choice_part choice) f → Did (chosen choice st.first found) f m.0 m'.0 found)
+  abbrev pub tells : Choice → Step (Value L G) → Me (Value L G) View → ℕ → Me (Value L G) View
+      → Type 0
+  tells choice st m found m' = (m'.1 ≡ m.1) × ((f : ℕ) → st.word ≡ part_place (choice_part choice) f
+      → Did (chosen choice st.first found) f m.0 m'.0 found)
 
   -- a load of a tag word: a number that is a tag is of a block of the relations
-  abbrev pub tells_tag : List RelEntry → Step (Value L G) → Me (Value L G) View → ℕ → Me (Value L G) View → Type 0
-  tells_tag relations st m found m' = tells (always (pins pin.load_tag)) st m found m' × (found ≢ no_tag → is_block relations found ≡ true)
+  abbrev pub tells_tag : List RelEntry → Step (Value L G) → Me (Value L G) View → ℕ
+      → Me (Value L G) View → Type 0
+  tells_tag relations st m found m' = tells (always (pins pin.load_tag)) st m found m'
+      × (found ≢ no_tag → is_block relations found ≡ true)
 
 -- the load of the state word
 abbrev pub looking : FrameKind
@@ -99,12 +104,15 @@ Tried k f v w false = Looks f v w
 
 -- after loads a pin was given up, and this is the word that was left
 abbrev pub Unpinned : ℕ → ℕ → View → View → Type 0
-Unpinned f word v w = (u : View) × (was : ℕ) × Looks f v u × Did (pins pin.unpin) f u w was × (fields word ≡ unpinned_fields (fields was))
+Unpinned f word v w = (u : View) × (was : ℕ) × Looks f v u × Did (pins pin.unpin) f u w was
+    × (fields word ≡ unpinned_fields (fields was))
 
--- why a frame is not pinned: its header was locked; or it had no tag; or neither was so, and then the word changed before the pin
+-- why a frame is not pinned: its header was locked; or it had no tag; or neither was so, and then
+-- the word changed before the pin
 abbrev pub Refuses : ℕ → View → View → TryPin → Type 0
 Refuses f v w (Locked was) = Did looking f v w was × (has_locked was ≡ true)
-Refuses f v w (Untagged was) = Did looking f v w was × (has_locked was ≡ false) × (has_tag was ≡ false)
+Refuses f v w (Untagged was) = Did looking f v w was × (has_locked was ≡ false)
+    × (has_tag was ≡ false)
 Refuses f v w (Changed was now) = (has_locked was ≡ false) × (has_tag was ≡ true) × (was ≢ now)
     × ((u : View) × Did looking f v u was × Did looking f u w now)
 

@@ -57,7 +57,8 @@ block_of_frame s f = block_of s.pool.logged (s.pool.core.frame f).tag
 -- When a kind is allowed, by the frame f and by what the view v has there
 abbrev pub IsAllowed : FrameKind → State → ℕ → View → Type 0
 IsAllowed (pins k) s f v = pin.Allowed k (s.pool.core.frame f) (link v f)
-IsAllowed (pages k) s f v = IsPlain k × paged.Allowed k (block_of_frame s f) (s.pool.core.frame f) (link v f)
+IsAllowed (pages k) s f v = IsPlain k × paged.Allowed k (block_of_frame s f) (s.pool.core.frame f)
+    (link v f)
 
 -- when a kind is allowed, by the whole view, and the partitions
 abbrev pub IsAllowedAround : FrameKind → State → ℕ → View → Type 0
@@ -72,12 +73,15 @@ frame_after (pages k) s f = paged.frame_after k (block_of_frame s f) (s.pool.cor
 -- what a kind makes of what the view v has at the frame f
 abbrev pub link_after : FrameKind → State → ℕ → View → Link
 link_after (pins k) s f v = pin.link_after k (s.pool.core.frame f) (link v f)
-link_after (pages k) s f v = paged.link_after k (block_of_frame s f) (s.pool.core.frame f) (link v f)
+link_after (pages k) s f v = paged.link_after k (block_of_frame s f) (s.pool.core.frame f)
+    (link v f)
 
 -- what a kind at the frame f makes of the whole view
 abbrev pub view_after : FrameKind → State → ℕ → View → View
-view_after (pins k) s f v = pin.view_after k s.pool.core.partition_of f (s.pool.core.frame f) (link v f) v
-view_after (pages k) s f v = paged.view_after k f (block_of_frame s f) (s.pool.core.frame f) (link v f) v
+view_after (pins k) s f v = pin.view_after k s.pool.core.partition_of f (s.pool.core.frame f)
+    (link v f) v
+view_after (pages k) s f v = paged.view_after k f (block_of_frame s f) (s.pool.core.frame f)
+    (link v f) v
 
 -- the state after a step of the kind at the frame f by backend i, whose view is v
 abbrev pub pool_after : FrameKind → State → ℕ → ℕ → View → page.State

@@ -1,7 +1,6 @@
 -- A lane goes out with the holder of its latch, and comes back with the call that was made of it.
-use Rattle.std.specs.Prelude.{◌≡◌, ◌≢◌, ℕ, ◌+◌, ◌≤◌, Bool, true, false, List, [], ◌∷◌, ◌++◌, length, max, slice_set, Some, None, is_some, ◌||◌}
+use Rattle.std.specs.Prelude.{◌≡◌, ◌≢◌, ℕ, ◌+◌, ◌≤◌, Bool, true, false, List, [], ◌∷◌, ◌++◌, length, max, slice_set, Option, Some, None, is_some, ◌||◌}
 use mathlib.Core.Option.{some}
-use mathlib.Core.Option as slot
 use lib.ListN.{get_elem?}
 use Rattle.atomic_table.specs.Table.{Me, rest}
 use Rattle.atomic_table.specs.Table as table
@@ -9,6 +8,7 @@ use Rattle.block_tag.specs.declared.tag.Tag.{Tag}
 use Rattle.block_tag.specs.declared.catalogue.RelEntry.{RelEntry}
 use Rattle.block_tag.specs.Names.{packed_tag}
 use Rattle.page_layout.specs.Fields.{lsn_of}
+use Rattle.segment_store.specs.Contents.{Pages}
 use Rattle.pin_core.specs.declared.view.Io.TheVariants.{Input, Output}
 use Rattle.pin_core.specs.declared.view.LastWrite.TheVariants.{Done, Failed}
 use Rattle.pin_core.specs.declared.view.LaneChange.TheVariants as lane_change
@@ -31,6 +31,7 @@ use Rattle.table_rule.specs.declared.noted_lane.LaneCall.{LaneCall}
 use Rattle.table_rule.specs.declared.noted_lane.LaneCall.TheVariants.{Untouched, Read, ReadFailed, Written, WriteFailed, Synced, SyncFailed}
 use Rattle.table_rule.specs.declared.value.Value.{Value}
 use Rattle.table_rule.specs.declared.value.Value.TheVariants as value
+use Rattle.table_rule.specs.Shows.{KeepsOthers, contents_at}
 use Rattle.table_rule.specs.LaneCalls.{LaneDevices, LaneDid}
 use Rattle.frame_table.specs.declared.table.FrameTable.{FrameTable}
 use Rattle.frame_table.specs.Seats.{frames_of, relations_of, lanes_in, opened_of}
@@ -66,14 +67,22 @@ out_events q taken i = steps.lane i q (lane_out taken) ∷ []
 
 -- what the view has of the latch while the lane is out, and once it is back
 abbrev pub out_lane : TakenLane → ℕ → LaneHold → LaneHold
-out_lane taken flushed h = record h { held = true; out = Some taken; change = lane_change.Untouched; flushed = flushed }
+out_lane taken flushed h = record h {
+  held = true;
+  out = Some taken;
+  change = lane_change.Untouched;
+  flushed = flushed;
+}
 
 abbrev pub back_lane : LaneHold → LaneHold
 back_lane h = record h { out = None; change = lane_change.Untouched }
 
 -- what is made of the view
 abbrev pub out_view : ℕ → TakenLane → View → View
-out_view q taken v = record v { lanes = slice_set v.lanes q (out_lane taken v.flushed (lane_hold v q)); steps = v.steps + 1 }
+out_view q taken v = record v {
+  lanes = slice_set v.lanes q (out_lane taken v.flushed (lane_hold v q));
+  steps = v.steps + 1;
+}
 
 -- The call, and what is noted of it at a frame
 module _ {L : Type 0} (d : LaneDevices L) (q : ℕ) (after : L) where
@@ -81,20 +90,28 @@ module _ {L : Type 0} (d : LaneDevices L) (q : ℕ) (after : L) where
   -- a read is noted at its frame, and a write
   abbrev pub back_events : LaneCall → ℕ → List Event
   back_events Untouched i = steps.lane i q (lane_back false) ∷ []
-  back_events (Read f tag page) i = steps.lane i q (read_block (packed_tag tag) page.value) ∷ steps.note i q f (lane_back false) (note_read page.value) ∷ []
-  back_events (ReadFailed tag) i = steps.lane i q (fail_read (packed_tag tag) (d.read_faults after)) ∷ steps.lane i q (lane_back true) ∷ []
-  back_events (Written f tag page) i = steps.write i q f (write_block f (packed_tag tag) page.value) ∷ steps.note i q f (lane_back false) (note_write true) ∷ []
-  back_events (WriteFailed f tag page) i = steps.write i q f (fail_write f (packed_tag tag) (page_held (d.contents after) tag page.value) (d.write_faults after)) ∷ steps.note i q f (lane_back true) (note_write false) ∷ []
+  back_events (Read f tag page) i = steps.lane i q (read_block (packed_tag tag) page.value)
+      ∷ steps.note i q f (lane_back false) (note_read page.value) ∷ []
+  back_events (ReadFailed tag) i = steps.lane i q (fail_read (packed_tag tag) (d.read_faults after))
+      ∷ steps.lane i q (lane_back true) ∷ []
+  back_events (Written f tag page) i = steps.write i q f (write_block f (packed_tag tag) page.value)
+      ∷ steps.note i q f (lane_back false) (note_write true) ∷ []
+  back_events (WriteFailed f tag page) i = steps.write i q f
+      (fail_write f (packed_tag tag) (page_held (d.contents after) tag page.value)
+      (d.write_faults after)) ∷ steps.note i q f (lane_back true) (note_write false) ∷ []
   back_events Synced i = steps.lane i q sync_lane ∷ steps.lane i q (lane_back false) ∷ []
-  back_events SyncFailed i = steps.lane i q (fail_sync (d.write_faults after)) ∷ steps.lane i q (lane_back true) ∷ []
+  back_events SyncFailed i = steps.lane i q (fail_sync (d.write_faults after))
+      ∷ steps.lane i q (lane_back true) ∷ []
 
-  -- the device call that it was; after a write that failed the lane's page of the block is unspecified
+  -- the device call that it was; after a write that failed the lane's page of the block is
+  -- unspecified
   abbrev pub lane_device_calls : LaneCall → List DeviceCall
   lane_device_calls Untouched = []
   lane_device_calls (Read f tag page) = device.LaneRead q (packed_tag tag) true ∷ []
   lane_device_calls (ReadFailed tag) = device.LaneRead q (packed_tag tag) false ∷ []
   lane_device_calls (Written f tag page) = device.LaneWrite q (packed_tag tag) page.value true ∷ []
-  lane_device_calls (WriteFailed f tag page) = device.LaneWrite q (packed_tag tag) (page_held (d.contents after) tag page.value) false ∷ []
+  lane_device_calls (WriteFailed f tag page) =
+      device.LaneWrite q (packed_tag tag) (page_held (d.contents after) tag page.value) false ∷ []
   lane_device_calls Synced = device.LaneSync q true ∷ []
   lane_device_calls SyncFailed = device.LaneSync q false ∷ []
 
@@ -158,13 +175,15 @@ IsNoted (Written f tag page) v w = NotesAt f (written_link (link v f)) v w
 IsNoted (WriteFailed f tag page) v w = NotesAt f (unwritten_link (link v f)) v w
 IsNoted _ v w = w.links ≡ v.links
 
--- A read may be noted: the view has the input right, isn't just putting an earlier read into the frame, and its pin remembers the tag
+-- A read may be noted: the view has the input right, isn't just putting an earlier read into the
+-- frame, and its pin remembers the tag
 pub record MayNoteRead (tag : Tag) (l : Link) : Type 0 where
   pub right : l.io ≡ Input
   pub fresh : l.overwritten ≡ None
   pub remembered : l.tag ≡ Some (packed_tag tag)
 
--- A write may be noted: the view has the output right, the page is the one that it copied there, up to whose position the log is flushed, and its pin remembers the tag
+-- A write may be noted: the view has the output right, the page is the one that it copied there, up
+-- to whose position the log is flushed, and its pin remembers the tag
 pub record MayNoteWrite (tag : Tag) (page : Page) (flushed : ℕ) (l : Link) : Type 0 where
   pub right : l.io ≡ Output
   pub copied : l.copied ≡ Some page
@@ -173,57 +192,65 @@ pub record MayNoteWrite (tag : Tag) (page : Page) (flushed : ℕ) (l : Link) : T
 
 -- What a call asks of the view; its block is one of the lane
 abbrev pub MayNote : List RelEntry → ℕ → ℕ → LaneCall → View → Type 0
-MayNote relations lanes q (Read f tag page) v = IsBlockOf relations lanes q tag × MayNoteRead tag (link v f)
+MayNote relations lanes q (Read f tag page) v = IsBlockOf relations lanes q tag
+    × MayNoteRead tag (link v f)
 MayNote relations lanes q (ReadFailed tag) v = IsBlockOf relations lanes q tag
-MayNote relations lanes q (Written f tag page) v = IsBlockOf relations lanes q tag × MayNoteWrite tag page.value (lane_hold v q).flushed (link v f)
-MayNote relations lanes q (WriteFailed f tag page) v = IsBlockOf relations lanes q tag × MayNoteWrite tag page.value (lane_hold v q).flushed (link v f)
+MayNote relations lanes q (Written f tag page) v = IsBlockOf relations lanes q tag
+    × MayNoteWrite tag page.value (lane_hold v q).flushed (link v f)
+MayNote relations lanes q (WriteFailed f tag page) v = IsBlockOf relations lanes q tag
+    × MayNoteWrite tag page.value (lane_hold v q).flushed (link v f)
 MayNote relations lanes q Untouched v = Unit {0}
 MayNote relations lanes q Synced v = Unit {0}
 MayNote relations lanes q SyncFailed v = Unit {0}
 
 module _ {L : Type 0} (d : LaneDevices L) where
-  -- whether the contents of a lane were known when the table was opened
-  abbrev pub is_known_in : slot.Option L → Bool
-  is_known_in slot.none = false
-  is_known_in (slot.some l) = is_some (d.contents l)
-
-  abbrev pub was_known : List L → ℕ → Bool
-  was_known opened q = is_known_in (get_elem? opened q)
-
   -- What holds of a lane as it goes out: if its contents are known it holds each block of the
   -- relations that lies there, and they are known if they were when the table was opened
-  pub record IsTakenLane (known : Bool) (relations : List RelEntry) (lanes q : ℕ) (l : L) : Type 0 where
+  pub record IsTakenLane (opened : Option Pages) (relations : List RelEntry) (lanes q : ℕ) (l : L)
+      : Type 0 where
     pub holds : HoldsBlocks d relations lanes q l
-    pub known_still : is_some (d.contents l) ≡ known
+    pub known_still : is_some (d.contents l) ≡ is_some opened
+    -- what it holds besides the relations' blocks is what it held as the table was opened
+    pub others : KeepsOthers relations lanes q opened (d.contents l)
 
-  -- A lane may come back as l, with its number and its call: it went out as `before`, and the call made this of it
-  pub record MayReturn (known : Bool) (relations : List RelEntry) (lanes q : ℕ) (v : View) (l : NotedLane L) : Type 0 where
+  -- A lane may come back as l, with its number and its call: it went out as `before`, and the call
+  -- made this of it
+  pub record MayReturn (opened : Option Pages) (relations : List RelEntry) (lanes q : ℕ) (v : View)
+      (l : NotedLane L) : Type 0 where
     pub number : l.number ≡ q
     pub before : L
     pub out : (lane_hold v q).out ≡ Some (taken_lane d relations lanes q before)
     pub once : (lane_hold v q).change ≡ lane_change.Untouched
-    pub taken : IsTakenLane known relations lanes q before
+    pub taken : IsTakenLane opened relations lanes q before
     pub did : LaneDid d before l.device l.call
     pub may : MayNote relations lanes q l.call v
 
 module _ {L G : Type 0} where
   -- the lane went out with the seat, from this slot
-  abbrev pub lane_went : LaneDevices L → Bool → List RelEntry → ℕ → ℕ → ℕ → ℕ → table.Step (Value L G) → Me (Value L G) View → ℕ → Me (Value L G) View → Type 0
-  lane_went d known relations lanes frames q place st m found m' = (l : NotedLane L) × (m'.1 ≡ (place, value.Lane l) ∷ m.1) × (l.call ≡ Untouched) × (l.number ≡ q) × IsTakenLane d known relations lanes q l.device
-      × (m'.0 ≡ out_view q (taken_lane d relations lanes q l.device) m.0) × DidSteps (out_events q (taken_lane d relations lanes q l.device)) m.0 m'.0 × IsWide frames lanes m.0
+  abbrev pub lane_went : LaneDevices L → Option Pages → List RelEntry → ℕ → ℕ → ℕ → ℕ
+      → table.Step (Value L G) → Me (Value L G) View → ℕ → Me (Value L G) View → Type 0
+  lane_went d opened relations lanes frames q place st m found m' =
+      (l : NotedLane L) × (m'.1 ≡ (place, value.Lane l) ∷ m.1) × (l.call ≡ Untouched)
+      × (l.number ≡ q) × IsTakenLane d opened relations lanes q l.device
+      × (m'.0 ≡ out_view q (taken_lane d relations lanes q l.device) m.0)
+      × DidSteps (out_events q (taken_lane d relations lanes q l.device)) m.0 m'.0
+      × IsWide frames lanes m.0
 
   -- what a lane of a table is as it goes out, when it may go out, and when it may come back
   abbrev pub taken_at : LaneDevices L → FrameTable L G → ℕ → L → TakenLane
   taken_at d t q l = taken_lane d (relations_of t) (lanes_in t) q l
 
   abbrev pub IsTakenFrom : LaneDevices L → FrameTable L G → ℕ → L → Type 0
-  IsTakenFrom d t q l = IsTakenLane d (was_known d (opened_of t) q) (relations_of t) (lanes_in t) q l
+  IsTakenFrom d t q l =
+      IsTakenLane d (contents_at d.contents (opened_of t) q) (relations_of t) (lanes_in t) q l
 
   abbrev pub MayReturnTo : LaneDevices L → FrameTable L G → ℕ → View → NotedLane L → Type 0
-  MayReturnTo d t q v l = MayReturn d (was_known d (opened_of t) q) (relations_of t) (lanes_in t) q v l
+  MayReturnTo d t q v l =
+      MayReturn d (contents_at d.contents (opened_of t) q) (relations_of t) (lanes_in t) q v l
 
   -- the value is a lane that went out
-  pub record WentOut (d : LaneDevices L) (t : FrameTable L G) (q : ℕ) (y : Value L G) (v w : View) : Type 0 where
+  pub record WentOut (d : LaneDevices L) (t : FrameTable L G) (q : ℕ) (y : Value L G) (v w : View) :
+      Type 0 where
     pub lane : NotedLane L
     pub is : y ≡ value.Lane lane
     pub untouched : lane.call ≡ Untouched
@@ -234,5 +261,7 @@ module _ {L G : Type 0} where
     pub wide : IsWide (frames_of t) (lanes_in t) v
 
   -- a value came back by these steps, which make this of the view
-  abbrev pub came_by : (ℕ → List Event) → (View → View) → table.Step (Value L G) → Me (Value L G) View → ℕ → Me (Value L G) View → Type 0
-  came_by events after st m found m' = (m'.1 ≡ rest m.1) × (m'.0 ≡ after m.0) × DidSteps events m.0 m'.0
+  abbrev pub came_by : (ℕ → List Event) → (View → View) → table.Step (Value L G)
+      → Me (Value L G) View → ℕ → Me (Value L G) View → Type 0
+  came_by events after st m found m' = (m'.1 ≡ rest m.1) × (m'.0 ≡ after m.0)
+      × DidSteps events m.0 m'.0

@@ -30,7 +30,8 @@ use Rattle.table_rule.specs.Shows.{is_taken, AreApart, entry_of}
 
 -- The view may leave the latch: it has it, its value is home, and nothing under it is left to do
 abbrev pub MayLeave : Turn → View → Type 0
-MayLeave (Partition p) v = ((hold v p).held ≡ true) × ((hold v p).out ≡ None) × ((hold v p).change ≡ Stable)
+MayLeave (Partition p) v = ((hold v p).held ≡ true) × ((hold v p).out ≡ None)
+    × ((hold v p).change ≡ Stable)
 MayLeave (Lane q) v = ((lane_hold v q).held ≡ true) × ((lane_hold v q).out ≡ None)
 MayLeave Log v = (v.log.held ≡ true) × (v.log.out ≡ None) × (v.log.appended ≡ None)
 
@@ -69,12 +70,21 @@ view_latched takes Log s v = logs.view_logged (log_kind takes) v
 
 -- what a step at a latch makes of the state, by backend i, whose view is v
 abbrev pub state_latched : Bool → Turn → State → ℕ → View → State
-state_latched takes (Partition p) s i v = record s { pool = record s.pool { core = pin_steps.state_turned (part_kind takes) s.pool.core i p v } }
-state_latched takes (Lane q) s i v = record s { pool = aside s.pool i (view_latched takes (Lane q) s v); lane = put s.lane q (lanes.lane_after (lane_kind takes) (s.lane q)) }
-state_latched takes Log s i v = record s { pool = aside s.pool i (view_latched takes Log s v); device = logs.device_after (log_kind takes) s.end s.device }
+state_latched takes (Partition p) s i v = record s {
+  pool = record s.pool { core = pin_steps.state_turned (part_kind takes) s.pool.core i p v };
+}
+state_latched takes (Lane q) s i v = record s {
+  pool = aside s.pool i (view_latched takes (Lane q) s v);
+  lane = put s.lane q (lanes.lane_after (lane_kind takes) (s.lane q));
+}
+state_latched takes Log s i v = record s {
+  pool = aside s.pool i (view_latched takes Log s v);
+  device = logs.device_after (log_kind takes) s.end s.device;
+}
 
 abbrev pub turn_event : Bool → Turn → ℕ → Event
-turn_event takes (Partition p) i = steps.pool (page_steps.pins_and_maps (pin_steps.turn i p (part_kind takes)))
+turn_event takes (Partition p) i =
+    steps.pool (page_steps.pins_and_maps (pin_steps.turn i p (part_kind takes)))
 turn_event takes (Lane q) i = steps.lane i q (lane_kind takes)
 turn_event takes Log i = steps.log i (log_kind takes)
 
@@ -97,7 +107,8 @@ pub record DidTurn (takes : Bool) (x : Turn) (v w : View) : Type 0 where
   pub allowed : LatchAllowed takes x state v
   pub after : w ≡ view_latched takes x state v
 
--- What a step at a latch leaves of a view: all but what it has of latches, and the count of its steps
+-- What a step at a latch leaves of a view: all but what it has of latches, and the count of its
+-- steps
 abbrev pub work_of : View → View
 work_of v = record v { partitions = []; lanes = []; log = no_log; steps = 0 }
 
@@ -114,7 +125,8 @@ view_counted false x v = v
 module _ {L G : Type 0} where
   -- if the latch was free it was taken, and else nothing happened
   abbrev pub took : Turn → Step (Value L G) → Me (Value L G) View → ℕ → Me (Value L G) View → Type 0
-  took x st m found m' = (m'.1 ≡ m.1) × (found ≡ 0 → DidTurn true x m.0 m'.0) × (found ≢ 0 → m'.0 ≡ m.0)
+  took x st m found m' = (m'.1 ≡ m.1) × (found ≡ 0 → DidTurn true x m.0 m'.0)
+      × (found ≢ 0 → m'.0 ≡ m.0)
 
   abbrev pub left : Turn → Step (Value L G) → Me (Value L G) View → ℕ → Me (Value L G) View → Type 0
   left x st m found m' = (m'.1 ≡ m.1) × DidTurn false x m.0 m'.0
@@ -124,9 +136,13 @@ abbrev pub held_part : Bool → PartitionHold → PartitionHold
 held_part takes h = parts.hold_after (part_kind takes) h
 
 abbrev pub IsTurned : Bool → Turn → View → View → Type 0
-IsTurned takes (Partition p) v w = (hold w p ≡ held_part takes (hold v p)) × ((q : ℕ) → q ≢ p → hold w q ≡ hold v q) × (w.lanes ≡ v.lanes) × (w.log ≡ v.log)
-IsTurned takes (Lane q) v w = (lane_hold w q ≡ record (lane_hold v q) { held = takes }) × ((r : ℕ) → r ≢ q → lane_hold w r ≡ lane_hold v r) × (w.partitions ≡ v.partitions) × (w.log ≡ v.log)
-IsTurned takes Log v w = (w.log ≡ logs.log_hold_after (log_kind takes) v.log) × (w.partitions ≡ v.partitions) × (w.lanes ≡ v.lanes)
+IsTurned takes (Partition p) v w = (hold w p ≡ held_part takes (hold v p))
+    × ((q : ℕ) → q ≢ p → hold w q ≡ hold v q) × (w.lanes ≡ v.lanes) × (w.log ≡ v.log)
+IsTurned takes (Lane q) v w = (lane_hold w q ≡ record (lane_hold v q) { held = takes })
+    × ((r : ℕ) → r ≢ q → lane_hold w r ≡ lane_hold v r) × (w.partitions ≡ v.partitions)
+    × (w.log ≡ v.log)
+IsTurned takes Log v w = (w.log ≡ logs.log_hold_after (log_kind takes) v.log)
+    × (w.partitions ≡ v.partitions) × (w.lanes ≡ v.lanes)
 
 -- The view v became w by a step of the kind k at the partition p
 pub record DidMap (k : parts.TurnKind) (p : ℕ) (v w : View) : Type 0 where
@@ -144,16 +160,21 @@ pub record DidMap (k : parts.TurnKind) (p : ℕ) (v w : View) : Type 0 where
 -- entered or left out yet, this is done
 pub data ComesBack (entries : List MapEntry) (p : ℕ) (v w : View) : MapChange → Type 0 where
   as_it_was : DidMap (parts.map_back entries) p v w → ComesBack entries p v w Stable
-  entered : {tag f : ℕ} (u : View) → DidMap parts.change_map p v u → DidMap (parts.map_back entries) p u w → ComesBack entries p v w (Entering tag f)
-  left_out : {tag f : ℕ} (u : View) → DidMap parts.change_map p v u → DidMap (parts.map_back entries) p u w → ComesBack entries p v w (Leaving tag f)
+  entered : {tag f : ℕ} (u : View) → DidMap parts.change_map p v u
+      → DidMap (parts.map_back entries) p u w → ComesBack entries p v w (Entering tag f)
+  left_out : {tag f : ℕ} (u : View) → DidMap parts.change_map p v u
+      → DidMap (parts.map_back entries) p u w → ComesBack entries p v w (Leaving tag f)
 
--- What a map may be when it comes back: it was out, as these entries, and has the change that the view named
+-- What a map may be when it comes back: it was out, as these entries, and has the change that the
+-- view named
 pub record MayComeBack (entries : List MapEntry) (p : ℕ) (v : View) : Type 0 where
   pub out : (hold v p).out ≢ None
   pub unchanged : (hold v p).changed ≡ false
-  pub changed : (was : List MapEntry) → (hold v p).out ≡ Some was → parts.found entries ≡ parts.map_after (hold v p).change (parts.found was)
+  pub changed : (was : List MapEntry) → (hold v p).out ≡ Some was
+      → parts.found entries ≡ parts.map_after (hold v p).change (parts.found was)
 
--- what entries have of the pair that the view has named: one that enters is not there, and one that leaves is
+-- what entries have of the pair that the view has named: one that enters is not there, and one that
+-- leaves is
 abbrev pub HasNamed : MapChange → List MapEntry → Type 0
 HasNamed Stable entries = Unit {0}
 HasNamed (Entering tag f) entries = parts.found entries tag ≡ None
@@ -165,12 +186,14 @@ AreBelow n entries = (i : ℕ) (a : Mapped) → get_elem? entries i ≡ some a �
 
 -- a list has room for the pair that the view is entering
 abbrev pub HasRoomFor : PartitionHold → Vec Mapped Global → Type 0
-HasRoomFor h entries = (tag f : ℕ) → h.change ≡ Entering tag f → h.changed ≡ false → vec_len entries < vec_capacity entries
+HasRoomFor h entries = (tag f : ℕ) → h.change ≡ Entering tag f → h.changed ≡ false
+    → vec_len entries < vec_capacity entries
 
 module _ {L G : Type 0} where
   -- the value is a map with these entries, no tag twice, and room for n of them
   abbrev pub IsMap : ℕ → Value L G → List MapEntry → Type 0
-  IsMap n (value.Map m) entries = (map entry_of m.items ≡ entries) × AreApart m.items × (n ≤ vec_capacity m)
+  IsMap n (value.Map m) entries = (map entry_of m.items ≡ entries) × AreApart m.items
+      × (n ≤ vec_capacity m)
   IsMap n _ entries = ⊥
 
   -- the value is a map with room for the pair that the view is entering
@@ -184,11 +207,16 @@ module _ {L G : Type 0} where
   GivesFrames n _ = ⊥
 
   -- the map went out with the seat, from this slot, in a table of n frames
-  abbrev pub map_went : ℕ → ℕ → ℕ → Step (Value L G) → Me (Value L G) View → ℕ → Me (Value L G) View → Type 0
-  map_went n p slot st m found m' = (y : Value L G) × (entries : List MapEntry) × (m'.1 ≡ (slot, y) ∷ m.1) × IsMap n y entries × TakesPair (hold m.0 p) y × DidMap (parts.map_out entries) p m.0 m'.0 × GivesFrames n y
+  abbrev pub map_went : ℕ → ℕ → ℕ → Step (Value L G) → Me (Value L G) View → ℕ → Me (Value L G) View
+      → Type 0
+  map_went n p slot st m found m' = (y : Value L G) × (entries : List MapEntry)
+      × (m'.1 ≡ (slot, y) ∷ m.1) × IsMap n y entries × TakesPair (hold m.0 p) y
+      × DidMap (parts.map_out entries) p m.0 m'.0 × GivesFrames n y
 
-  abbrev pub map_came : ℕ → List MapEntry → Step (Value L G) → Me (Value L G) View → ℕ → Me (Value L G) View → Type 0
-  map_came p entries st m found m' = (m'.1 ≡ rest m.1) × ComesBack entries p m.0 m'.0 (hold m.0 p).change
+  abbrev pub map_came : ℕ → List MapEntry → Step (Value L G) → Me (Value L G) View → ℕ
+      → Me (Value L G) View → Type 0
+  map_came p entries st m found m' = (m'.1 ≡ rest m.1)
+      × ComesBack entries p m.0 m'.0 (hold m.0 p).change
 
 -- whether a change was made, that the view had named
 abbrev pub is_named : MapChange → Bool
@@ -201,9 +229,15 @@ abbrev pub out_hold : List MapEntry → PartitionHold → PartitionHold
 out_hold entries h = record h { out = Some entries; seen = Some entries }
 
 abbrev pub back_hold : List MapEntry → PartitionHold → PartitionHold
-back_hold entries h = record h { out = None; change = Stable; changed = is_named h.change; seen = Some entries }
+back_hold entries h = record h {
+  out = None;
+  change = Stable;
+  changed = is_named h.change;
+  seen = Some entries;
+}
 
--- The view has at the partition p what is said, and at all others, and at lanes and the log, what it had
+-- The view has at the partition p what is said, and at all others, and at lanes and the log, what
+-- it had
 pub record MapStep (p : ℕ) (h : PartitionHold) (v w : View) : Type 0 where
   pub here : hold w p ≡ h
   pub others : (q : ℕ) → q ≢ p → hold w q ≡ hold v q

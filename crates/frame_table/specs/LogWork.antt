@@ -58,7 +58,11 @@ out_steps (Some end) = 2
 
 -- the view while the log is out
 abbrev pub view_out : TakenLog → View → View
-view_out taken v = record v { log = record v.log { out = Some taken }; saw_down = v.saw_down || is_some taken.down; steps = v.steps + out_steps taken.down }
+view_out taken v = record v {
+  log = record v.log { out = Some taken };
+  saw_down = v.saw_down || is_some taken.down;
+  steps = v.steps + out_steps taken.down;
+}
 
 -- an append that fails adds these of its bytes: none if the log's contents aren't known
 pub record IsPart (was now : Option (List ℕ)) (part : List ℕ) : Type 0 where
@@ -70,16 +74,28 @@ pub record IsPart (was now : Option (List ℕ)) (part : List ℕ) : Type 0 where
 -- return
 abbrev pub ComesHome : TakenLog → Option (List ℕ) → ℕ → LogCall → View → View → Type 0
 ComesHome taken bytes faults log_call.Untouched v w = DidLog (log_back false) v w
-ComesHome taken bytes faults (log_call.Appended f tag page piece) v w = DidTwo (append f (packed_tag tag) page.value piece.value.items) (log_back false) v w
-ComesHome taken bytes faults (log_call.AppendFailed f tag page piece) v w = (part : List ℕ) × IsPart taken.bytes bytes part × DidTwo (fail_append f (packed_tag tag) page.value part faults) (log_back true) v w
+ComesHome taken bytes faults (log_call.Appended f tag page piece) v w =
+    DidTwo (append f (packed_tag tag) page.value piece.value.items) (log_back false) v w
+ComesHome taken bytes faults (log_call.AppendFailed f tag page piece) v w = (part : List ℕ)
+    × IsPart taken.bytes bytes part × DidTwo (fail_append f (packed_tag tag) page.value part faults)
+    (log_back true) v w
 ComesHome taken bytes faults log_call.Synced v w = DidTwo sync_log (log_back false) v w
-ComesHome taken bytes faults log_call.SyncFailed v w = DidTwo (fail_sync taken.synced faults) (log_back true) v w
+ComesHome taken bytes faults log_call.SyncFailed v w =
+    DidTwo (fail_sync taken.synced faults) (log_back true) v w
 
 -- what the view has of the latch once the log is back
 abbrev pub home_hold : LogCall → LogHold → LogHold
-home_hold (log_call.Appended f tag page piece) h = record h { out = None; change = change.Untouched; appended = Some piece.value.items }
+home_hold (log_call.Appended f tag page piece) h = record h {
+  out = None;
+  change = change.Untouched;
+  appended = Some piece.value.items;
+}
 home_hold log_call.Synced h = record h { out = None; change = change.Untouched; synced = true }
-home_hold log_call.SyncFailed h = record h { out = None; change = change.Untouched; appended = None }
+home_hold log_call.SyncFailed h = record h {
+  out = None;
+  change = change.Untouched;
+  appended = None;
+}
 home_hold _ h = record h { out = None; change = change.Untouched }
 
 -- the calls of devices that it counts more
@@ -92,7 +108,10 @@ log_device_calls log_call.SyncFailed = LogSync false ∷ []
 
 -- the records that it failed to append, then
 abbrev pub torn_home : LogCall → List TornRecord → List TornRecord
-torn_home (log_call.AppendFailed f tag page piece) xs = xs ++ record { tag = packed_tag tag; page = page.value } ∷ []
+torn_home (log_call.AppendFailed f tag page piece) xs = xs ++ record {
+  tag = packed_tag tag;
+  page = page.value;
+} ∷ []
 torn_home _ xs = xs
 
 -- how many steps the return of the log takes, after this call
@@ -100,7 +119,8 @@ abbrev pub home_steps : LogCall → ℕ
 home_steps log_call.Untouched = 1
 home_steps _ = 2
 
--- the view once the log is back: a call that failed is a fault that it counts, and shows it the log down
+-- the view once the log is back: a call that failed is a fault that it counts, and shows it the log
+-- down
 abbrev pub view_home : LogCall → View → View
 view_home call v = record v {
   log = home_hold call v.log;
@@ -113,7 +133,8 @@ view_home call v = record v {
 
 -- What the view has if this record was to be appended: its page may be entered, and under this
 -- latch no record was appended before, and no sync made
-pub record MayAppend (relations : List RelEntry) (f : ℕ) (tag : Tag) (p : Page) (bytes : List ℕ) (v : View) : Type 0 where
+pub record MayAppend (relations : List RelEntry) (f : ℕ) (tag : Tag) (p : Page) (bytes : List ℕ)
+    (v : View) : Type 0 where
   pub start : ℕ
   pub enters : MayBecomeEntry f tag p start v
   pub is_record : IsRecord relations tag start p bytes
@@ -123,8 +144,10 @@ pub record MayAppend (relations : List RelEntry) (f : ℕ) (tag : Tag) (p : Page
 -- what the view has if this call was to be made: under this latch no record was appended before a
 -- sync
 abbrev pub MayCall : List RelEntry → LogCall → View → Type 0
-MayCall relations (log_call.Appended f tag page piece) v = MayAppend relations f tag page.value piece.value.items v
-MayCall relations (log_call.AppendFailed f tag page piece) v = MayAppend relations f tag page.value piece.value.items v
+MayCall relations (log_call.Appended f tag page piece) v =
+    MayAppend relations f tag page.value piece.value.items v
+MayCall relations (log_call.AppendFailed f tag page piece) v =
+    MayAppend relations f tag page.value piece.value.items v
 MayCall relations log_call.Synced v = v.log.appended ≡ None
 MayCall relations log_call.SyncFailed v = v.log.appended ≡ None
 MayCall relations log_call.Untouched v = Unit {0}
@@ -163,7 +186,8 @@ module _ {G : Type 0} (bytes : G → Option (List ℕ)) (synced faults calls : G
     pub after : w ≡ view_out taken v
     pub did : GoesOut taken x.down v w
 
-  -- What the log x may be when it comes back: what it was when it went out, but for the one call that it notes
+  -- What the log x may be when it comes back: what it was when it went out, but for the one call
+  -- that it notes
   pub record MayComeHome (relations : List RelEntry) (x : NotedLog G) (v : View) : Type 0 where
     pub taken : TakenLog
     pub before : G
@@ -187,10 +211,14 @@ module _ {G : Type 0} (bytes : G → Option (List ℕ)) (synced faults calls : G
     IsLogOut _ v w = ⊥
 
     -- it is with the seat, from this slot
-    abbrev pub log_went : ℕ → Step (Value L G) → Me (Value L G) View → ℕ → Me (Value L G) View → Type 0
+    abbrev pub log_went : ℕ → Step (Value L G) → Me (Value L G) View → ℕ → Me (Value L G) View
+        → Type 0
     log_went slot st m found m' = (y : Value L G) × (m'.1 ≡ (slot, y) ∷ m.1) × IsLogOut y m.0 m'.0
 
 module _ {L G : Type 0} where
   -- the log came back after this call
-  abbrev pub log_came : Option (List ℕ) → ℕ → LogCall → Step (Value L G) → Me (Value L G) View → ℕ → Me (Value L G) View → Type 0
-  log_came bytes faults call st m found m' = (m'.1 ≡ rest m.1) × ((taken : TakenLog) × (m.0.log.out ≡ Some taken) × ComesHome taken bytes faults call m.0 m'.0)
+  abbrev pub log_came : Option (List ℕ) → ℕ → LogCall → Step (Value L G) → Me (Value L G) View → ℕ
+      → Me (Value L G) View → Type 0
+  log_came bytes faults call st m found m' = (m'.1 ≡ rest m.1)
+      × ((taken : TakenLog) × (m.0.log.out ≡ Some taken)
+      × ComesHome taken bytes faults call m.0 m'.0)

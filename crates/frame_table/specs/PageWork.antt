@@ -59,15 +59,25 @@ abbrev pub page_out_link : Page → Link → Link
 page_out_link page l = record l { out = Some page }
 
 abbrev pub applied_link : Page → Link → Link
-applied_link page l = record l { unapplied = false; image = None; copied = copied_after l.content false page l.copied }
+applied_link page l = record l {
+  unapplied = false;
+  image = None;
+  copied = copied_after l.content false page l.copied;
+}
 
 abbrev pub returned_link : Page → Link → Link
-returned_link page l = if l.unapplied then applied_link page (record l { out = None }) else read_home l.io l.read (record l { out = None; copied = copied_after l.content false page l.copied })
+returned_link page l = if l.unapplied then applied_link page (record l { out = None })
+    else read_home l.io l.read (record l {
+      out = None;
+      copied = copied_after l.content false page l.copied;
+    })
 
--- The view v became w as the page came back: by its return alone, or by a step of this kind and then its return
+-- The view v became w as the page came back: by its return alone, or by a step of this kind and
+-- then its return
 abbrev pub ReturnsBy : Option paged.Kind → ℕ → View → View → ℕ → Type 0
 ReturnsBy None f v w found = Did (pages paged.page_back) f v w found
-ReturnsBy (Some k) f v w found = (u : View) × Did (pages k) f v u found × Did (pages paged.page_back) f u w found
+ReturnsBy (Some k) f v w found = (u : View) × Did (pages k) f v u found
+    × Did (pages paged.page_back) f u w found
 
 module _ {L G : Type 0} where
   -- the value is this page
@@ -76,9 +86,14 @@ module _ {L G : Type 0} where
   IsPage _ page = ⊥
 
   -- the page of f went out with the seat, from this slot
-  abbrev pub page_went : ℕ → ℕ → Step (Value L G) → Me (Value L G) View → ℕ → Me (Value L G) View → Type 0
-  page_went f slot st m found m' = (y : Value L G) × (page : Page) × (m'.1 ≡ (slot, y) ∷ m.1) × IsPage y page × ((link m'.0 f).out ≡ Some page) × Did (pages paged.page_out) f m.0 m'.0 found
+  abbrev pub page_went : ℕ → ℕ → Step (Value L G) → Me (Value L G) View → ℕ → Me (Value L G) View
+      → Type 0
+  page_went f slot st m found m' = (y : Value L G) × (page : Page) × (m'.1 ≡ (slot, y) ∷ m.1)
+      × IsPage y page × ((link m'.0 f).out ≡ Some page)
+      × Did (pages paged.page_out) f m.0 m'.0 found
 
   -- the page of f came back from the seat
-  abbrev pub page_came : ℕ → Step (Value L G) → Me (Value L G) View → ℕ → Me (Value L G) View → Type 0
-  page_came f st m found m' = (m'.1 ≡ rest m.1) × ReturnsBy (overwriting (link m.0 f)) f m.0 m'.0 found
+  abbrev pub page_came : ℕ → Step (Value L G) → Me (Value L G) View → ℕ → Me (Value L G) View
+      → Type 0
+  page_came f st m found m' = (m'.1 ≡ rest m.1) × ReturnsBy (overwriting (link m.0 f)) f m.0 m'.0
+      found

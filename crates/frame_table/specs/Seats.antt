@@ -34,9 +34,20 @@ use Rattle.table_rule.specs.Blocks.{has_block}
 use Rattle.table_rule.specs.Layout.{tag_partition}
 use Rattle.table_rule.specs.Shows.{HasTurn}
 
--- What a step at a frame leaves of a view: all but its links and partitions, its marks, and what it lists and counts of steps, loads and changed words
+-- What a step at a frame leaves of a view: all but its links and partitions, its marks, and what it
+-- lists and counts of steps, loads, changed words and blocks seen in frames
 abbrev pub self_of : View → View
-self_of v = record v { links = []; partitions = []; steps = 0; loads = []; changes = []; dirtied_or_synced = false; had_output = false; last_ended = None; unentered = []; residents = [] }
+self_of v = record v {
+  links = [];
+  partitions = [];
+  steps = 0;
+  loads = [];
+  changes = [];
+  dirtied_or_synced = false;
+  had_output = false;
+  last_ended = None;
+  residents = [];
+}
 
 abbrev pub SameSelf : View → View → Type 0
 SameSelf v w = self_of w ≡ self_of v
@@ -48,17 +59,24 @@ pub record ViewMarks : Type 0 where
   pub last_ended : Option StateWord
 
 abbrev pub view_marks : View → ViewMarks
-view_marks v = record { dirtied_or_synced = v.dirtied_or_synced; had_output = v.had_output; last_ended = v.last_ended }
+view_marks v = record {
+  dirtied_or_synced = v.dirtied_or_synced;
+  had_output = v.had_output;
+  last_ended = v.last_ended;
+}
 
 abbrev pub SameMarks : View → View → Type 0
 SameMarks v w = view_marks w ≡ view_marks v
 
--- A view that marked a frame dirty, one that began to read or to write a page, and one that ended it with this word
+-- A view that marked a frame dirty, one that began to read or to write a page, and one that ended
+-- it with this word
 abbrev pub MarksDirty : View → View → Type 0
 MarksDirty v w = view_marks w ≡ record (view_marks v) { dirtied_or_synced = true }
 
 abbrev pub MarksBegun : Bool → View → View → Type 0
-MarksBegun input v w = view_marks w ≡ record (view_marks v) { had_output = v.had_output || not input }
+MarksBegun input v w = view_marks w ≡ record (view_marks v) {
+  had_output = v.had_output || not input;
+}
 
 abbrev pub MarksEnded : StateWord → View → View → Type 0
 MarksEnded stored v w = view_marks w ≡ record (view_marks v) { last_ended = Some stored }
@@ -105,7 +123,9 @@ pub record ListsOnly (f : ℕ) (v w : View) : Type 0 where
   pub loads : AddsOnly (λ (l : Load). IsOfNoOther f l.loaded_word) v.loads w.loads
   pub changes : AddsOnly (λ (c : WordChange). c.frame ≡ f) v.changes w.changes
 
--- What only rises: what is listed is added to, what is counted doesn't fall, and so with the positions up to which lanes were swept, and those of the log that were seen; a log that was seen down stays so
+-- What only rises: what is listed is added to, what is counted doesn't fall, and so with the
+-- positions up to which lanes were swept, and those of the log that were seen; a log that was seen
+-- down stays so
 pub record OnlyRises (v w : View) : Type 0 where
   pub grows : Grows v w
   pub swept : (q : ℕ) → (lane_hold v q).swept ≤ (lane_hold w q).swept
@@ -113,7 +133,9 @@ pub record OnlyRises (v w : View) : Type 0 where
   pub flushed : v.flushed ≤ w.flushed
   pub down : v.saw_down ≡ true → w.saw_down ≡ true
 
--- the link after a load of the state word, which is w: a pin sees BM_VALID, a wait goes on only while its number stands beside BM_PIN_COUNT_WAITER, and the checkpoint passes a frame that isn't dirty, and has no more to write one without BM_CHECKPOINT_NEEDED
+-- the link after a load of the state word, which is w: a pin sees BM_VALID, a wait goes on only
+-- while its number stands beside BM_PIN_COUNT_WAITER, and the checkpoint passes a frame that isn't
+-- dirty, and has no more to write one without BM_CHECKPOINT_NEEDED
 abbrev pub loaded_link : StateWord → Link → Link
 loaded_link w l = record l {
   seen_valid = seen_valid_after l.pending l.role w.valid l.seen_valid;
@@ -131,7 +153,8 @@ pub record IsWordOf (l : Link) (w : StateWord) : Type 0 where
   pub usage : w.usage ≤ 5
   -- there are at most 64 pins, one for each backend
   pub few : w.pins ≤ 64
-  -- a frame that the view pins has a pin, and one whose tag it remembers, or whose BM_VALID it has seen, has these
+  -- a frame that the view pins has a pin, and one whose tag it remembers, or whose BM_VALID it has
+  -- seen, has these
   pub pinned : l.role ≢ Absent → 0 < w.pins
   pub remembered : l.tag ≢ None → w.tag_valid ≡ true
   pub seen : l.seen_valid ≡ true → w.valid ≡ true
@@ -142,7 +165,8 @@ pub record IsWordOf (l : Link) (w : StateWord) : Type 0 where
   -- while the view holds the header the word is the one that it holds
   pub held : (own : StateWord) → l.header ≡ Some own → w ≡ own
 
--- What loads of the state word leave of a link: all but what the pin has seen, a wait, and the checkpoint's notes
+-- What loads of the state word leave of a link: all but what the pin has seen, a wait, and the
+-- checkpoint's notes
 pub record Looked (l m : Link) : Type 0 where
   pub role : m.role ≡ l.role
   pub tag : m.tag ≡ l.tag
@@ -167,7 +191,8 @@ pub record Looked (l m : Link) : Type 0 where
   pub seen_valid : l.seen_valid ≡ true → m.seen_valid ≡ true
   -- if no wait was there, none is
   pub waits : l.waits ≡ None → m.waits ≡ None
-  -- a frame that the checkpoint has visited stays visited, and none becomes one that it has to write
+  -- a frame that the checkpoint has visited stays visited, and none becomes one that it has to
+  -- write
   pub visited : l.visited ≡ true → m.visited ≡ true
   pub left_to_write : l.left_to_write ≡ false → m.left_to_write ≡ false
 
@@ -262,17 +287,21 @@ RemembersNoOther tag l = (other : ℕ) → l.tag ≡ Some other → other ≡ ta
 pub record Lacks (v : View) (tag : ℕ) : Type 0 where
   pub home : (hold v (tag_partition tag)).out ≡ None
   pub seen : (hold v (tag_partition tag)).seen ≢ None
-  pub lacks : (entries : List MapEntry) → (hold v (tag_partition tag)).seen ≡ Some entries → found entries tag ≡ None
+  pub lacks : (entries : List MapEntry) → (hold v (tag_partition tag)).seen ≡ Some entries
+      → found entries tag ≡ None
 
--- The view has the latch of the tag's partition, no pair named there, and it has seen the map, which is home again, and gives the frame for the tag
+-- The view has the latch of the tag's partition, no pair named there, and it has seen the map,
+-- which is home again, and gives the frame for the tag
 pub record Finds (v : View) (tag f : ℕ) : Type 0 where
   pub held : (hold v (tag_partition tag)).held ≡ true
   pub no_change : (hold v (tag_partition tag)).change ≡ Stable
   pub home : (hold v (tag_partition tag)).out ≡ None
   pub seen : (hold v (tag_partition tag)).seen ≢ None
-  pub finds : (entries : List MapEntry) → (hold v (tag_partition tag)).seen ≡ Some entries → found entries tag ≡ Some f
+  pub finds : (entries : List MapEntry) → (hold v (tag_partition tag)).seen ≡ Some entries
+      → found entries tag ≡ Some f
 
--- A tag may be stored: it is of a block of the relations, the frame has none, and the map of its partition lacks it
+-- A tag may be stored: it is of a block of the relations, the frame has none, and the map of its
+-- partition lacks it
 pub record MayStoreTag (relations : List RelEntry) (tag : Tag) (v : View) (f : ℕ) : Type 0 where
   pub named : names_block tag ≡ true
   pub listed : has_block relations tag ≡ true
@@ -308,7 +337,8 @@ abbrev pub tag_word : Option Tag → ℕ
 tag_word None = no_tag
 tag_word (Some tag) = packed_tag tag
 
--- what the view has of the latches after it stored a tag, or took away the one that it knows: the pair is named in change
+-- what the view has of the latches after it stored a tag, or took away the one that it knows: the
+-- pair is named in change
 abbrev pub partitions_erased : Option ℕ → ℕ → View → List PartitionHold
 partitions_erased None f v = v.partitions
 partitions_erased (Some tag) f v = holds_naming (Leaving tag f) tag_partition v
@@ -324,7 +354,8 @@ pub record NamesIn (p : ℕ) (change : MapChange) (v w : View) : Type 0 where
 
 -- the pair that it names as it stores a tag, or takes away the one that it knows
 abbrev pub NamesStored : Option Tag → ℕ → View → View → Type 0
-NamesStored None f v w = (tag : ℕ) → (link v f).tag ≡ Some tag → NamesIn (tag_partition tag) (Leaving tag f) v w
+NamesStored None f v w = (tag : ℕ) → (link v f).tag ≡ Some tag
+    → NamesIn (tag_partition tag) (Leaving tag f) v w
 NamesStored (Some tag) f v w = NamesIn (partition_number tag) (Entering (packed_tag tag) f) v w
 
 -- what a pin remembers after a load of the tag word
@@ -353,6 +384,10 @@ pub record Touches (f : ℕ) (v w : View) : Type 0 where
   pub lists : ListsOnly f v w
   pub partitions : w.partitions ≡ v.partitions
   pub others : (g : ℕ) → g ≢ f → link w g ≡ link v g
+
+-- A step at the frame f that may note its block as unentered, and else touches f alone
+abbrev pub TouchesOrNotes : ℕ → View → View → Type 0
+TouchesOrNotes f v w = Touches f (record v { unentered = w.unentered }) w
 
 module _ {L G : Type 0} where
   abbrev pub frames_of : FrameTable L G → ℕ

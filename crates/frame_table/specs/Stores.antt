@@ -29,32 +29,47 @@ pub record Makes (k : FrameKind) (f : ℕ) (found left : StateWord) : Type 0 whe
   pub is : left ≡ (frame_after k state f).word
 
 module _ {L G : Type 0} (d : Devices L G) (o : Opening L G) where
-  -- The rule holds of the table t, the seat `id` with what it has is one of its seats, and its word i has 64 bits
-  pub record IsSeated (slots id i : ℕ) (me : Me (Value L G) View) (t : table.State (Value L G) View) : Type 0 where
+  -- The rule holds of the table t, the seat `id` with what it has is one of its seats, and its word
+  -- i has 64 bits
+  pub record IsSeated (slots id i : ℕ) (me : Me (Value L G) View) (t : table.State (Value L G) View)
+      : Type 0 where
     pub held : RuleHolds d o t
     pub wide : length t.homes ≡ slots
     pub there : get_elem? t.views id ≡ some me.0
     pub small : slice_index t.words i < 18446744073709551616
 
-  -- Whatever operation g on the state word of a frame keeps the rule and tells of a step of the kind k: the fields of what it stores are these, by those of the word found
+  -- Whatever operation g on the state word of a frame keeps the rule and tells of a step of the
+  -- kind k: the fields of what it stores are these, by those of the word found
   abbrev pub MustStore : FrameKind → (ℕ → StateWord → StateWord → Type 0) → Type 0
-  MustStore k stores = (choice : Choice) (slots id f a b : ℕ) (g : ℕ → ℕ) (me : Me (Value L G) View) (t : table.State (Value L G) View) → choice_part choice ≡ state_word → f < o.config.frames → IsSeated slots id (state_place f) me t
-      → Allows (RuleHolds d o) slots id me (state_place f) g (tells choice (step slots (state_place f) a b none) me) → chosen choice a (slice_index t.words (state_place f)) ≡ k
-      → stores f (fields (slice_index t.words (state_place f))) (fields (g (slice_index t.words (state_place f))))
+  MustStore k stores = (choice : Choice) (slots id f a b : ℕ) (g : ℕ → ℕ) (me : Me (Value L G) View)
+      (t : table.State (Value L G) View) → choice_part choice ≡ state_word → f < o.config.frames
+      → IsSeated slots id (state_place f) me t
+      → Allows (RuleHolds d o) slots id me (state_place f) g
+      (tells choice (step slots (state_place f) a b none) me)
+      → chosen choice a (slice_index t.words (state_place f)) ≡ k
+      → stores f (fields (slice_index t.words (state_place f)))
+      (fields (g (slice_index t.words (state_place f))))
 
   -- Whatever operation g on the clock's hand keeps the rule and tells of a move of the hand: it
   -- stores the number of the next frame
   abbrev pub HandMustMove : Type 0
-  HandMustMove = (slots id a b : ℕ) (g : ℕ → ℕ) (me : Me (Value L G) View) (t : table.State (Value L G) View) → IsSeated slots id (hand_place o.config.frames) me t
-      → Allows (RuleHolds d o) slots id me (hand_place o.config.frames) g (tells_word add_hand (step slots (hand_place o.config.frames) a b none) me)
-      → g (slice_index t.words (hand_place o.config.frames)) ≡ next_hand (slice_index t.words (hand_place o.config.frames))
+  HandMustMove = (slots id a b : ℕ) (g : ℕ → ℕ) (me : Me (Value L G) View)
+      (t : table.State (Value L G) View) → IsSeated slots id (hand_place o.config.frames) me t
+      → Allows (RuleHolds d o) slots id me (hand_place o.config.frames) g
+      (tells_word add_hand (step slots (hand_place o.config.frames) a b none) me)
+      → g (slice_index t.words (hand_place o.config.frames)) ≡ next_hand
+      (slice_index t.words (hand_place o.config.frames))
 
   -- Whatever operation g on the word of the flushed position keeps the rule and tells that the
   -- position was raised: it stores the larger of that word and of the log's end
   abbrev pub FlushedMustRise : Type 0
-  FlushedMustRise = (slots id a b : ℕ) (g : ℕ → ℕ) (me : Me (Value L G) View) (t : table.State (Value L G) View) → IsSeated slots id (flushed_place o.config.frames) me t
-      → Allows (RuleHolds d o) slots id me (flushed_place o.config.frames) g (tells_word raise_flushed (step slots (flushed_place o.config.frames) a b none) me)
-      → g (slice_index t.words (flushed_place o.config.frames)) ≡ max (slice_index t.words (flushed_place o.config.frames)) (slice_index t.words (end_place o.config.frames))
+  FlushedMustRise = (slots id a b : ℕ) (g : ℕ → ℕ) (me : Me (Value L G) View)
+      (t : table.State (Value L G) View) → IsSeated slots id (flushed_place o.config.frames) me t
+      → Allows (RuleHolds d o) slots id me (flushed_place o.config.frames) g
+      (tells_word raise_flushed (step slots (flushed_place o.config.frames) a b none) me)
+      → g (slice_index t.words (flushed_place o.config.frames))
+      ≡ max (slice_index t.words (flushed_place o.config.frames))
+      (slice_index t.words (end_place o.config.frames))
 
   -- Whatever operation g on the word of the redo position keeps the rule and tells that the
   -- position was raised: it stores the larger of that word and of the log's end
@@ -84,6 +99,10 @@ module _ {L G : Type 0} (d : Devices L G) (o : Opening L G) where
   -- Whatever operation g on a hint word keeps the rule and tells that the word got a value: it
   -- stores that value
   abbrev pub HintMustBeStored : Type 0
-  HintMustBeStored = (number value slots id a b : ℕ) (g : ℕ → ℕ) (me : Me (Value L G) View) (t : table.State (Value L G) View) → number < hint_count o.config.frames → IsSeated slots id (hint_place o.config.frames number) me t
-      → Allows (RuleHolds d o) slots id me (hint_place o.config.frames number) g (tells_word (store_hint number value) (step slots (hint_place o.config.frames number) a b none) me)
+  HintMustBeStored = (number value slots id a b : ℕ) (g : ℕ → ℕ) (me : Me (Value L G) View)
+      (t : table.State (Value L G) View) → number < hint_count o.config.frames
+      → IsSeated slots id (hint_place o.config.frames number) me t
+      → Allows (RuleHolds d o) slots id me (hint_place o.config.frames number) g
+      (tells_word (store_hint number value) (step slots (hint_place o.config.frames number) a b
+      none) me)
       → g (slice_index t.words (hint_place o.config.frames number)) ≡ value

@@ -81,7 +81,8 @@ abbrev pub word_event : WordKind → ℕ → Event
 word_event (at_word k) i = word i k
 word_event (read_end f) i = read i f
 
--- A page was copied at a frame under a content lock that is held still, no entry is unapplied there, and the pin remembers the tag
+-- A page was copied at a frame under a content lock that is held still, no entry is unapplied
+-- there, and the pin remembers the tag
 pub record IsCopied (l : Link) : Type 0 where
   pub right : l.content ≢ Unlocked
   pub copied : l.copied ≢ None
@@ -106,7 +107,8 @@ end_known v = unwrap_or v.log.end 0
 -- What a kind makes of the view, if the number found is `found`
 abbrev pub view_of : WordKind → ℕ → View → View
 view_of (at_word k) found v = view_after_word k found (end_known v) v
-view_of (read_end f) found v = looked (seen.LogEnd found) (read_of (link v f).tag (link v f).copied found v)
+view_of (read_end f) found v = looked (seen.LogEnd found)
+    (read_of (link v f).tag (link v f).copied found v)
 
 -- a view that has added to a counter
 abbrev pub view_published : ℕ → ℕ → View → View
@@ -117,7 +119,8 @@ view_published number more v = record v {
 
 -- the state after it, by backend i, whose view is v
 abbrev pub next_of : WordKind → State → ℕ → View → State
-next_of k s i v = state_set (kind_word k) (number_left k s) s i (view_of k (word_of (kind_word k) s) v)
+next_of k s i v = state_set (kind_word k) (number_left k s) s i
+    (view_of k (word_of (kind_word k) s) v)
 
 -- The view v became w by a step of the kind k, which found its word as `found`
 pub record DidWord (k : WordKind) (v w : View) (found : ℕ) : Type 0 where
@@ -134,11 +137,13 @@ pub record DidWord (k : WordKind) (v w : View) (found : ℕ) : Type 0 where
 
 module _ {L G : Type 0} where
   -- a step at such a word: the slots in hand stay
-  abbrev pub tells_word : WordKind → Step (Value L G) → Me (Value L G) View → ℕ → Me (Value L G) View → Type 0
+  abbrev pub tells_word : WordKind → Step (Value L G) → Me (Value L G) View → ℕ
+      → Me (Value L G) View → Type 0
   tells_word k st m found m' = (m'.1 ≡ m.1) × DidWord k m.0 m'.0 found
 
   -- a load of a hint word in a table of n frames: it names none past them
-  abbrev pub tells_hint : ℕ → ℕ → Step (Value L G) → Me (Value L G) View → ℕ → Me (Value L G) View → Type 0
+  abbrev pub tells_hint : ℕ → ℕ → Step (Value L G) → Me (Value L G) View → ℕ → Me (Value L G) View
+      → Type 0
   tells_hint n number st m found m' = tells_word (load_hint number) st m found m' × (found ≤ n)
 
   -- a load of the redo position, over a log that begins at `base`: it is there or past that

@@ -19,10 +19,12 @@ impl<L: BlockLane, G: LogDevice> FrameTable<L, G> {
         self.config.lanes
     }
 
-    /// How many blocks the fork of a tag's relation has. Each block below names one that the table holds.
+    /// How many blocks the fork of a tag's relation has. Each block below names one that the table
+    /// holds.
     pub fn blocks(&self, tag: &Tag) -> u32
         ensures count { result ≡ blocks_at (relations_of self.now) tag.now.rel.0 tag.now.fork }
-        ensures block { tag.now.block < result → (names_block tag.now ≡ true) × (has_block (relations_of self.now) tag.now ≡ true) }
+        ensures block { tag.now.block < result → (names_block tag.now ≡ true)
+            × (has_block (relations_of self.now) tag.now ≡ true) }
     {
         let _few = self.catalog.len();
         self.catalog.blocks(tag.rel, tag.fork)

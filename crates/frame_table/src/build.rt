@@ -18,9 +18,9 @@ use table_rule::{
 };
 
 impl<L: BlockLane, G: LogDevice> FrameTable<L, G> {
-    /// The table of these relations and devices, over a log that begins at `base`, with a seat for the first backend.
-    /// Fails only when it is out of memory, and gives the devices back then.
-    /// A known lane holds its blocks and no last write of these has failed: by the law such a block
+    /// The table of these relations and devices, over a log that begins at `base`, with a seat for
+    /// the first backend. Fails only when it is out of memory, and gives the devices back then. A
+    /// known lane holds its blocks and no last write of these has failed: by the law such a block
     /// would have a dirty frame. A known log has just its head.
     pub fn build(
         alloc: Global,
@@ -32,12 +32,17 @@ impl<L: BlockLane, G: LogDevice> FrameTable<L, G> {
     ) -> Result<(FrameTable<L, G>, Seat<Value<L, G>, View>), BuildRefused<L, G>>
         requires frames { (1 ≤ config.frames) × (config.frames ≤ 4096) }
         requires backends { (1 ≤ config.passes) × (config.passes ≤ 64) }
-        requires lanes { (1 ≤ config.lanes) × (config.lanes ≤ 16) × (length lanes.items ≡ config.lanes) }
+        requires lanes { (1 ≤ config.lanes) × (config.lanes ≤ 16)
+            × (length lanes.items ≡ config.lanes) }
         requires base { base ≤ last_position }
         requires devices { AreLanes (devices L.BlockLane G.LogDevice) catalog lanes.items }
         requires log { IsNewLog (devices L.BlockLane G.LogDevice) base log }
-        ensures key { IfOk result (λ t. (t.0.table.shared.key.config ≡ config) × (t.0.table.shared.key.catalog.value ≡ catalog) × (t.0.table.shared.key.lanes.value ≡ lanes) × (t.0.table.shared.key.log.value ≡ log) × (t.0.table.shared.key.base ≡ base)) }
-        ensures seat { IfOk result (λ t. Fits t.0 t.1 × (t.1.id ≡ 0) × (t.1.me ≡ (starting t.0.table.shared.key, []))) }
+        ensures key { IfOk result (λ t. (t.0.table.shared.key.config ≡ config)
+            × (t.0.table.shared.key.catalog.value ≡ catalog)
+            × (t.0.table.shared.key.lanes.value ≡ lanes) × (t.0.table.shared.key.log.value ≡ log)
+            × (t.0.table.shared.key.base ≡ base)) }
+        ensures seat { IfOk result (λ t. Fits t.0 t.1 × (t.1.id ≡ 0)
+            × (t.1.me ≡ (starting t.0.table.shared.key, []))) }
         ensures rest { IfOk result (λ t. IsIdle t.1.me.0) }
         ensures back { IfErr result (λ r. (r.lanes.items ≡ lanes.items) × (r.log ≡ log)) }
     {
@@ -77,7 +82,8 @@ impl<L: BlockLane, G: LogDevice> FrameTable<L, G> {
     /// The devices come back, once the first backend holds nothing and has taken in all others.
     pub fn close(self, seat: Seat<Value<L, G>, View>) -> (Vec<L>, G)
         requires { CanClose self seat }
-        ensures { Closes (devices L.BlockLane G.LogDevice) self.table.shared.key seat.me.0 result.0.items result.1 }
+        ensures { Closes (devices L.BlockLane G.LogDevice) self.table.shared.key seat.me.0
+            result.0.items result.1 }
     {
         let FrameTable {
             table,

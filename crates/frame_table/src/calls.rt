@@ -27,10 +27,12 @@ use table_rule::{Value, state_place};
 impl<L: BlockLane, G: LogDevice> FrameTable<L, G> {
     fn look_at<D: AtLook>(&self, seat: &mut Seat<Value<L, G>, View>, _frame: u32) -> u64
         requires frame { D.frame ≡ _frame }
-        requires known { (D.relations ≡ relations_of self.now) × (D.lanes ≡ lanes_in self.now) × (D.held ≡ map L.contents (opened_of self.now)) }
+        requires known { (D.relations ≡ relations_of self.now) × (D.lanes ≡ lanes_in self.now)
+            × (D.held ≡ map L.contents (opened_of self.now)) }
         requires seat { CanStep self.now seat.old _frame }
         ensures seat { SameSeat seat.old seat.new }
-        ensures fits { FitsHeld (relations_of self.now) (lanes_in self.now) (map L.contents (opened_of self.now)) (link seat.old.me.0 _frame) (fields result) }
+        ensures fits { FitsHeld (relations_of self.now) (lanes_in self.now)
+            (map L.contents (opened_of self.now)) (link seat.old.me.0 _frame) (fields result) }
         ensures did { Did looking _frame seat.old.me.0 seat.new.me.0 result }
     {
         self.table.shared.load::<Look<D>>(seat, state_place(_frame))
@@ -44,13 +46,18 @@ impl<L: BlockLane, G: LogDevice> FrameTable<L, G> {
         ensures touches { Touches frame seat.old.me.0 seat.new.me.0 }
         ensures marks { SameMarks seat.old.me.0 seat.new.me.0 }
         ensures link { Looked (link seat.old.me.0 frame) (link seat.new.me.0 frame) }
-        ensures loaded { link seat.new.me.0 frame ≡ loaded_link (fields result) (link seat.old.me.0 frame) }
+        ensures loaded { link seat.new.me.0 frame ≡ loaded_link (fields result)
+            (link seat.old.me.0 frame) }
         ensures word { IsWordOf (link seat.old.me.0 frame) (fields result) }
-        ensures opening { FitsOpening L.contents self.now (link seat.old.me.0 frame) (fields result) }
-        ensures seen { (link seat.old.me.0 frame).role ≡ HandedOut → (fields result).valid ≡ true → (link seat.new.me.0 frame).seen_valid ≡ true }
+        ensures opening { FitsOpening L.contents self.now (link seat.old.me.0 frame)
+            (fields result) }
+        ensures seen { (link seat.old.me.0 frame).role ≡ HandedOut → (fields result).valid ≡ true
+            → (link seat.new.me.0 frame).seen_valid ≡ true }
         ensures over { (fields result).awaited ≡ false → (link seat.new.me.0 frame).waits ≡ None }
-        ensures visited { (fields result).dirty ≡ false → (link seat.new.me.0 frame).visited ≡ true }
-        ensures written { (fields result).checkpoint_needed ≡ false → (link seat.new.me.0 frame).left_to_write ≡ false }
+        ensures visited { (fields result).dirty ≡ false
+            → (link seat.new.me.0 frame).visited ≡ true }
+        ensures written { (fields result).checkpoint_needed ≡ false
+            → (link seat.new.me.0 frame).left_to_write ≡ false }
         ensures did { Did looking frame seat.old.me.0 seat.new.me.0 result }
     {
         self.look_at::<Brand>(seat, frame)
@@ -70,7 +77,8 @@ impl<L: BlockLane, G: LogDevice> FrameTable<L, G> {
         requires was { (has_locked was ≡ false) × (has_tag was ≡ true) }
         requires new { fields new ≡ pinned_fields _ring (fields was) }
         ensures seat { SameSeat seat.old seat.new }
-        ensures did { Did (chosen (if_found (pins (kinds.pin _ring))) was result) frame seat.old.me.0 seat.new.me.0 result }
+        ensures did { Did (chosen (if_found (pins (kinds.pin _ring))) was result) frame
+            seat.old.me.0 seat.new.me.0 result }
     {
         self.table
             .shared
@@ -90,9 +98,13 @@ impl<L: BlockLane, G: LogDevice> FrameTable<L, G> {
         ensures touches { Touches frame seat.old.me.0 seat.new.me.0 }
         ensures marks { SameMarks seat.old.me.0 seat.new.me.0 }
         ensures pin { IfOk result (λ p. p.frame ≡ frame) }
-        ensures pinned { IfOk result (λ _. Looked (pinned_link ring (link seat.old.me.0 frame)) (link seat.new.me.0 frame)) }
+        ensures pinned { IfOk result (λ _. Looked (pinned_link ring (link seat.old.me.0 frame))
+            (link seat.new.me.0 frame)) }
         ensures left { IfErr result (λ _. Looked (link seat.old.me.0 frame) (link seat.new.me.0 frame)) }
-        ensures did { MatchResult result (λ _. (v : View) × (was : ℕ) × Did looking frame seat.old.me.0 v was × Did (pins (kinds.pin ring)) frame v seat.new.me.0 was) (Refuses frame seat.old.me.0 seat.new.me.0) }
+        ensures did { MatchResult result (λ _. (v : View) × (was : ℕ)
+            × Did looking frame seat.old.me.0 v was
+            × Did (pins (kinds.pin ring)) frame v seat.new.me.0 was)
+            (Refuses frame seat.old.me.0 seat.new.me.0) }
     {
         let was = self.look(seat, frame);
         if has(was, Flag::Locked) {
@@ -117,7 +129,8 @@ impl<L: BlockLane, G: LogDevice> FrameTable<L, G> {
         ensures seat { SameSeat seat.old seat.new }
         ensures touches { Touches pin.frame seat.old.me.0 seat.new.me.0 }
         ensures marks { SameMarks seat.old.me.0 seat.new.me.0 }
-        ensures unpinned { Looked (unpinned_link (link seat.old.me.0 pin.frame)) (link seat.new.me.0 pin.frame) }
+        ensures unpinned { Looked (unpinned_link (link seat.old.me.0 pin.frame))
+            (link seat.new.me.0 pin.frame) }
         ensures did { Unpinned pin.frame result seat.old.me.0 seat.new.me.0 }
     {
         let Pin { frame } = pin;
@@ -134,7 +147,8 @@ impl<L: BlockLane, G: LogDevice> FrameTable<L, G> {
         requires seat { CanStep self.now seat.old frame }
         requires pinned { MayUnpin (link seat.old.me.0 frame) }
         ensures seat { SameSeat seat.old seat.new }
-        ensures did { MatchOption result (Looks frame seat.old.me.0 seat.new.me.0) (λ left. Unpinned frame left seat.old.me.0 seat.new.me.0) }
+        ensures did { MatchOption result (Looks frame seat.old.me.0 seat.new.me.0)
+            (λ left. Unpinned frame left seat.old.me.0 seat.new.me.0) }
     {
         let was = self.look(seat, frame);
         if has(was, Flag::Locked) {
@@ -163,9 +177,12 @@ impl<L: BlockLane, G: LogDevice> FrameTable<L, G> {
         ensures seat { SameSeat seat.old seat.new }
         ensures touches { Touches frame seat.old.me.0 seat.new.me.0 }
         ensures marks { SameMarks seat.old.me.0 seat.new.me.0 }
-        ensures locked { Looked (locked_link result (link seat.old.me.0 frame)) (link seat.new.me.0 frame) }
+        ensures locked { Looked (locked_link result (link seat.old.me.0 frame))
+            (link seat.new.me.0 frame) }
         ensures word { IsWordOf (link seat.old.me.0 frame) (fields result) }
-        ensures did { (v : View) × (was : ℕ) × Looks frame seat.old.me.0 v × Did (pins kinds.lock_header) frame v seat.new.me.0 was × (fields result ≡ locked_fields (fields was)) }
+        ensures did { (v : View) × (was : ℕ) × Looks frame seat.old.me.0 v
+            × Did (pins kinds.lock_header) frame v seat.new.me.0 was
+            × (fields result ≡ locked_fields (fields was)) }
     {
         for _ in rt.forever() {
             let found = self.or_lock(seat, frame);
@@ -181,7 +198,8 @@ impl<L: BlockLane, G: LogDevice> FrameTable<L, G> {
         requires seat { CanStep self.now seat.old frame }
         requires headless { HoldsNoHeader seat.old.me.0 }
         ensures seat { SameSeat seat.old seat.new }
-        ensures did { Did (chosen (if_unlocked (pins kinds.lock_header)) LOCKED result) frame seat.old.me.0 seat.new.me.0 result }
+        ensures did { Did (chosen (if_unlocked (pins kinds.lock_header)) LOCKED result) frame
+            seat.old.me.0 seat.new.me.0 result }
     {
         self.table
             .shared
@@ -196,7 +214,8 @@ impl<L: BlockLane, G: LogDevice> FrameTable<L, G> {
         ensures touches { Touches frame seat.old.me.0 seat.new.me.0 }
         ensures marks { SameMarks seat.old.me.0 seat.new.me.0 }
         ensures unlocked { link seat.new.me.0 frame ≡ unlocked_link (link seat.old.me.0 frame) }
-        ensures did { (was : ℕ) × Did (pins kinds.unlock_header) frame seat.old.me.0 seat.new.me.0 was }
+        ensures did { (was : ℕ) × Did (pins kinds.unlock_header) frame seat.old.me.0 seat.new.me.0
+            was }
     {
         self.table
             .shared

@@ -4,9 +4,12 @@ ghost use Rattle.pin_core.specs.declared.view.Content.TheVariants.{Shared};
 ghost use Rattle.pin_core.specs.State.{link};
 ghost use Rattle.page_core.specs.Kinds as kinds;
 ghost use Rattle.frame_table.specs.Kinds.{pages};
-ghost use Rattle.frame_table.specs.Seats.{CanStep, SameMarks, SameSeat, Touches};
+ghost use Rattle.frame_table.specs.Seats.{CanStep, SameMarks, SameSeat, Touches, TouchesOrNotes};
 ghost use Rattle.frame_table.specs.FrameSteps.{Did};
-ghost use Rattle.frame_table.specs.Content.{CanDropCopy, CanDropExclusive, CanDropShare, CanLock, copying_link, exclusive_link, has_copying, has_exclusive, looking_content, shared_link, unexclusive_link, unshared_link};
+ghost use Rattle.frame_table.specs.Content.{CanDropCopy, CanDropExclusive, CanDropShare, CanLock};
+ghost use Rattle.frame_table.specs.Content.{HoldsNoUnentered, copying_link, exclusive_link};
+ghost use Rattle.frame_table.specs.Content.{has_copying, has_exclusive, looking_content, shared_link};
+ghost use Rattle.frame_table.specs.Content.{unexclusive_link, unshared_link};
 
 use crate::content_plays::{Exclude, LeaveCopy, LookContent, Share, TakeCopy, Unexclude, Unshare};
 use crate::content_word::{COPYING, EXCLUSIVE};
@@ -50,7 +53,9 @@ impl<L: BlockLane, G: LogDevice> FrameTable<L, G> {
         ensures marks { SameMarks seat.old.me.0 seat.new.me.0 }
         ensures shared { IfOk result (λ _. link seat.new.me.0 frame ≡ shared_link (link seat.old.me.0 frame)) }
         ensures left { IfErr result (λ _. link seat.new.me.0 frame ≡ link seat.old.me.0 frame) }
-        ensures did { MatchResult result (λ _. Did (pages kinds.share) frame seat.old.me.0 seat.new.me.0 was) (λ found. (found ≢ was) × (found < 2 ^ 20) × Did looking_content frame seat.old.me.0 seat.new.me.0 found) }
+        ensures did { MatchResult result (λ _. Did (pages kinds.share) frame seat.old.me.0 seat.new.me.0 was)
+            (λ found. (found ≢ was) × (found < 2 ^ 20)
+            × Did looking_content frame seat.old.me.0 seat.new.me.0 found) }
     {
         let found = self
             .table
@@ -73,9 +78,12 @@ impl<L: BlockLane, G: LogDevice> FrameTable<L, G> {
         ensures seat { SameSeat seat.old seat.new }
         ensures touches { Touches frame seat.old.me.0 seat.new.me.0 }
         ensures marks { SameMarks seat.old.me.0 seat.new.me.0 }
-        ensures exclusive { IfOk result (λ _. link seat.new.me.0 frame ≡ exclusive_link (link seat.old.me.0 frame)) }
+        ensures exclusive { IfOk result (λ _. link seat.new.me.0 frame ≡ exclusive_link
+            (link seat.old.me.0 frame)) }
         ensures left { IfErr result (λ _. link seat.new.me.0 frame ≡ link seat.old.me.0 frame) }
-        ensures did { MatchResult result (λ _. Did (pages kinds.exclude) frame seat.old.me.0 seat.new.me.0 was) (λ found. (found ≢ was) × (found < 2 ^ 20) × Did looking_content frame seat.old.me.0 seat.new.me.0 found) }
+        ensures did { MatchResult result (λ _. Did (pages kinds.exclude) frame seat.old.me.0 seat.new.me.0
+            was) (λ found. (found ≢ was) × (found < 2 ^ 20)
+            × Did looking_content frame seat.old.me.0 seat.new.me.0 found) }
     {
         let found = self
             .table
@@ -98,9 +106,12 @@ impl<L: BlockLane, G: LogDevice> FrameTable<L, G> {
         ensures seat { SameSeat seat.old seat.new }
         ensures touches { Touches frame seat.old.me.0 seat.new.me.0 }
         ensures marks { SameMarks seat.old.me.0 seat.new.me.0 }
-        ensures taken { IfOk result (λ _. link seat.new.me.0 frame ≡ copying_link true (link seat.old.me.0 frame)) }
+        ensures taken { IfOk result (λ _. link seat.new.me.0 frame ≡ copying_link true
+            (link seat.old.me.0 frame)) }
         ensures left { IfErr result (λ _. link seat.new.me.0 frame ≡ link seat.old.me.0 frame) }
-        ensures did { MatchResult result (λ _. Did (pages kinds.take_copy) frame seat.old.me.0 seat.new.me.0 was) (λ found. (found ≢ was) × (found < 2 ^ 20) × Did looking_content frame seat.old.me.0 seat.new.me.0 found) }
+        ensures did { MatchResult result (λ _. Did (pages kinds.take_copy) frame seat.old.me.0
+            seat.new.me.0 was) (λ found. (found ≢ was) × (found < 2 ^ 20)
+            × Did looking_content frame seat.old.me.0 seat.new.me.0 found) }
     {
         let found = self
             .table
@@ -124,15 +135,20 @@ impl<L: BlockLane, G: LogDevice> FrameTable<L, G> {
             .fetch_sub::<Step<Unshare>>(seat, content_place(frame), 1);
     }
 
-    /// Gives up the exclusive lock.
+    /// Gives up the exclusive lock. The frame's block is noted as unentered if the frame was marked
+    /// dirty under the lock, and no entry made.
     pub fn drop_exclusive(&self, seat: &mut Seat<Value<L, G>, View>, frame: u32)
         requires seat { CanStep self.now seat.old frame }
         requires view { CanDropExclusive (link seat.old.me.0 frame) }
         ensures seat { SameSeat seat.old seat.new }
-        ensures touches { Touches frame seat.old.me.0 seat.new.me.0 }
+        ensures touches { TouchesOrNotes frame seat.old.me.0 seat.new.me.0 }
+        ensures unnoted { HoldsNoUnentered (link seat.old.me.0 frame)
+            → seat.new.me.0.unentered ≡ seat.old.me.0.unentered }
         ensures marks { SameMarks seat.old.me.0 seat.new.me.0 }
-        ensures unexclusive { link seat.new.me.0 frame ≡ unexclusive_link (link seat.old.me.0 frame) }
-        ensures did { (was : ℕ) × Did (pages kinds.unexclude) frame seat.old.me.0 seat.new.me.0 was }
+        ensures unexclusive { link seat.new.me.0 frame ≡ unexclusive_link
+            (link seat.old.me.0 frame) }
+        ensures did { (was : ℕ) × Did (pages kinds.unexclude) frame seat.old.me.0 seat.new.me.0
+            was }
     {
         self.table
             .shared
@@ -147,7 +163,8 @@ impl<L: BlockLane, G: LogDevice> FrameTable<L, G> {
         ensures touches { Touches frame seat.old.me.0 seat.new.me.0 }
         ensures marks { SameMarks seat.old.me.0 seat.new.me.0 }
         ensures left { link seat.new.me.0 frame ≡ copying_link false (link seat.old.me.0 frame) }
-        ensures did { (was : ℕ) × Did (pages kinds.leave_copy) frame seat.old.me.0 seat.new.me.0 was }
+        ensures did { (was : ℕ) × Did (pages kinds.leave_copy) frame seat.old.me.0 seat.new.me.0
+            was }
     {
         self.table
             .shared

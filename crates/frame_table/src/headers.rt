@@ -40,7 +40,8 @@ impl<L: BlockLane, G: LogDevice> FrameTable<L, G> {
     fn load_packed<D: Related>(&self, seat: &mut Seat<Value<L, G>, View>, frame: u32) -> u64
         requires known { D.relations ≡ relations_of self.now }
         requires seat { CanStep self.now seat.old frame }
-        requires right { kinds.CanLoadTag (link seat.old.me.0 frame).role (link seat.old.me.0 frame).header }
+        requires right { kinds.CanLoadTag (link seat.old.me.0 frame).role
+            (link seat.old.me.0 frame).header }
         ensures seat { SameSeat seat.old seat.new }
         ensures block { result ≢ no_tag → is_block (relations_of self.now) result ≡ true }
         ensures did { Did (pins kinds.load_tag) frame seat.old.me.0 seat.new.me.0 result }
@@ -48,10 +49,12 @@ impl<L: BlockLane, G: LogDevice> FrameTable<L, G> {
         self.table.shared.load::<LoadTag<D>>(seat, tag_place(frame))
     }
 
-    /// The tag of a frame that the backend pins, or whose header it holds: that of a block of the relations. A pin remembers it, unless the backend stored the frame's tag word itself.
+    /// The tag of a frame that the backend pins, or whose header it holds: that of a block of the
+    /// relations. A pin remembers it, unless the backend stored the frame's tag word itself.
     pub fn load_tag(&self, seat: &mut Seat<Value<L, G>, View>, frame: u32) -> Option<Tag>
         requires seat { CanStep self.now seat.old frame }
-        requires right { kinds.CanLoadTag (link seat.old.me.0 frame).role (link seat.old.me.0 frame).header }
+        requires right { kinds.CanLoadTag (link seat.old.me.0 frame).role
+            (link seat.old.me.0 frame).header }
         ensures seat { SameSeat seat.old seat.new }
         ensures touches { Touches frame seat.old.me.0 seat.new.me.0 }
         ensures marks { SameMarks seat.old.me.0 seat.new.me.0 }
@@ -59,19 +62,24 @@ impl<L: BlockLane, G: LogDevice> FrameTable<L, G> {
         ensures listed { IfSome result (λ tag. has_block (relations_of self.now) tag ≡ true) }
         ensures placed { IfSome result (λ tag. tag_partition (packed_tag tag) ≡ partition_number tag) }
         ensures tagged { (link seat.old.me.0 frame).role ≡ HandedOut → is_some result ≡ true }
-        ensures handed { IfSome result (λ tag. (link seat.old.me.0 frame).role ≡ HandedOut → (link seat.new.me.0 frame).tag ≡ Some (packed_tag tag)) }
-        ensures settled { IfSome result (λ tag. (link seat.old.me.0 frame).role ≢ Absent → (link seat.old.me.0 frame).pending ≡ false → (link seat.new.me.0 frame).tag ≡ Some (packed_tag tag)) }
+        ensures handed { IfSome result (λ tag. (link seat.old.me.0 frame).role ≡ HandedOut
+            → (link seat.new.me.0 frame).tag ≡ Some (packed_tag tag)) }
+        ensures settled { IfSome result (λ tag. (link seat.old.me.0 frame).role ≢ Absent
+            → (link seat.old.me.0 frame).pending ≡ false
+            → (link seat.new.me.0 frame).tag ≡ Some (packed_tag tag)) }
         // Under the header there is a tag exactly if the held word has `BM_TAG_VALID`.
         ensures flagged { (link seat.old.me.0 frame).pending ≡ false
             → IfSome (link seat.old.me.0 frame).header (λ word. is_some result ≡ word.tag_valid) }
         ensures read { link seat.new.me.0 frame ≡ read_link result (link seat.old.me.0 frame) }
-        ensures did { Did (pins kinds.load_tag) frame seat.old.me.0 seat.new.me.0 (tag_word result) }
+        ensures did { Did (pins kinds.load_tag) frame seat.old.me.0 seat.new.me.0
+            (tag_word result) }
     {
         let word = self.load_packed::<Brand>(seat, frame);
         Tag::unpack(word)
     }
 
-    /// Pins the frame that the clock sweep chose, and unlocks its header (`GetVictimBuffer`). The word is the one that is held.
+    /// Pins the frame that the clock sweep chose, and unlocks its header (`GetVictimBuffer`). The
+    /// word is the one that is held.
     pub fn victim_pin(&self, seat: &mut Seat<Value<L, G>, View>, frame: u32, word: u64) -> Pin
         requires seat { CanStep self.now seat.old frame }
         requires held { HoldsNumber HasRoom word (link seat.old.me.0 frame) }
@@ -91,7 +99,8 @@ impl<L: BlockLane, G: LogDevice> FrameTable<L, G> {
         Pin { frame }
     }
 
-    /// The clock sweep passes the frame: its usage count falls, and its header is unlocked (`StrategyGetBuffer`). The word is the one that is held.
+    /// The clock sweep passes the frame: its usage count falls, and its header is unlocked
+    /// (`StrategyGetBuffer`). The word is the one that is held.
     pub fn lower_usage(&self, seat: &mut Seat<Value<L, G>, View>, frame: u32, word: u64)
         requires seat { CanStep self.now seat.old frame }
         requires held { HoldsNumber IsUsed word (link seat.old.me.0 frame) }
@@ -138,8 +147,9 @@ impl<L: BlockLane, G: LogDevice> FrameTable<L, G> {
             .swap::<Step<EraseTag>>(seat, tag_place(frame), NO_TAG);
     }
 
-    /// Stores a tag in a frame without one, whose tag the map of its partition lacks (`BufferAlloc`), or takes a frame's tag away (`InvalidateVictimBuffer`).
-    /// The pair is named in change then, until the map is back with it.
+    /// Stores a tag in a frame without one, whose tag the map of its partition lacks
+    /// (`BufferAlloc`), or takes a frame's tag away (`InvalidateVictimBuffer`). The pair is named
+    /// in change then, until the map is back with it.
     pub fn store_tag(&self, seat: &mut Seat<Value<L, G>, View>, frame: u32, tag: Option<Tag>)
         requires seat { CanStep self.now seat.old frame }
         requires alone { HasOnlyPin (link seat.old.me.0 frame) }
@@ -159,7 +169,8 @@ impl<L: BlockLane, G: LogDevice> FrameTable<L, G> {
         }
     }
 
-    /// A frame whose tag was stored gets `BM_TAG_VALID`, and its header is unlocked (`BufferAlloc`). The pin is the caller's from now on. The word is the one that is held.
+    /// A frame whose tag was stored gets `BM_TAG_VALID`, and its header is unlocked
+    /// (`BufferAlloc`). The pin is the caller's from now on. The word is the one that is held.
     pub fn assign(&self, seat: &mut Seat<Value<L, G>, View>, frame: u32, word: u64)
         requires seat { CanStep self.now seat.old frame }
         requires held { HoldsNumber (HasFlag false) word (link seat.old.me.0 frame) }
@@ -167,8 +178,10 @@ impl<L: BlockLane, G: LogDevice> FrameTable<L, G> {
         ensures seat { SameSeat seat.old seat.new }
         ensures touches { Touches frame seat.old.me.0 seat.new.me.0 }
         ensures marks { SameMarks seat.old.me.0 seat.new.me.0 }
-        ensures assigned { link seat.new.me.0 frame ≡ assigned_link (link seat.new.me.0 frame).tag (link seat.old.me.0 frame) }
-        ensures tag { (p tag : ℕ) → (hold seat.old.me.0 p).change ≡ Entering tag frame → (hold seat.old.me.0 p).changed ≡ false → (link seat.new.me.0 frame).tag ≡ Some tag }
+        ensures assigned { link seat.new.me.0 frame ≡ assigned_link (link seat.new.me.0 frame).tag
+            (link seat.old.me.0 frame) }
+        ensures tag { (p tag : ℕ) → (hold seat.old.me.0 p).change ≡ Entering tag frame
+            → (hold seat.old.me.0 p).changed ≡ false → (link seat.new.me.0 frame).tag ≡ Some tag }
         ensures did { Did (pins kinds.assign) frame seat.old.me.0 seat.new.me.0 word }
     {
         self.table
@@ -176,7 +189,8 @@ impl<L: BlockLane, G: LogDevice> FrameTable<L, G> {
             .swap::<Step<Assign>>(seat, state_place(frame), unlock_with(assigned(word)));
     }
 
-    /// A frame whose tag was taken away loses its flags, and its header is unlocked (`InvalidateVictimBuffer`). The word is the one that is held.
+    /// A frame whose tag was taken away loses its flags, and its header is unlocked
+    /// (`InvalidateVictimBuffer`). The word is the one that is held.
     pub fn clear(&self, seat: &mut Seat<Value<L, G>, View>, frame: u32, word: u64)
         requires seat { CanStep self.now seat.old frame }
         requires held { HoldsNumber (HasFlag true) word (link seat.old.me.0 frame) }

@@ -52,7 +52,8 @@ impl<L: BlockLane, G: LogDevice> FrameTable<L, G> {
         requires below { number < hint_count (frames_of self.now) }
         requires named { value ≤ frames_of self.now }
         ensures seat { SameSeat seat.old seat.new }
-        ensures did { (found : ℕ) × DidWord (store_hint number value) seat.old.me.0 seat.new.me.0 found }
+        ensures did { (found : ℕ) × DidWord (store_hint number value) seat.old.me.0 seat.new.me.0
+            found }
     {
         let at = hint_place(self.frames(), number);
         // A swap: the view lists what was found there too, which nobody needs at run time.
@@ -67,7 +68,8 @@ impl<L: BlockLane, G: LogDevice> FrameTable<L, G> {
         requires below { number < hint_count (frames_of self.now) }
         requires named { value ≤ frames_of self.now }
         ensures seat { SameSeat seat.old seat.new }
-        ensures did { (found : ℕ) × DidWord (store_hint number value) seat.old.me.0 seat.new.me.0 found }
+        ensures did { (found : ℕ) × DidWord (store_hint number value) seat.old.me.0 seat.new.me.0
+            found }
     {
         self.store_at::<Brand>(seat, number, value)
     }

@@ -1,6 +1,7 @@
 //! Tokens of input and output.
 
-/// The right to read the page of a frame, or to write it. The call that ends the read or the write takes it.
+/// The right to read the page of a frame, or to write it. The call that ends the read or the write
+/// takes it.
 pub struct IoRight {
     pub(crate) frame: u32,
     pub(crate) input: bool,

@@ -1,6 +1,7 @@
 //! What the steps of a lane that goes out, or of a value that comes back, tell their seat.
-ghost use Rattle.std.specs.Prelude.{ℕ, Bool, false, List, []};
+ghost use Rattle.std.specs.Prelude.{ℕ, List, [], Option, None};
 ghost use Rattle.block_tag.specs.declared.catalogue.RelEntry.{RelEntry};
+ghost use Rattle.segment_store.specs.Contents.{Pages};
 ghost use Rattle.pin_core.specs.declared.view.View.{View};
 ghost use Rattle.history_core.specs.Steps.{Event};
 ghost use Rattle.table_rule.specs.LaneCalls.{lane_devices};
@@ -12,9 +13,10 @@ use segment_store::BlockLane;
 use std::marker::{Brand, PhantomData};
 use table_rule::Value;
 
-/// Which lane a step is at, of how many, the relations, how many frames there are, whether the lane's contents were known at the start, and its slot. Each call picks it.
+/// Which lane a step is at, of how many, the relations, how many frames there are, what the lane
+/// held at the start, if that was known, and its slot. Each call picks it.
 pub(crate) trait AtLane {
-    ghost known: { Bool };
+    ghost opened: { Option Pages };
 
     ghost relations: { List RelEntry };
 
@@ -28,7 +30,7 @@ pub(crate) trait AtLane {
 }
 
 impl AtLane for Brand {
-    ghost known = { false };
+    ghost opened = { None };
 
     ghost relations = { [] };
 
@@ -46,7 +48,8 @@ pub(crate) struct LaneOut<D> {
 }
 
 impl<L: BlockLane, G, D: AtLane> Play<Value<L, G>, View> for LaneOut<D> {
-    ghost then = { lane_went (lane_devices L.BlockLane) D.known D.relations D.lanes D.frames D.lane D.slot };
+    ghost then = { lane_went (lane_devices L.BlockLane) D.opened D.relations D.lanes D.frames
+        D.lane D.slot };
 }
 
 /// By which steps a value comes back, and what they make of the view. Each call picks it.

@@ -2,9 +2,9 @@
 //! the mapping table, the lanes and the log in one `atomic_table`, whose rule is the law of
 //! `history_core`.
 //!
-//! Start with [`FrameTable`]. Each of its calls is one step of the protocol, or the call of a device
-//! and its return, after loads if it tests or waits, and its contract says which. docs/PROTOCOL.md
-//! has the steps in words. Engines use `backend_pass`, a few crates up.
+//! Start with [`FrameTable`]. Each of its calls is one step of the protocol, or the call of a
+//! device and its return, after loads if it tests or waits, and its contract says which.
+//! docs/PROTOCOL.md has the steps in words. Engines use `backend_pass`, a few crates up.
 #![tactic(auto)]
 
 mod blocks;

@@ -12,7 +12,8 @@ use pin_core::View;
 use std::marker::{Brand, PhantomData};
 use table_rule::Value;
 
-/// The slot of the log, the call that was made while it was out, and what its device tells then. Each call picks it.
+/// The slot of the log, the call that was made while it was out, and what its device tells then.
+/// Each call picks it.
 pub(crate) trait AtLog {
     ghost slot: { ℕ };
 
@@ -50,7 +51,8 @@ impl<L, G, D: AtLog> Play<Value<L, G>, View> for LogBack<D> {
     ghost then = { log_came D.bytes D.faults D.call };
 }
 
-/// The relations, the frame whose page is entered, and the log's end after that entry. Each call picks it.
+/// The relations, the frame whose page is entered, and the log's end after that entry. Each call
+/// picks it.
 pub(crate) trait AtEnd {
     ghost relations: { List RelEntry };
 

@@ -29,14 +29,19 @@ pub enum EndLoad {
 
 impl<L: BlockLane, G: LogDevice> FrameTable<L, G> {
     fn end_at<D: AtEndLoad>(&self, seat: &mut Seat<Value<L, G>, View>, _what: EndLoad) -> u64
-        requires what { (D.what ≡ _what) × (D.frames ≡ frames_of self.now) × (D.base ≡ base_of self.now) }
-        requires known { (D.relations ≡ relations_of self.now) × (D.lanes ≡ lanes_in self.now) × (D.held ≡ map L.contents (opened_of self.now)) }
+        requires what { (D.what ≡ _what) × (D.frames ≡ frames_of self.now)
+            × (D.base ≡ base_of self.now) }
+        requires known { (D.relations ≡ relations_of self.now) × (D.lanes ≡ lanes_in self.now)
+            × (D.held ≡ map L.contents (opened_of self.now)) }
         requires seat { IsSeat self.now seat.old }
         requires allowed { IsEndAllowed (frames_of self.now) _what seat.old.me.0 }
         ensures seat { SameSeat seat.old seat.new }
         ensures base { base_of self.now ≤ result }
-        ensures held { result ≡ base_of self.now → ReadsHeld (relations_of self.now) (lanes_in self.now) (map L.contents (opened_of self.now)) _what seat.old.me.0 }
-        ensures logged { CopiesAreLogged (relations_of self.now) (lanes_in self.now) (map L.contents (opened_of self.now)) (frames_of self.now) result seat.old.me.0 }
+        ensures held { result ≡ base_of self.now
+            → ReadsHeld (relations_of self.now) (lanes_in self.now)
+            (map L.contents (opened_of self.now)) _what seat.old.me.0 }
+        ensures logged { CopiesAreLogged (relations_of self.now) (lanes_in self.now)
+            (map L.contents (opened_of self.now)) (frames_of self.now) result seat.old.me.0 }
         ensures did { DidWord (end_kind _what) seat.old.me.0 seat.new.me.0 result }
     {
         let at = end_place(self.frames());
@@ -57,7 +62,8 @@ impl<L: BlockLane, G: LogDevice> FrameTable<L, G> {
         ensures front { seat.old.me.0.front ≤ result }
         ensures later { seat.old.me.0.end_seen ≤ result }
         ensures seen { result ≤ seat.new.me.0.end_seen }
-        ensures unmarked { what ≡ Checkpoint → (f : ℕ) → link seat.new.me.0 f ≡ unmarked (link seat.old.me.0 f) }
+        ensures unmarked { what ≡ Checkpoint → (f : ℕ)
+            → link seat.new.me.0 f ≡ unmarked (link seat.old.me.0 f) }
         ensures base { base_of self.now ≤ result }
         ensures origin { ReadsOpening L.contents self.now what result seat.old.me.0 }
         ensures logged { LoggedOrOpening L.contents self.now result seat.old.me.0 }
@@ -78,7 +84,8 @@ impl<L: BlockLane, G: LogDevice> FrameTable<L, G> {
         self.table.shared.load::<StepAt<LoadFlushed>>(seat, at)
     }
 
-    /// Raises the flushed position to the log's end, which the backend has loaded under the log's latch, after a sync under it (`XLogFlush`).
+    /// Raises the flushed position to the log's end, which the backend has loaded under the log's
+    /// latch, after a sync under it (`XLogFlush`).
     pub fn raise_flushed(&self, seat: &mut Seat<Value<L, G>, View>, end: u64)
         requires seat { IsSeat self.now seat.old }
         requires synced { seat.old.me.0.log.synced ≡ true }
@@ -104,7 +111,8 @@ impl<L: BlockLane, G: LogDevice> FrameTable<L, G> {
         self.table.shared.load::<StepAt<LoadHand>>(seat, at)
     }
 
-    /// Moves the clock's hand on by one, from its last value to 0, and answers where it stood (`ClockSweepTick`).
+    /// Moves the clock's hand on by one, from its last value to 0, and answers where it stood
+    /// (`ClockSweepTick`).
     pub fn add_hand(&self, seat: &mut Seat<Value<L, G>, View>) -> u64
         requires { IsSeat self.now seat.old }
         ensures seat { SameSeat seat.old seat.new }

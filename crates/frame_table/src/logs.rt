@@ -32,12 +32,14 @@ impl<L: BlockLane, G: LogDevice> FrameTable<L, G> {
         slot: usize,
     ) -> Value<L, G>
         requires known { D.slot ≡ slot }
-        requires place { (place ≡ latch_place (frames_of self.now) Log) × (slot ≡ slot_of (frames_of self.now) (Of Log)) }
+        requires place { (place ≡ latch_place (frames_of self.now) Log)
+            × (slot ≡ slot_of (frames_of self.now) (Of Log)) }
         requires seat { CanTurn self.now seat.old Log }
         requires held { (seat.old.me.0.log.held ≡ true) × (seat.old.me.0.log.out ≡ None) }
         ensures seat { (seat.new.table_id ≡ seat.old.table_id) × (seat.new.id ≡ seat.old.id) }
         ensures hand { seat.new.me.1 ≡ (slot, value.Away) ∷ seat.old.me.1 }
-        ensures log { IsLogOut G.bytes G.synced G.faults G.calls result seat.old.me.0 seat.new.me.0 }
+        ensures log { IsLogOut G.bytes G.synced G.faults G.calls result seat.old.me.0
+            seat.new.me.0 }
     {
         // An exchange of a slot is no step of its own: the load is, and its value tells nothing.
         self.table.shared.load::<LogOut<D>>(seat, place);
@@ -49,11 +51,13 @@ impl<L: BlockLane, G: LogDevice> FrameTable<L, G> {
         requires seat { CanTurn self.now seat.old Log }
         requires held { (seat.old.me.0.log.held ≡ true) × (seat.old.me.0.log.out ≡ None) }
         ensures seat { (seat.new.table_id ≡ seat.old.table_id) × (seat.new.id ≡ seat.old.id) }
-        ensures hand { seat.new.me.1 ≡ (slot_of (frames_of self.now) (Of Log), value.Away) ∷ seat.old.me.1 }
+        ensures hand { seat.new.me.1 ≡ (slot_of (frames_of self.now) (Of Log), value.Away)
+            ∷ seat.old.me.1 }
         ensures call { result.call ≡ log_call.Untouched }
         ensures room { record_size ≤ vec_capacity result.buffer }
         ensures unnoted { seat.new.me.0.log.change ≡ change.Untouched }
-        ensures went { LogWent G.bytes G.synced G.faults G.calls result seat.old.me.0 seat.new.me.0 }
+        ensures went { LogWent G.bytes G.synced G.faults G.calls result seat.old.me.0
+            seat.new.me.0 }
     {
         let place = self.latch(Turn::Log);
         let slot = self.slot(Turn::Log);
@@ -70,12 +74,15 @@ impl<L: BlockLane, G: LogDevice> FrameTable<L, G> {
         slot: usize,
         log: NotedLog<G>,
     )
-        requires known { (D.call ≡ log.call) × (D.bytes ≡ G.bytes log.device) × (D.faults ≡ G.faults log.device) }
-        requires place { (place ≡ latch_place (frames_of self.now) Log) × (slot ≡ slot_of (frames_of self.now) (Of Log)) }
+        requires known { (D.call ≡ log.call) × (D.bytes ≡ G.bytes log.device)
+            × (D.faults ≡ G.faults log.device) }
+        requires place { (place ≡ latch_place (frames_of self.now) Log)
+            × (slot ≡ slot_of (frames_of self.now) (Of Log)) }
         requires seat { CanTurn self.now seat.old Log }
         requires hand { seat.old.me.1 ≡ (slot, value.Away) ∷ rest seat.old.me.1 }
         requires room { record_size ≤ vec_capacity log.buffer }
-        requires may { MayComeHome G.bytes G.synced G.faults G.calls (relations_of self.now) log seat.old.me.0 }
+        requires may { MayComeHome G.bytes G.synced G.faults G.calls (relations_of self.now) log
+            seat.old.me.0 }
         ensures seat { (seat.new.table_id ≡ seat.old.table_id) × (seat.new.id ≡ seat.old.id) }
         ensures hand { seat.new.me.1 ≡ rest seat.old.me.1 }
         ensures came { LogCame G.bytes G.synced G.faults G.calls log seat.old.me.0 seat.new.me.0 }
@@ -87,12 +94,15 @@ impl<L: BlockLane, G: LogDevice> FrameTable<L, G> {
         self.table.shared.load::<LogBack<D>>(seat, place);
     }
 
-    /// The log is back. The call that was made while it was out counts now, and a call that failed is noted as a fault.
+    /// The log is back. The call that was made while it was out counts now, and a call that failed
+    /// is noted as a fault.
     pub fn log_back(&self, seat: &mut Seat<Value<L, G>, View>, log: NotedLog<G>)
         requires seat { CanTurn self.now seat.old Log }
-        requires hand { seat.old.me.1 ≡ (slot_of (frames_of self.now) (Of Log), value.Away) ∷ rest seat.old.me.1 }
+        requires hand { seat.old.me.1 ≡ (slot_of (frames_of self.now) (Of Log), value.Away)
+            ∷ rest seat.old.me.1 }
         requires room { record_size ≤ vec_capacity log.buffer }
-        requires may { MayComeHome G.bytes G.synced G.faults G.calls (relations_of self.now) log seat.old.me.0 }
+        requires may { MayComeHome G.bytes G.synced G.faults G.calls (relations_of self.now) log
+            seat.old.me.0 }
         ensures seat { (seat.new.table_id ≡ seat.old.table_id) × (seat.new.id ≡ seat.old.id) }
         ensures hand { seat.new.me.1 ≡ rest seat.old.me.1 }
         ensures view { seat.new.me.0 ≡ view_home log.call seat.old.me.0 }
@@ -104,23 +114,32 @@ impl<L: BlockLane, G: LogDevice> FrameTable<L, G> {
     }
 
     fn store_end_at<D: AtEnd>(&self, seat: &mut Seat<Value<L, G>, View>, _frame: u32, end: u64)
-        requires known { (D.relations ≡ relations_of self.now) × (D.frame ≡ _frame) × (D.end ≡ end) }
+        requires known { (D.relations ≡ relations_of self.now) × (D.frame ≡ _frame)
+            × (D.end ≡ end) }
         requires seat { IsSeat self.now seat.old }
-        requires may { (tag : Tag) × (page : Page) × MayStoreEnd (relations_of self.now) _frame tag page end seat.old.me.0 }
+        requires may { (tag : Tag) × (page : Page) × MayStoreEnd (relations_of self.now) _frame tag
+            page end seat.old.me.0 }
         ensures seat { SameSeat seat.old seat.new }
-        ensures told { (tag : Tag) × (page : Page) × MayStoreEnd (relations_of self.now) _frame tag page end seat.old.me.0 × DidEnter _frame page seat.old.me.0 seat.new.me.0 }
+        ensures told { (tag : Tag) × (page : Page) × MayStoreEnd (relations_of self.now) _frame tag
+            page end seat.old.me.0 × DidEnter _frame page seat.old.me.0 seat.new.me.0 }
     {
         let at = end_place(self.frames());
         self.table.shared.store::<StoreEnd<D>>(seat, at, end);
     }
 
-    /// Stores the log's end, after the record that the backend has appended (`XLogInsert`). The page in it is an entry of the log now, which the backend has to apply.
+    /// Stores the log's end, after the record that the backend has appended (`XLogInsert`). The
+    /// page in it is an entry of the log now, which the backend has to apply.
     pub fn store_log_end(&self, seat: &mut Seat<Value<L, G>, View>, frame: u32, end: u64)
         requires seat { IsSeat self.now seat.old }
-        requires may { (tag : Tag) × (page : Page) × MayStoreEnd (relations_of self.now) frame tag page end seat.old.me.0 }
+        requires may { (tag : Tag) × (page : Page) × MayStoreEnd (relations_of self.now) frame tag
+            page end seat.old.me.0 }
         ensures seat { SameSeat seat.old seat.new }
-        ensures view { (tag : Tag) (page : Page) → MayStoreEnd (relations_of self.now) frame tag page end seat.old.me.0 → seat.new.me.0 ≡ view_entered frame (packed_tag tag) page end seat.old.me.0 }
-        ensures did { (tag : Tag) (page : Page) → MayStoreEnd (relations_of self.now) frame tag page end seat.old.me.0 → DidEnter frame page seat.old.me.0 seat.new.me.0 }
+        ensures view { (tag : Tag) (page : Page)
+            → MayStoreEnd (relations_of self.now) frame tag page end seat.old.me.0
+            → seat.new.me.0 ≡ view_entered frame (packed_tag tag) page end seat.old.me.0 }
+        ensures did { (tag : Tag) (page : Page)
+            → MayStoreEnd (relations_of self.now) frame tag page end seat.old.me.0
+            → DidEnter frame page seat.old.me.0 seat.new.me.0 }
     {
         self.store_end_at::<Brand>(seat, frame, end)
     }

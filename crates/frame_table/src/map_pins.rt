@@ -40,7 +40,8 @@ impl<L: BlockLane, G: LogDevice> FrameTable<L, G> {
         requires was { has_locked was ≡ false }
         requires new { fields new ≡ pinned_fields _ring (fields was) }
         ensures seat { SameSeat seat.old seat.new }
-        ensures did { Did (chosen (if_found (pins (kinds.pin_mapped _tag _ring))) was result) frame seat.old.me.0 seat.new.me.0 result }
+        ensures did { Did (chosen (if_found (pins (kinds.pin_mapped _tag _ring))) was result) frame
+            seat.old.me.0 seat.new.me.0 result }
     {
         self.table
             .shared
@@ -58,7 +59,8 @@ impl<L: BlockLane, G: LogDevice> FrameTable<L, G> {
         requires absent { (link seat.old.me.0 frame).role ≡ Absent }
         requires finds { Finds seat.old.me.0 tag frame }
         ensures seat { SameSeat seat.old seat.new }
-        ensures did { Tried (pins (kinds.pin_mapped tag ring)) frame seat.old.me.0 seat.new.me.0 result }
+        ensures did { Tried (pins (kinds.pin_mapped tag ring)) frame seat.old.me.0 seat.new.me.0
+            result }
     {
         let was = self.look(seat, frame);
         if has(was, Flag::Locked) {
@@ -87,8 +89,10 @@ impl<L: BlockLane, G: LogDevice> FrameTable<L, G> {
         ensures touches { Touches frame seat.old.me.0 seat.new.me.0 }
         ensures marks { SameMarks seat.old.me.0 seat.new.me.0 }
         ensures pin { result.frame ≡ frame }
-        ensures pinned { Looked (mapped_link (packed_tag tag) ring (link seat.old.me.0 frame)) (link seat.new.me.0 frame) }
-        ensures did { Tried (pins (kinds.pin_mapped (packed_tag tag) ring)) frame seat.old.me.0 seat.new.me.0 true }
+        ensures pinned { Looked (mapped_link (packed_tag tag) ring (link seat.old.me.0 frame))
+            (link seat.new.me.0 frame) }
+        ensures did { Tried (pins (kinds.pin_mapped (packed_tag tag) ring)) frame seat.old.me.0
+            seat.new.me.0 true }
     {
         let packed = tag.pack();
         for _ in rt.forever() {

@@ -32,13 +32,19 @@ impl<L: BlockLane, G: LogDevice> FrameTable<L, G> {
         place: usize,
         slot: usize,
     ) -> Value<L, G>
-        requires known { (D.frames ≡ frames_of self.now) × (D.partition ≡ _partition) × (D.slot ≡ slot) }
-        requires place { (place ≡ latch_place (frames_of self.now) (Partition _partition)) × (slot ≡ slot_of (frames_of self.now) (Of (Partition _partition))) }
+        requires known { (D.frames ≡ frames_of self.now) × (D.partition ≡ _partition)
+            × (D.slot ≡ slot) }
+        requires place { (place ≡ latch_place (frames_of self.now) (Partition _partition))
+            × (slot ≡ slot_of (frames_of self.now) (Of (Partition _partition))) }
         requires seat { CanTurn self.now seat.old (Partition _partition) }
-        requires held { ((hold seat.old.me.0 _partition).held ≡ true) × ((hold seat.old.me.0 _partition).out ≡ None) }
+        requires held { ((hold seat.old.me.0 _partition).held ≡ true)
+            × ((hold seat.old.me.0 _partition).out ≡ None) }
         ensures seat { (seat.new.table_id ≡ seat.old.table_id) × (seat.new.id ≡ seat.old.id) }
         ensures hand { seat.new.me.1 ≡ (slot, value.Away) ∷ seat.old.me.1 }
-        ensures map { (entries : List MapEntry) × IsMap (frames_of self.now) result entries × TakesPair (hold seat.old.me.0 _partition) result × DidMap (parts.map_out entries) _partition seat.old.me.0 seat.new.me.0 × GivesFrames (frames_of self.now) result }
+        ensures map { (entries : List MapEntry) × IsMap (frames_of self.now) result entries
+            × TakesPair (hold seat.old.me.0 _partition) result
+            × DidMap (parts.map_out entries) _partition seat.old.me.0 seat.new.me.0
+            × GivesFrames (frames_of self.now) result }
     {
         // An exchange of a slot is no step of its own: the load is, and its value tells nothing.
         self.table.shared.load::<MapOut<D>>(seat, place);
@@ -49,17 +55,24 @@ impl<L: BlockLane, G: LogDevice> FrameTable<L, G> {
     /// a pair, the list has room for it.
     pub fn map_out(&self, seat: &mut Seat<Value<L, G>, View>, partition: u32) -> Vec<Mapped>
         requires seat { CanTurn self.now seat.old (Partition partition) }
-        requires held { ((hold seat.old.me.0 partition).held ≡ true) × ((hold seat.old.me.0 partition).out ≡ None) }
+        requires held { ((hold seat.old.me.0 partition).held ≡ true)
+            × ((hold seat.old.me.0 partition).out ≡ None) }
         ensures seat { (seat.new.table_id ≡ seat.old.table_id) × (seat.new.id ≡ seat.old.id) }
-        ensures hand { seat.new.me.1 ≡ (slot_of (frames_of self.now) (Of (Partition partition)), value.Away) ∷ seat.old.me.1 }
+        ensures hand { seat.new.me.1 ≡ (
+          slot_of (frames_of self.now) (Of (Partition partition)),
+          value.Away,
+        ) ∷ seat.old.me.1 }
         ensures apart { AreApart result.items }
         ensures inside { AreBelow (frames_of self.now) result.items }
         ensures room { frames_of self.now ≤ vec_capacity result }
         ensures few { HasRoomFor (hold seat.old.me.0 partition) result }
-        ensures named { (hold seat.old.me.0 partition).changed ≡ false → HasNamed (hold seat.old.me.0 partition).change (map entry_of result.items) }
+        ensures named { (hold seat.old.me.0 partition).changed ≡ false
+            → HasNamed (hold seat.old.me.0 partition).change (map entry_of result.items) }
         ensures work { SameWork seat.old.me.0 seat.new.me.0 }
-        ensures out { MapStep partition (out_hold (map entry_of result.items) (hold seat.old.me.0 partition)) seat.old.me.0 seat.new.me.0 }
-        ensures did { DidMap (parts.map_out (map entry_of result.items)) partition seat.old.me.0 seat.new.me.0 }
+        ensures out { MapStep partition (out_hold (map entry_of result.items) (hold seat.old.me.0 partition))
+            seat.old.me.0 seat.new.me.0 }
+        ensures did { DidMap (parts.map_out (map entry_of result.items)) partition seat.old.me.0
+            seat.new.me.0 }
     {
         let place = self.latch(Turn::Partition(partition));
         let slot = self.slot(Turn::Partition(partition));
@@ -78,14 +91,16 @@ impl<L: BlockLane, G: LogDevice> FrameTable<L, G> {
         entries: Vec<Mapped>,
     )
         requires known { (D.partition ≡ _partition) × (D.entries ≡ map entry_of entries.items) }
-        requires place { (place ≡ latch_place (frames_of self.now) (Partition _partition)) × (slot ≡ slot_of (frames_of self.now) (Of (Partition _partition))) }
+        requires place { (place ≡ latch_place (frames_of self.now) (Partition _partition))
+            × (slot ≡ slot_of (frames_of self.now) (Of (Partition _partition))) }
         requires seat { CanTurn self.now seat.old (Partition _partition) }
         requires hand { seat.old.me.1 ≡ (slot, value.Away) ∷ rest seat.old.me.1 }
         requires apart { AreApart entries.items × (frames_of self.now ≤ vec_capacity entries) }
         requires may { MayComeBack (map entry_of entries.items) _partition seat.old.me.0 }
         ensures seat { (seat.new.table_id ≡ seat.old.table_id) × (seat.new.id ≡ seat.old.id) }
         ensures hand { seat.new.me.1 ≡ rest seat.old.me.1 }
-        ensures did { ComesBack (map entry_of entries.items) _partition seat.old.me.0 seat.new.me.0 (hold seat.old.me.0 _partition).change }
+        ensures did { ComesBack (map entry_of entries.items) _partition seat.old.me.0 seat.new.me.0
+            (hold seat.old.me.0 _partition).change }
     {
         let away = self.table.shared.exchange(seat, slot, Value::Map(entries));
         let Value::Away = away else { unreachable!() };
@@ -97,15 +112,20 @@ impl<L: BlockLane, G: LogDevice> FrameTable<L, G> {
     /// (`BufTableInsert`, `BufTableDelete`).
     pub fn map_back(&self, seat: &mut Seat<Value<L, G>, View>, partition: u32, entries: Vec<Mapped>)
         requires seat { CanTurn self.now seat.old (Partition partition) }
-        requires hand { seat.old.me.1 ≡ (slot_of (frames_of self.now) (Of (Partition partition)), value.Away) ∷ rest seat.old.me.1 }
+        requires hand { seat.old.me.1 ≡ (
+          slot_of (frames_of self.now) (Of (Partition partition)),
+          value.Away,
+        ) ∷ rest seat.old.me.1 }
         requires apart { AreApart entries.items }
         requires room { frames_of self.now ≤ vec_capacity entries }
         requires may { MayComeBack (map entry_of entries.items) partition seat.old.me.0 }
         ensures seat { (seat.new.table_id ≡ seat.old.table_id) × (seat.new.id ≡ seat.old.id) }
         ensures hand { seat.new.me.1 ≡ rest seat.old.me.1 }
         ensures work { SameWork seat.old.me.0 seat.new.me.0 }
-        ensures back { MapStep partition (back_hold (map entry_of entries.items) (hold seat.old.me.0 partition)) seat.old.me.0 seat.new.me.0 }
-        ensures did { ComesBack (map entry_of entries.items) partition seat.old.me.0 seat.new.me.0 (hold seat.old.me.0 partition).change }
+        ensures back { MapStep partition (back_hold (map entry_of entries.items)
+            (hold seat.old.me.0 partition)) seat.old.me.0 seat.new.me.0 }
+        ensures did { ComesBack (map entry_of entries.items) partition seat.old.me.0 seat.new.me.0
+            (hold seat.old.me.0 partition).change }
     {
         let place = self.latch(Turn::Partition(partition));
         let slot = self.slot(Turn::Partition(partition));

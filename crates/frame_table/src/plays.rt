@@ -35,7 +35,8 @@ impl Does for Brand {
     ghost choice = { always looking };
 }
 
-/// The frame whose state word is loaded, the relations, how many lanes there are, and what they held as the table was opened. Each call picks it.
+/// The frame whose state word is loaded, the relations, how many lanes there are, and what they
+/// held as the table was opened. Each call picks it.
 pub(crate) trait AtLook {
     ghost frame: { ℕ };
 
@@ -154,7 +155,8 @@ impl<L, G, D: AtTurn> Play<Value<L, G>, View> for LeaveTurn<D> {
     ghost then = { left D.turn };
 }
 
-/// Which partition's map a step is at, of how many frames, the slot of the map, and its entries. Each call picks it.
+/// Which partition's map a step is at, of how many frames, the slot of the map, and its entries.
+/// Each call picks it.
 pub(crate) trait AtMap {
     ghost frames: { ℕ };
 

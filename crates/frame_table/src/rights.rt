@@ -1,4 +1,6 @@
-//! Calls at state words for content locks, input and output, waits and checkpoints. But for `mark_dirty` each gives up the header that the backend holds, with the word that it makes of the held one.
+//! Calls at state words for content locks, input and output, waits and checkpoints. But for
+//! `mark_dirty` each gives up the header that the backend holds, with the word that it makes of the
+//! held one.
 ghost use Rattle.std.specs.Prelude.{◌≡◌, false, true};
 ghost use Rattle.state_word.specs.Fields.{fields, unlocked_fields, io_started_fields, io_ended_fields, waiter_set_fields};
 ghost use Rattle.pin_core.specs.declared.view.Content.TheVariants.{Exclusive};
@@ -36,7 +38,8 @@ impl<L: BlockLane, G: LogDevice> FrameTable<L, G> {
         ensures seat { SameSeat seat.old seat.new }
         ensures touches { Touches frame seat.old.me.0 seat.new.me.0 }
         ensures marks { MarksDirty seat.old.me.0 seat.new.me.0 }
-        ensures dirtied { Looked (dirtied_link (link seat.old.me.0 frame)) (link seat.new.me.0 frame) }
+        ensures dirtied { Looked (dirtied_link (link seat.old.me.0 frame))
+            (link seat.new.me.0 frame) }
         ensures did { Tried (pages kinds.mark_dirty) frame seat.old.me.0 seat.new.me.0 true }
     {
         for _ in rt.forever() {
@@ -128,7 +131,8 @@ impl<L: BlockLane, G: LogDevice> FrameTable<L, G> {
             .swap::<Step<D>>(seat, state_place(frame), new);
     }
 
-    /// Ends the read or the write of the page (`TerminateBufferIO`). The word is the one that is held.
+    /// Ends the read or the write of the page (`TerminateBufferIO`). The word is the one that is
+    /// held.
     pub fn finish_io(
         &self,
         seat: &mut Seat<Value<L, G>, View>,
@@ -141,15 +145,18 @@ impl<L: BlockLane, G: LogDevice> FrameTable<L, G> {
         requires no_write { HasNoWriteOut seat.old.me.0 right.frame }
         ensures seat { SameSeat seat.old seat.new }
         ensures touches { Touches right.frame seat.old.me.0 seat.new.me.0 }
-        ensures marks { MarksEnded (unlocked_fields (io_ended_fields end (fields word))) seat.old.me.0 seat.new.me.0 }
-        ensures finished { link seat.new.me.0 right.frame ≡ finished_link end (link seat.old.me.0 right.frame) }
+        ensures marks { MarksEnded (unlocked_fields (io_ended_fields end (fields word)))
+            seat.old.me.0 seat.new.me.0 }
+        ensures finished { link seat.new.me.0 right.frame ≡ finished_link end
+            (link seat.old.me.0 right.frame) }
         ensures did { Did (pages (kinds.end_io end)) right.frame seat.old.me.0 seat.new.me.0 word }
     {
         let IoRight { frame, input: _ } = right;
         self.swap_finished::<Brand>(seat, frame, word, end, unlock_with(io_ended(word, end)));
     }
 
-    /// Clears BM_JUST_DIRTIED before the page is written (`FlushBuffer`). The word is the one that is held.
+    /// Clears BM_JUST_DIRTIED before the page is written (`FlushBuffer`). The word is the one that
+    /// is held.
     pub fn clear_just_dirtied(&self, seat: &mut Seat<Value<L, G>, View>, frame: u32, word: u64)
         requires seat { CanStep self.now seat.old frame }
         requires view { CanClearJust word (link seat.old.me.0 frame) }
@@ -166,14 +173,16 @@ impl<L: BlockLane, G: LogDevice> FrameTable<L, G> {
         );
     }
 
-    /// Notes a dirty frame for the checkpoint that begins (`BufferSync`). The word is the one that is held.
+    /// Notes a dirty frame for the checkpoint that begins (`BufferSync`). The word is the one that
+    /// is held.
     pub fn need_checkpoint(&self, seat: &mut Seat<Value<L, G>, View>, frame: u32, word: u64)
         requires seat { CanStep self.now seat.old frame }
         requires view { CanNeed word (link seat.old.me.0 frame) }
         ensures seat { SameSeat seat.old seat.new }
         ensures touches { Touches frame seat.old.me.0 seat.new.me.0 }
         ensures marks { SameMarks seat.old.me.0 seat.new.me.0 }
-        ensures left_to_write { link seat.new.me.0 frame ≡ left_to_write_link (link seat.old.me.0 frame) }
+        ensures left_to_write { link seat.new.me.0 frame ≡ left_to_write_link
+            (link seat.old.me.0 frame) }
         ensures did { Did (pages kinds.need_checkpoint) frame seat.old.me.0 seat.new.me.0 word }
     {
         self.table.shared.swap::<Step<NeedCheckpoint>>(
@@ -197,14 +206,16 @@ impl<L: BlockLane, G: LogDevice> FrameTable<L, G> {
         requires may { MayWait _number seat.old.me.0 }
         requires new { fields new ≡ unlocked_fields (waiter_set_fields _number (fields _word)) }
         ensures seat { SameSeat seat.old seat.new }
-        ensures did { Did (pages (kinds.set_waiter _number)) frame seat.old.me.0 seat.new.me.0 _word }
+        ensures did { Did (pages (kinds.set_waiter _number)) frame seat.old.me.0 seat.new.me.0
+            _word }
     {
         self.table
             .shared
             .swap::<Step<D>>(seat, state_place(frame), new);
     }
 
-    /// Begins to wait, under the backend's own number, until its pin is the only one (`LockBufferForCleanup`). The word is the one that is held.
+    /// Begins to wait, under the backend's own number, until its pin is the only one
+    /// (`LockBufferForCleanup`). The word is the one that is held.
     pub fn set_waiter(&self, seat: &mut Seat<Value<L, G>, View>, frame: u32, word: u64, number: u32)
         requires seat { CanStep self.now seat.old frame }
         requires view { CanAwait word (link seat.old.me.0 frame) }
@@ -224,7 +235,8 @@ impl<L: BlockLane, G: LogDevice> FrameTable<L, G> {
         );
     }
 
-    /// Wakes the backend that waits, whose pin is the only one (`UnpinBuffer`). The word is the one that is held.
+    /// Wakes the backend that waits, whose pin is the only one (`UnpinBuffer`). The word is the one
+    /// that is held.
     pub fn clear_waiter(&self, seat: &mut Seat<Value<L, G>, View>, frame: u32, word: u64)
         requires seat { CanStep self.now seat.old frame }
         requires view { CanWake word (link seat.old.me.0 frame) }

@@ -27,7 +27,8 @@ impl<L: BlockLane, G: LogDevice> FrameTable<L, G> {
         self.table.shared.split_seat::<NewSeat<J>>(seat)
     }
 
-    /// A seat for a new backend, by the first one: it has the first one's next number, and holds nothing.
+    /// A seat for a new backend, by the first one: it has the first one's next number, and holds
+    /// nothing.
     pub fn split(&self, seat: &mut Seat<Value<L, G>, View>) -> Seat<Value<L, G>, View>
         requires seat { Fits self.now seat.old × (seat.old.id ≡ 0) }
         requires room { seat.old.me.0.next < self.now.table.shared.key.config.passes }

@@ -29,8 +29,10 @@ pub struct FrameTable<L: BlockLane, G: LogDevice> {
     ghost counted: { length table.shared.key.lanes.value.items ≡ table.shared.key.config.lanes },
     ghost some: { 1 ≤ table.shared.key.config.lanes },
     ghost few: { table.shared.key.config.lanes ≤ 16 },
-    ghost framed: { (1 ≤ table.shared.key.config.frames) × (table.shared.key.config.frames ≤ 4096) },
-    ghost wide: { (table.shared.table_id.words ≡ layout.word_count table.shared.key.config.frames) × (table.shared.table_id.slots ≡ layout.slot_count table.shared.key.config.frames) },
+    ghost framed: { (1 ≤ table.shared.key.config.frames)
+        × (table.shared.key.config.frames ≤ 4096) },
+    ghost wide: { (table.shared.table_id.words ≡ layout.word_count table.shared.key.config.frames)
+        × (table.shared.table_id.slots ≡ layout.slot_count table.shared.key.config.frames) },
 }
 
 impl<L: BlockLane, G: LogDevice> FrameTable<L, G> {
@@ -53,16 +55,28 @@ impl<L: BlockLane, G: LogDevice> FrameTable<L, G> {
     /// found. The same holds of the clock's hand, the flushed and the redo position, the counters
     /// and the hint words.
     pub fn words_must_be_stored(&self)
-        ensures each { (k : FrameKind) → part_of k ≡ kinds.state_word → k ≢ pins pin_kinds.load_state → MustStore (devices L.BlockLane G.LogDevice) self.now.table.shared.key k (Makes k) }
-        ensures pin { (ring : Bool) → MustStore (devices L.BlockLane G.LogDevice) self.now.table.shared.key (pins (pin_kinds.pin ring)) (λ f found left. left ≡ pinned_fields ring found) }
-        ensures lowered { MustStore (devices L.BlockLane G.LogDevice) self.now.table.shared.key (pins pin_kinds.lower_usage) (λ f found left. left ≡ unlocked_fields (usage_down_fields found)) }
-        ensures ended { (end : IoEnd) → MustStore (devices L.BlockLane G.LogDevice) self.now.table.shared.key (pages (page_kinds.end_io end)) (λ f found left. left ≡ unlocked_fields (io_ended_fields end found)) }
-        ensures dirtied { MustStore (devices L.BlockLane G.LogDevice) self.now.table.shared.key (pages page_kinds.mark_dirty) (λ f found left. left ≡ dirtied_fields found) }
+        ensures each { (k : FrameKind) → part_of k ≡ kinds.state_word
+            → k ≢ pins pin_kinds.load_state → MustStore (devices L.BlockLane G.LogDevice)
+            self.now.table.shared.key k (Makes k) }
+        ensures pin { (ring : Bool) → MustStore (devices L.BlockLane G.LogDevice)
+            self.now.table.shared.key (pins (pin_kinds.pin ring)) (λ f found left.
+            left ≡ pinned_fields ring found) }
+        ensures lowered { MustStore (devices L.BlockLane G.LogDevice) self.now.table.shared.key
+            (pins pin_kinds.lower_usage) (λ f found left.
+            left ≡ unlocked_fields (usage_down_fields found)) }
+        ensures ended { (end : IoEnd) → MustStore (devices L.BlockLane G.LogDevice)
+            self.now.table.shared.key (pages (page_kinds.end_io end)) (λ f found left.
+            left ≡ unlocked_fields (io_ended_fields end found)) }
+        ensures dirtied { MustStore (devices L.BlockLane G.LogDevice) self.now.table.shared.key
+            (pages page_kinds.mark_dirty) (λ f found left. left ≡ dirtied_fields found) }
         ensures hand { HandMustMove (devices L.BlockLane G.LogDevice) self.now.table.shared.key }
-        ensures flushed { FlushedMustRise (devices L.BlockLane G.LogDevice) self.now.table.shared.key }
+        ensures flushed { FlushedMustRise (devices L.BlockLane G.LogDevice)
+            self.now.table.shared.key }
         ensures redo { RedoMustRise (devices L.BlockLane G.LogDevice) self.now.table.shared.key }
-        ensures counters { CounterMustRise (devices L.BlockLane G.LogDevice) self.now.table.shared.key }
-        ensures hints { HintMustBeStored (devices L.BlockLane G.LogDevice) self.now.table.shared.key }
+        ensures counters { CounterMustRise (devices L.BlockLane G.LogDevice)
+            self.now.table.shared.key }
+        ensures hints { HintMustBeStored (devices L.BlockLane G.LogDevice)
+            self.now.table.shared.key }
     {}
 }
 

@@ -44,7 +44,8 @@ impl<L: BlockLane, G: LogDevice> FrameTable<L, G> {
         place: usize,
     ) -> bool
         requires known { D.turn ≡ _turn }
-        requires place { (place ≡ layout.latch_place (frames_of self.now) _turn) × (place < word_count (frames_of self.now)) }
+        requires place { (place ≡ layout.latch_place (frames_of self.now) _turn)
+            × (place < word_count (frames_of self.now)) }
         requires seat { CanTurn self.now seat.old _turn }
         ensures seat { SameSeat seat.old seat.new }
         ensures took { result ≡ true → DidTurn true _turn seat.old.me.0 seat.new.me.0 }
@@ -85,7 +86,8 @@ impl<L: BlockLane, G: LogDevice> FrameTable<L, G> {
 
     fn leave_at<D: AtTurn>(&self, seat: &mut Seat<Value<L, G>, View>, _turn: Turn, place: usize)
         requires known { D.turn ≡ _turn }
-        requires place { (place ≡ layout.latch_place (frames_of self.now) _turn) × (place < word_count (frames_of self.now)) }
+        requires place { (place ≡ layout.latch_place (frames_of self.now) _turn)
+            × (place < word_count (frames_of self.now)) }
         requires seat { CanTurn self.now seat.old _turn }
         requires may { MayLeave _turn seat.old.me.0 }
         ensures seat { SameSeat seat.old seat.new }

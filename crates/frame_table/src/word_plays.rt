@@ -32,7 +32,9 @@ impl<L, G, D: StepsAt> Play<Value<L, G>, View> for StepAt<D> {
     ghost then = { tells_word D.kind };
 }
 
-/// What the log's end is loaded for, how many frames there are, where the log begins, the relations, how many lanes there are, and what they held as the table was opened. Each call picks it.
+/// What the log's end is loaded for, how many frames there are, where the log begins, the
+/// relations, how many lanes there are, and what they held as the table was opened. Each call picks
+/// it.
 pub(crate) trait AtEndLoad {
     ghost what: { EndLoad };
 

@@ -41,9 +41,9 @@ pub record HasRest (s : State) : Type 0 where
   pub is_bytes : s.device.bytes ≡ log_bytes s.names s.log ++ rest
   -- if there is a rest, it begins a record that would be the next
   pub begins : rest ≢ [] → BeginsRecord s.ranges s.names s.end rest
-  -- redo can do the entry that the rest begins, after those of the log: if it is of ranges, no sound
-  -- page was past the base at the start and the lane's contents are known, the log has a whole page
-  -- of the block
+  -- redo can do the entry that the rest begins, after those of the log: if it is of ranges, no
+  -- sound page was past the base at the start and the lane's contents are known, the log has a
+  -- whole page of the block
   pub follows : (some : rest ≢ []) → CanFollow s (begins some).entry.change
   -- once the log is down, a rest begins a record that a backend failed to append
   pub torn : (some : rest ≢ []) → s.device.down ≢ None

@@ -40,7 +40,7 @@ with_backend_at [] k d at = absurd (some-ne-none d (sym at))
 with_backend_at (e ∷ es) zero d at = (e, refl, ap (λ (x : Entry). x.change) (sym (some-injective (record e { backend = 0 }) d at)))
 with_backend_at (e ∷ es) (suc k) d at = with_backend_at es k d at
 
-without_at : (es : List Entry) (k : ℕ) (e : Entry) → get_elem? es k ≡ some e → get_elem? (without_backends es) k ≡ some (record e { backend = 0 })
+pub without_at : (es : List Entry) (k : ℕ) (e : Entry) → get_elem? es k ≡ some e → get_elem? (without_backends es) k ≡ some (record e { backend = 0 })
 unfolding without_backends
 without_at [] k e at = absurd (some-ne-none e (sym at))
 without_at (d ∷ es) zero e at = ap (λ (x : Entry). some (record x { backend = 0 })) (some-injective d e at)
@@ -55,7 +55,7 @@ ranges_with s es tag h k e spans at is = h k (record e { backend = 0 }) spans (w
 none_with : (es : List Entry) (tag : ℕ) → ((k : ℕ) (e : Entry) → IsEntryOf es tag k e → ⊥) → (k : ℕ) (d : Entry) → IsEntryOf (without_backends es) tag k d → ⊥
 none_with es tag none k d of = let x = with_backend_at es k d of.there in none k x.0 (record { there = x.1; of = ap (λ (c : Change). tag_in c) (sym x.2) ∙ of.of })
 
-no_entries : [] ≡ without_backends []
+pub no_entries : [] ≡ without_backends []
 unfolding without_backends
 no_entries = refl
 

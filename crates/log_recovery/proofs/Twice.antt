@@ -19,7 +19,7 @@ use Rattle.log_recovery.specs.Redo.{IsEnteredBlock, IsRedone, AreRedone, AreRedo
 use Rattle.log_recovery.specs.Laws.{AgreeElsewhere, IsRedoneOnce, IsCompleted, ArePartsOf, PagesAreSettled}
 use Rattle.log_recovery.proofs.ReadLogs.{is_log}
 
-either_way : (b : Bool) {A : Type 0} → (b ≡ true → A) → (b ≡ false → A) → A
+pub either_way : (b : Bool) {A : Type 0} → (b ≡ true → A) → (b ≡ false → A) → A
 either_way true x y = x refl
 either_way false x y = y refl
 
@@ -36,14 +36,14 @@ settled es images tag (k, e, of) x y = by_change e.change refl (images k e of.th
     by_change (resize fork old new) is whole same = absurd (cc)
 
 -- pages that differ only where a block has an entry
-after_agree : (es : List Entry) (tag : ℕ) (x y : Option Page) → AreImages es → ((IsEntered es tag → ⊥) → x ≡ y) → page_after tag es x ≡ page_after tag es y
+pub after_agree : (es : List Entry) (tag : ℕ) (x y : Option Page) → AreImages es → ((IsEntered es tag → ⊥) → x ≡ y) → page_after tag es x ≡ page_after tag es y
 after_agree es tag x y images agree = ⊎_elim
     (λ (t : IsEntered es tag). settled es images tag t x y)
     (λ (none : (k : ℕ) (e : Entry) → IsEntryOf es tag k e → ⊥). ap (page_after tag es) (agree (λ t. none t.0 t.1 t.2)))
     (entry_or_none es tag)
 
 -- redo of a page after redo
-after_twice : (es : List Entry) (tag : ℕ) (x : Option Page) → AreImages es → page_after tag es (page_after tag es x) ≡ page_after tag es x
+pub after_twice : (es : List Entry) (tag : ℕ) (x : Option Page) → AreImages es → page_after tag es (page_after tag es x) ≡ page_after tag es x
 after_twice es tag x images = after_agree es tag (page_after tag es x) x images (λ none. after_absent tag es x (images_of_pages es images) (λ k e of. none (k, e, of)))
 
 pub redone_once : IsRedoneOnce

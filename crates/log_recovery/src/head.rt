@@ -1,7 +1,8 @@
 //! The head of a log.
-ghost use Rattle.std.specs.Prelude.{◌≡◌, ◌≤◌, ◌⊎◌, ◌^◌, ℕ, IfErr, IfOk, IfSome, IsErrOf, None};
+ghost use Rattle.std.specs.Prelude.{◌≡◌, ◌≤◌, ◌⊎◌, ℕ, IfErr, IfOk, IfSome, IsErrOf, None};
 ghost use Rattle.std.specs.Prelude.{OnOk, length};
 ghost use Rattle.byte_devices.specs.Faults.{Rose};
+ghost use Rattle.history_core.specs.State.{last_position};
 ghost use Rattle.log_recovery.specs.Records.{HasBadHead, IsHead};
 ghost use Rattle.log_recovery.specs.Steps.{Begins};
 
@@ -39,7 +40,7 @@ pub(crate) fn base_in(head: &[u8]) -> Option<Lsn>
 pub(crate) fn read_head<S: Source>(source: &mut S) -> Result<Option<Lsn>, RecoverError>
     ensures begun { IfOk result (λ head. IfSome (S.left source.old)
         (λ bytes. Begins bytes head (S.left source.new))) }
-    ensures low { IfOk result (λ head. IfSome head (λ base. base ≤ 2 ^ 62)) }
+    ensures low { IfOk result (λ head. IfSome head (λ base. base ≤ last_position)) }
     ensures bad { IsErrOf result RecoverError.BadLog
         → (S.faults source.new ≡ S.faults source.old) × IfSome (S.left source.old) HasBadHead }
     ensures bad_head { IfSome (S.left source.old) (λ bytes. HasBadHead bytes

@@ -4,11 +4,12 @@
 //! with the bytes that the writer makes. So the bytes alone determine the entries, and that what
 //! was written is read back is a theorem. A record doesn't say which backend made it; an entry that
 //! is read has backend 0.
-ghost use Rattle.std.specs.Prelude.{◌≡◌, ◌+◌, ◌≤◌, ◌<◌, ◌^◌, ◌↔◌, ℕ, List, None, IfSome, IsTrue};
+ghost use Rattle.std.specs.Prelude.{◌≡◌, ◌+◌, ◌≤◌, ◌<◌, ◌↔◌, ℕ, List, None, IfSome, IsTrue};
 ghost use Rattle.std.specs.Prelude.{drop, length, true};
 ghost use Rattle.block_tag.specs.Names.{names_block, packed_tag};
 ghost use Rattle.page_layout.specs.Fields.{number_at};
-ghost use Rattle.history_core.specs.Log.{Entry, IsImage};
+ghost use Rattle.history_core.specs.Log.{Entry, IsImage, record_size};
+ghost use Rattle.history_core.specs.State.{last_position};
 ghost use Rattle.log_recovery.specs.Records.{IsAtPlace, IsRecord, NamesBlock, image_entry};
 
 use block_tag::{Catalog, Fork, RelEntry, RelNo, Tag};
@@ -86,7 +87,7 @@ fn block_named(catalog: &Catalog, bytes: &[u8]) -> Option<Tag>
 
 /// Takes the bytes after the header for the page.
 fn take_page(bytes: &[u8], page: &mut Page)
-    requires { length bytes.now ≡ 8224 }
+    requires { length bytes.now ≡ record_size }
     ensures page { page.new ≡ drop 32 bytes.now }
     ensures full { length page.new ≡ 8192 }
 {
@@ -105,8 +106,8 @@ fn is_image(page: &Page, end: Lsn) -> bool
 /// The block and the page of a record, if it is one of a page that is well formed at the position
 /// `from`.
 pub(crate) fn image_in(catalog: &Catalog, bytes: &[u8], from: Lsn, page: &mut Page) -> Option<Tag>
-    requires long { length bytes.now ≡ 8224 }
-    requires room { from + 8224 ≤ 2 ^ 62 }
+    requires long { length bytes.now ≡ record_size }
+    requires room { from + record_size ≤ last_position }
     ensures some { IfSome result (λ tag. (before : List Entry)
         → IsRecord catalog.now from before bytes.now (image_entry from tag page.new)) }
     ensures block { IfSome result (λ tag. names_block tag ≡ true) }

@@ -1,10 +1,12 @@
 //! Redo: the pages of records are written to their blocks.
-ghost use Rattle.std.specs.Prelude.{◌≡◌, ◌≢◌, ◌+◌, ◌<◌, ◌≤◌, ◌⊎◌, ◌^◌, [], IfErr, IfOk, IfSome};
+ghost use Rattle.std.specs.Prelude.{◌≡◌, ◌≢◌, ◌+◌, ◌<◌, ◌≤◌, ◌⊎◌, [], IfErr, IfOk, IfSome};
 ghost use Rattle.std.specs.Prelude.{IsErrOf, None, OnErr, OnOk, is_some, length, map, true};
 ghost use Rattle.block_tag.specs.Names.{names_block};
 ghost use Rattle.byte_devices.specs.Faults.{HasCause, Rose};
 ghost use Rattle.byte_devices.specs.declared.device.Failed.{Failed};
 ghost use Rattle.segment_store.specs.Lanes.{HoldTheirs};
+ghost use Rattle.history_core.specs.Log.{record_size};
+ghost use Rattle.history_core.specs.State.{last_position};
 ghost use Rattle.log_recovery.specs.Redo.{AnyRose, LeavesFirst, MarksFirst, MarksNone, MarksOnly};
 ghost use Rattle.log_recovery.specs.Redo.{NoneFell, WritesTo};
 ghost use Rattle.log_recovery.specs.Steps.{HasNoRecord, HaveRedone, IsNextImage, IsUpto, LeadIn};
@@ -29,7 +31,7 @@ fn next_image<S: Source>(
     bytes: &mut [u8; IMAGE_SIZE],
     page: &mut Page,
 ) -> Result<Option<Tag>, Failed>
-    requires room { from + 8224 ≤ 2 ^ 62 }
+    requires room { from + record_size ≤ last_position }
     ensures some { IfOk result (λ found. IfSome found
         (λ tag. IsNextImage catalog.now from tag page.new (S.left source.old)
         (S.left source.new))) }
@@ -81,7 +83,7 @@ pub(crate) struct Progress {
 impl Progress {
     /// No record so far.
     pub(crate) fn new(alloc: Global, base: Lsn) -> Progress
-        requires { base ≤ 2 ^ 62 }
+        requires { base ≤ last_position }
         ensures { IsUpto base [] result }
     {
         Progress {
@@ -102,7 +104,7 @@ fn redo_image<L: BlockLane>(
 ) -> Result<(), RecoverError>
     requires some { 0 < length lanes.old }
     requires named { names_block tag ≡ true }
-    requires room { progress.old.position + 8224 ≤ 2 ^ 62 }
+    requires room { progress.old.position + record_size ≤ last_position }
     requires few { progress.old.entries ≤ progress.old.position }
     ensures done { OnOk result (StepsOn tag progress.old progress.new) }
     ensures written { OnOk result (WritesTo {E = Failed} tag page.now (map L.contents lanes.old)
@@ -145,7 +147,7 @@ pub(crate) fn redo_from<L: BlockLane, S: Source>(
     base: Lsn,
 ) -> Result<Progress, RecoverError>
     requires some { 0 < length lanes.old }
-    requires base { base ≤ 2 ^ 62 }
+    requires base { base ≤ last_position }
     ensures done { IfOk result (HaveRedone L.contents L.failed_writes catalog.now base
         (S.left source.old) lanes.old lanes.new) }
     ensures part { OnErr result (LeavesFirst L.contents L.failed_writes

@@ -15,7 +15,8 @@ abbrev pub hint_value : Option ℕ → ℕ
 hint_value None = 0
 hint_value (Some f) = f + 1
 
--- The view v became w by a load of the tag's hint word, in a table of n frames, which named this frame, or none
+-- The view v became w by a load of the tag's hint word, in a table of n frames, which named this
+-- frame, or none
 abbrev pub LoadsHint : ℕ → Tag → Option ℕ → View → View → Type 0
 LoadsHint n tag frame v w = DidWord (load_hint (hint_number tag n)) v w (hint_value frame)
 

@@ -9,7 +9,8 @@ use Rattle.pin_core.specs.Turns.{found, map_out}
 use Rattle.grid.specs.Shape.{put}
 use Rattle.frame_table.specs.Latches.{DidMap, ComesBack}
 
--- The view has the latch of the partition p, whose map is home and not yet changed, and it has named this in change there
+-- The view has the latch of the partition p, whose map is home and not yet changed, and it has
+-- named this in change there
 pub record HoldsLatch (change : MapChange) (v : View) (p : ℕ) : Type 0 where
   pub held : (hold v p).held ≡ true
   pub home : (hold v p).out ≡ None
@@ -32,7 +33,8 @@ pub record WentAndCame (was entries : List MapEntry) (p : ℕ) (v w : View) : Ty
   pub out : DidMap (map_out was) p v between
   pub back : ComesBack entries p between w (hold between p).change
 
--- The map of the partition p gave x for the tag, and gives y now, and for all other tags what it gave
+-- The map of the partition p gave x for the tag, and gives y now, and for all other tags what it
+-- gave
 pub record ChangesMap (tag : ℕ) (x y : Option ℕ) (p : ℕ) (v w : View) : Type 0 where
   pub was : List MapEntry
   pub gave : found was tag ≡ x

@@ -29,13 +29,19 @@ pub fn enter<L: BlockLane, G: LogDevice>(
 )
     requires seat { CanTurn table.now seat.old (Partition (partition_number tag)) }
     requires tag { names_block tag ≡ true }
-    requires named { HoldsLatch (Entering (packed_tag tag) frame) seat.old.me.0 (partition_number tag) }
+    requires named { HoldsLatch (Entering (packed_tag tag) frame) seat.old.me.0
+        (partition_number tag) }
     ensures seat { SameSeat seat.old seat.new }
     ensures work { SameWork seat.old.me.0 seat.new.me.0 }
     ensures grows { Grows seat.old.me.0 seat.new.me.0 }
-    ensures entered { (entries : List MapEntry) → (hold seat.old.me.0 (partition_number tag)).seen ≡ Some entries → found (entries_seen seat.new.me.0 (partition_number tag)) ≡ put (found entries) (packed_tag tag) (Some frame) }
-    ensures step { MapStep (partition_number tag) (back_hold (entries_seen seat.new.me.0 (partition_number tag)) (hold seat.old.me.0 (partition_number tag))) seat.old.me.0 seat.new.me.0 }
-    ensures did { ChangesMap (packed_tag tag) None (Some frame) (partition_number tag) seat.old.me.0 seat.new.me.0 }
+    ensures entered { (entries : List MapEntry) → (hold seat.old.me.0 (partition_number tag)).seen
+        ≡ Some entries → found (entries_seen seat.new.me.0 (partition_number tag))
+        ≡ put (found entries) (packed_tag tag) (Some frame) }
+    ensures step { MapStep (partition_number tag)
+        (back_hold (entries_seen seat.new.me.0 (partition_number tag))
+        (hold seat.old.me.0 (partition_number tag))) seat.old.me.0 seat.new.me.0 }
+    ensures did { ChangesMap (packed_tag tag) None (Some frame) (partition_number tag) seat.old.me.0
+        seat.new.me.0 }
 {
     let partition = tag.partition();
     let mut entries = table.map_out(seat, partition);
@@ -51,14 +57,23 @@ pub fn leave_out<L: BlockLane, G: LogDevice>(
 )
     requires seat { CanTurn table.now seat.old (Partition (partition_number tag.now)) }
     requires tag { names_block tag.now ≡ true }
-    requires holds { HoldsLatch (hold seat.old.me.0 (partition_number tag.now)).change seat.old.me.0 (partition_number tag.now) }
-    requires named { NamesLeaving (packed_tag tag.now) (hold seat.old.me.0 (partition_number tag.now)).change }
+    requires holds { HoldsLatch (hold seat.old.me.0 (partition_number tag.now)).change seat.old.me.0
+        (partition_number tag.now) }
+    requires named { NamesLeaving (packed_tag tag.now)
+        (hold seat.old.me.0 (partition_number tag.now)).change }
     ensures seat { SameSeat seat.old seat.new }
     ensures work { SameWork seat.old.me.0 seat.new.me.0 }
     ensures grows { Grows seat.old.me.0 seat.new.me.0 }
-    ensures left_out { (entries : List MapEntry) → (hold seat.old.me.0 (partition_number tag.now)).seen ≡ Some entries → found (entries_seen seat.new.me.0 (partition_number tag.now)) ≡ put (found entries) (packed_tag tag.now) None }
-    ensures step { MapStep (partition_number tag.now) (back_hold (entries_seen seat.new.me.0 (partition_number tag.now)) (hold seat.old.me.0 (partition_number tag.now))) seat.old.me.0 seat.new.me.0 }
-    ensures did { (frame : ℕ) → (hold seat.old.me.0 (partition_number tag.now)).change ≡ Leaving (packed_tag tag.now) frame → ChangesMap (packed_tag tag.now) (Some frame) None (partition_number tag.now) seat.old.me.0 seat.new.me.0 }
+    ensures left_out { (entries : List MapEntry)
+        → (hold seat.old.me.0 (partition_number tag.now)).seen ≡ Some entries
+        → found (entries_seen seat.new.me.0 (partition_number tag.now)) ≡ put (found entries)
+        (packed_tag tag.now) None }
+    ensures step { MapStep (partition_number tag.now)
+        (back_hold (entries_seen seat.new.me.0 (partition_number tag.now))
+        (hold seat.old.me.0 (partition_number tag.now))) seat.old.me.0 seat.new.me.0 }
+    ensures did { (frame : ℕ) → (hold seat.old.me.0 (partition_number tag.now)).change
+        ≡ Leaving (packed_tag tag.now) frame → ChangesMap (packed_tag tag.now) (Some frame) None
+        (partition_number tag.now) seat.old.me.0 seat.new.me.0 }
 {
     let partition = tag.partition();
     let mut entries = table.map_out(seat, partition);

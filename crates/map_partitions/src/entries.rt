@@ -19,7 +19,8 @@ pub(crate) fn forget(entries: &mut Vec<Mapped>, tag: u64)
     requires apart { AreApart entries.old.items }
     ensures apart { AreApart entries.new.items }
     ensures room { vec_capacity entries.new ≡ vec_capacity entries.old }
-    ensures found { found (map entry_of entries.new.items) ≡ put (found (map entry_of entries.old.items)) tag None }
+    ensures found { found (map entry_of entries.new.items)
+        ≡ put (found (map entry_of entries.old.items)) tag None }
 {
     entries.retain(|entry| entry.tag != tag);
 }
@@ -31,7 +32,8 @@ pub(crate) fn add(entries: &mut Vec<Mapped>, tag: u64, frame: u32)
     requires lacking { found (map entry_of entries.old.items) tag ≡ None }
     ensures apart { AreApart entries.new.items }
     ensures room { vec_capacity entries.new ≡ vec_capacity entries.old }
-    ensures found { found (map entry_of entries.new.items) ≡ put (found (map entry_of entries.old.items)) tag (Some frame) }
+    ensures found { found (map entry_of entries.new.items)
+        ≡ put (found (map entry_of entries.old.items)) tag (Some frame) }
 {
     entries.push_reserved(Mapped { tag, frame });
 }

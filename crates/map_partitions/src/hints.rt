@@ -47,7 +47,8 @@ pub fn load_hint<L: BlockLane, G: LogDevice>(
     requires seat { IsSeat table.now seat.old }
     ensures seat { SameSeat seat.old seat.new }
     ensures inside { IfSome result (λ frame. frame < frames_of table.now) }
-    ensures view { seat.new.me.0 ≡ view_of (load_hint (hint_number tag.now (frames_of table.now))) (hint_value result) seat.old.me.0 }
+    ensures view { seat.new.me.0 ≡ view_of (load_hint (hint_number tag.now (frames_of table.now)))
+        (hint_value result) seat.old.me.0 }
     ensures did { LoadsHint (frames_of table.now) tag.now result seat.old.me.0 seat.new.me.0 }
 {
     let word = table.load_hint(seat, number_of(table, tag));

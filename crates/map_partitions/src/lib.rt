@@ -1,8 +1,9 @@
-//! The mapping from tags to frames (`buf_table.c`), and its partitions' latches: [`take_turn`], [`find`], [`enter`] or
-//! [`leave_out`], [`give_turn`]. [`load_hint`] and [`store_hint`] are for hints, which spare a look-up the latch.
+//! The mapping from tags to frames (`buf_table.c`), and its partitions' latches: [`take_turn`],
+//! [`find`], [`enter`] or [`leave_out`], [`give_turn`]. [`load_hint`] and [`store_hint`] are for
+//! hints, which spare a look-up the latch.
 //!
-//! A map is changed after the frame's tag word: the backend stores a tag word in a frame, which names the pair in
-//! change, and enters the pair, or leaves it out, before it leaves the latch.
+//! A map is changed after the frame's tag word: the backend stores a tag word in a frame, which
+//! names the pair in change, and enters the pair, or leaves it out, before it leaves the latch.
 #![tactic(auto)]
 
 mod changes;

@@ -32,15 +32,22 @@ pub fn find<L: BlockLane, G: LogDevice>(
     ensures seat { SameSeat seat.old seat.new }
     ensures work { SameWork seat.old.me.0 seat.new.me.0 }
     ensures grows { Grows seat.old.me.0 seat.new.me.0 }
-    ensures found { result ≡ found (entries_seen seat.new.me.0 (partition_number tag.now)) (packed_tag tag.now) }
+    ensures found { result ≡ found (entries_seen seat.new.me.0 (partition_number tag.now))
+        (packed_tag tag.now) }
     ensures inside { IfSome result (λ frame. frame < frames_of table.now) }
     ensures finds { IfSome result (λ frame. Finds seat.new.me.0 (packed_tag tag.now) frame) }
     ensures remembers { IfSome result (λ frame. RemembersNoOther (packed_tag tag.now) (link seat.new.me.0 frame)) }
     ensures lacks { IfNone result (Lacks seat.new.me.0 (packed_tag tag.now)) }
     ensures holds { HoldsLatch Stable seat.new.me.0 (partition_number tag.now) }
-    ensures step { MapStep (partition_number tag.now) (back_hold (entries_seen seat.new.me.0 (partition_number tag.now)) (hold seat.old.me.0 (partition_number tag.now))) seat.old.me.0 seat.new.me.0 }
-    ensures before { (entries : List MapEntry) → (hold seat.old.me.0 (partition_number tag.now)).seen ≡ Some entries → found (entries_seen seat.new.me.0 (partition_number tag.now)) ≡ found entries }
-    ensures did { WentAndCame (entries_seen seat.new.me.0 (partition_number tag.now)) (entries_seen seat.new.me.0 (partition_number tag.now)) (partition_number tag.now) seat.old.me.0 seat.new.me.0 }
+    ensures step { MapStep (partition_number tag.now)
+        (back_hold (entries_seen seat.new.me.0 (partition_number tag.now))
+        (hold seat.old.me.0 (partition_number tag.now))) seat.old.me.0 seat.new.me.0 }
+    ensures before { (entries : List MapEntry)
+        → (hold seat.old.me.0 (partition_number tag.now)).seen ≡ Some entries
+        → found (entries_seen seat.new.me.0 (partition_number tag.now)) ≡ found entries }
+    ensures did { WentAndCame (entries_seen seat.new.me.0 (partition_number tag.now))
+        (entries_seen seat.new.me.0 (partition_number tag.now)) (partition_number tag.now)
+        seat.old.me.0 seat.new.me.0 }
 {
     let partition = tag.partition();
     let entries = table.map_out(seat, partition);

@@ -4,5 +4,6 @@ pub mod Places
 pub mod TakenBlocks
 pub mod LanesOut
 pub mod Opens
+pub mod Theirs
 pub mod Emptying
 pub mod Sizes

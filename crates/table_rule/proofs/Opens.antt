@@ -1,7 +1,7 @@
 -- The table at the start shows the state at the start.
 use Rattle.std.proofs.Common.{◌≡◌, ℕ, zero, suc, ◌+◌, ◌*◌, ◌-◌, ◌<◌, ◌≤◌, ◌%◌, ◌^◌, Bool, false, true, cond, Option, Some, None, List, [], ◌∷◌, ◌++◌, map, replicate, length, get_or, length-append, append_assoc, sym, refl, ap, ◌∙◌, subst, arith}
 use Rattle.std.specs.Option.{is_some}
-use Rattle.std.specs.Prelude.{slice_get, Vec}
+use Rattle.std.specs.Prelude.{slice_get, Vec, IsSomeAnd}
 use Rattle.std.specs.Global.{Global}
 use Rattle.std.proofs.Math.Nat.{mod-lt}
 use Rattle.std.proofs.lemmas.List.{append-nil, length-map, get_or_append_left, get_or-append_right, length-replicate, get_or-replicate}
@@ -34,7 +34,7 @@ use Rattle.table_rule.specs.declared.turn.Turn.TheVariants as turn
 use Rattle.pin_core.specs.Tallies.{flag_weight}
 use Rattle.table_rule.specs.Layout.{latch_place, latch_count, word_place, HasWord, opening_numbers, word_count, first_lane_slot, log_slot, list_slot, slot_count, tag_partition, partition_of_tag, tag_lane, lane_of_tag}
 use Rattle.table_rule.specs.Blocks.{fork_size, is_fork, log_name, name_of, name_in}
-use Rattle.table_rule.specs.Shows.{is_taken, HasTurn, ShowsFrame, IsHome, Devices, IsPlaced, IsLane, IsLog, AreLanes, IsNewLog, GivesMap, IsPlaceIn, HasValue, RuleHolds, starting}
+use Rattle.table_rule.specs.Shows.{is_taken, HasTurn, ShowsFrame, IsHome, Devices, IsPlaced, contents_in, contents_at, lane_opened, IsLane, IsLog, AreLanes, IsNewLog, GivesMap, IsPlaceIn, HasValue, RuleHolds, starting}
 use Rattle.table_rule.specs.Laid.{AreOpening, AreSlots, EndsWith, home_lane, home_lanes, home_log, lanes_among, HasNoDevices}
 use Rattle.table_rule.proofs.Sizes.{named_below}
 use Rattle.table_rule.proofs.Laying.{lanes_append, plain_both, lanes_pages, plain_pages, lanes_aways, plain_aways, lanes_lanes, plain_lanes, lanes_counted, lane_numbered, lanes_maps, plain_maps, lanes_before, snoc_same}
@@ -186,13 +186,16 @@ module _ {L G : Type 0} (d : Devices L G) (relations : List RelEntry) (lanes : L
   unsynced_is : (q : ℕ) (l : L) (word : ℕ) (tag : Tag) → get_elem? lanes q ≡ some l → IsPlaced relations (length lanes) q word tag → unsynced_of (unpacked_tag word) ≡ d.unsynced l tag
   unsynced_is q l word tag at h = ap unsynced_of h.named ∙ ap (λ (x : slot.Option L). mark_in_slot x tag) (ap (get_elem? lanes) h.placed ∙ at)
 
-  fresh_is : AreLanes d relations lanes → (q : ℕ) (l : L) → get_elem? lanes q ≡ some l → IsLane d relations (length lanes) q l (history.fresh_lane base store_of q)
+  fresh_is : AreLanes d relations lanes → (q : ℕ) (l : L) → get_elem? lanes q ≡ some l → IsLane d relations (length lanes) q (contents_at d.contents lanes q) l (history.fresh_lane base store_of q)
   fresh_is are q l at = record {
     known = ap known_in at;
     pages = λ known word tag told h. origin_is are q l known word tag at told h;
     held = λ known word tag told h. are.held q l known word tag at told h;
     failed = λ known word tag told h. sym (are.unfailed q l known word tag at told h);
     unsynced = λ word tag h. unsynced_is q l word tag at h;
+    others = λ known tag told unplaced.
+        subst (λ (c : Option Pages). IsSomeAnd c (λ (was : Pages). known tag ≡ was tag))
+        (sym (ap (contents_in d.contents) at ∙ told)) refl;
     reads = ap (faults_in d.read_faults) at;
     writes = ap (faults_in d.write_faults) at;
   }
@@ -303,7 +306,7 @@ module _ {L G : Type 0} (d : Devices L G) (o : Opening L G) where
   homes ys h count are new (place.Of (turn.Lane q)) below out = let t = there_at lanes q (omega arith) in record {
     value = home_lane q t.0;
     home = at_map some ys (first_lane_slot n + q) (home_lane q t.0) (lane_at d n lanes o.log.value ys h q t.0 t.1);
-    gives = (subst (λ (m : ℕ). IsLane d o.catalog.value m q t.0 (history.fresh_lane o.base store q)) count (fresh_is d o.catalog.value lanes o.log.value o.base are q t.0 t.1), refl, refl);
+    gives = (subst (λ (m : ℕ). IsLane d o.catalog.value m q (lane_opened d o q) t.0 (history.fresh_lane o.base store q)) count (fresh_is d o.catalog.value lanes o.log.value o.base are q t.0 t.1), refl, refl);
   }
   homes ys h count are new (place.Of turn.Log) below out = record {
     value = value.Log (home_log h.room o.log.value);

@@ -44,7 +44,9 @@ is_fork relations fork = has_relation relations (unpacked_tag (fork * 2 ^ 32))
 
 -- How the log names a block: the relation's three numbers, the fork, and the block, in 4 bytes each
 abbrev pub block_name : RelEntry → Tag → List ℕ
-block_name e tag = little_bytes 4 e.tablespace ++ (little_bytes 4 e.database ++ (little_bytes 4 e.relation ++ (little_bytes 4 (fork_number tag.fork) ++ little_bytes 4 tag.block)))
+block_name e tag = little_bytes 4 e.tablespace
+    ++ (little_bytes 4 e.database ++ (little_bytes 4 e.relation
+    ++ (little_bytes 4 (fork_number tag.fork) ++ little_bytes 4 tag.block)))
 
 -- a block that the relations lack has no name: zeros stand for it
 abbrev pub no_name : List ℕ

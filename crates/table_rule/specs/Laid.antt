@@ -32,7 +32,8 @@ pub record AreOpening (words : List ℕ) (n base : ℕ) : Type 0 where
 
 -- empty lists, each with room for n entries
 abbrev pub AreFresh : ℕ → List (Vec Mapped Global) → Type 0
-AreFresh n maps = (k : ℕ) (m : Vec Mapped Global) → get_elem? maps k ≡ some m → (m.items ≡ []) × (n ≤ vec_capacity m)
+AreFresh n maps = (k : ℕ) (m : Vec Mapped Global) → get_elem? maps k ≡ some m → (m.items ≡ [])
+    × (n ≤ vec_capacity m)
 
 -- the memory of a table of n frames
 pub record IsRoom (n : ℕ) (room : Room) : Type 0 where
@@ -93,7 +94,8 @@ module _ {L G : Type 0} where
     pub is : ys ≡ (others ++ value.Log g ∷ []) ++ value.Lanes list ∷ []
     pub plain : HasNoDevices others
 
-  -- The slots of n frames: a page of zeros for each, 128 empty maps, 16 places for lanes, the log, and the list of lanes
+  -- The slots of n frames: a page of zeros for each, 128 empty maps, 16 places for lanes, the log,
+  -- and the list of lanes
   pub record AreSlots (n : ℕ) (lanes : List L) (log : G) (ys : List (Value L G)) : Type 0 where
     pub maps : List (Value L G)
     pub counted : length maps ≡ 128
@@ -104,4 +106,6 @@ module _ {L G : Type 0} where
     pub list : Vec L Global
     pub empty : list.items ≡ []
     pub list_room : length lanes ≤ vec_capacity list
-    pub is : ys ≡ ((((replicate n (value.Page zero_page) ++ maps) ++ home_lanes 0 lanes) ++ replicate (16 - length lanes) value.Away) ++ value.Log (home_log room log) ∷ []) ++ value.Lanes list ∷ []
+    pub is : ys ≡ ((((replicate n (value.Page zero_page) ++ maps) ++ home_lanes 0 lanes)
+        ++ replicate (16 - length lanes) value.Away) ++ value.Log (home_log room log) ∷ [])
+        ++ value.Lanes list ∷ []

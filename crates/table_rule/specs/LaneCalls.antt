@@ -21,9 +21,17 @@ pub record LaneDevices (L : Type 0) : Type 0 where
   pub calls : L → ℕ
 
 abbrev pub lane_devices : {L : Type 0} → lane_trait.Ghosts L → LaneDevices L
-lane_devices l = record { contents = l.contents; failed_writes = l.failed_writes; unsynced = l.unsynced; read_faults = l.read_faults; write_faults = l.write_faults; calls = l.calls }
+lane_devices l = record {
+  contents = l.contents;
+  failed_writes = l.failed_writes;
+  unsynced = l.unsynced;
+  read_faults = l.read_faults;
+  write_faults = l.write_faults;
+  calls = l.calls;
+}
 
--- the call was the read of this page for a frame, the write of this page of a frame, or such a write that failed
+-- the call was the read of this page for a frame, the write of this page of a frame, or such a
+-- write that failed
 abbrev pub NotesRead : ℕ → Tag → List ℕ → LaneCall → Type 0
 NotesRead f tag page (Read g t p) = (g ≡ f) × (t ≡ tag) × (p.value ≡ page)
 NotesRead f tag page _ = ⊥
@@ -62,14 +70,18 @@ module _ {L : Type 0} (d : LaneDevices L) where
   -- The block of the tag has this page now, and its last write didn't fail
   pub record TookPage (tag : Tag) (page : List ℕ) (before after : L) : Type 0 where
     pub unknown : d.contents before ≡ None → d.contents after ≡ None
-    pub pages : (known : Pages) → d.contents before ≡ Some known → d.contents after ≡ Some (with_page tag page known)
-    pub failed : (known : Pages) → d.contents before ≡ Some known → d.failed_writes after ≡ with_mark tag false (d.failed_writes before)
+    pub pages : (known : Pages) → d.contents before ≡ Some known
+        → d.contents after ≡ Some (with_page tag page known)
+    pub failed : (known : Pages) → d.contents before ≡ Some known
+        → d.failed_writes after ≡ with_mark tag false (d.failed_writes before)
 
   -- The page of the tag's block is unspecified now, and its last write failed
   pub record TorePage (tag : Tag) (before after : L) : Type 0 where
     pub unknown : d.contents before ≡ None → d.contents after ≡ None
-    pub pages : (known : Pages) → d.contents before ≡ Some known → IsSomeAnd (d.contents after) (IsTorn tag known)
-    pub failed : (known : Pages) → d.contents before ≡ Some known → d.failed_writes after ≡ with_mark tag true (d.failed_writes before)
+    pub pages : (known : Pages) → d.contents before ≡ Some known
+        → IsSomeAnd (d.contents after) (IsTorn tag known)
+    pub failed : (known : Pages) → d.contents before ≡ Some known
+        → d.failed_writes after ≡ with_mark tag true (d.failed_writes before)
 
   -- One call more was made
   abbrev pub CountsCall : L → L → Type 0
@@ -88,9 +100,15 @@ module _ {L : Type 0} (d : LaneDevices L) where
   -- What the call made of the lane
   abbrev pub LaneDid : L → L → LaneCall → Type 0
   LaneDid before after Untouched = after ≡ before
-  LaneDid before after (Read f tag page) = HoldsTheSame before after × CountsTheSame before after × Gave tag page.value before × KeepsUnsynced before after × CountsCall before after
-  LaneDid before after (ReadFailed tag) = HoldsTheSame before after × ReadRose before after × KeepsUnsynced before after × CountsCall before after
-  LaneDid before after (Written f tag page) = TookPage tag page.value before after × CountsTheSame before after × AddsUnsynced tag before after × CountsCall before after
-  LaneDid before after (WriteFailed f tag page) = TorePage tag before after × WriteRose before after × AddsUnsynced tag before after × CountsCall before after
-  LaneDid before after Synced = HoldsTheSame before after × CountsTheSame before after × HasSyncedAll after × CountsCall before after
-  LaneDid before after SyncFailed = HoldsTheSame before after × WriteRose before after × KeepsUnsynced before after × CountsCall before after
+  LaneDid before after (Read f tag page) = HoldsTheSame before after × CountsTheSame before after
+      × Gave tag page.value before × KeepsUnsynced before after × CountsCall before after
+  LaneDid before after (ReadFailed tag) = HoldsTheSame before after × ReadRose before after
+      × KeepsUnsynced before after × CountsCall before after
+  LaneDid before after (Written f tag page) = TookPage tag page.value before after
+      × CountsTheSame before after × AddsUnsynced tag before after × CountsCall before after
+  LaneDid before after (WriteFailed f tag page) = TorePage tag before after × WriteRose before after
+      × AddsUnsynced tag before after × CountsCall before after
+  LaneDid before after Synced = HoldsTheSame before after × CountsTheSame before after
+      × HasSyncedAll after × CountsCall before after
+  LaneDid before after SyncFailed = HoldsTheSame before after × WriteRose before after
+      × KeepsUnsynced before after × CountsCall before after

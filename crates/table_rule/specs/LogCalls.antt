@@ -13,16 +13,22 @@ use Rattle.table_rule.specs.Blocks.{block_name}
 
 -- the record of the entry of a page, which starts at this position, if the block's relation is this
 abbrev pub block_record : RelEntry → Tag → ℕ → Page → List ℕ
-block_record e tag start page = record_bytes (λ _. block_name e tag) (record { start = start; backend = 0; change = image (packed_tag tag) page })
+block_record e tag start page = record_bytes (λ _. block_name e tag) (record {
+  start = start;
+  backend = 0;
+  change = image (packed_tag tag) page;
+})
 
 -- the call is an append of these bytes, for this page of a frame's block, and it was done
 abbrev pub IsAppended : ℕ → Tag → Page → List ℕ → LogCall → Type 0
-IsAppended f tag page piece (log_call.Appended g named shown bytes) = (g ≡ f) × (named ≡ tag) × (shown.value ≡ page) × (bytes.value.items ≡ piece)
+IsAppended f tag page piece (log_call.Appended g named shown bytes) = (g ≡ f) × (named ≡ tag)
+    × (shown.value ≡ page) × (bytes.value.items ≡ piece)
 IsAppended f tag page piece _ = ⊥
 
 -- or it failed
 abbrev pub IsFailedAppend : ℕ → Tag → Page → List ℕ → LogCall → Type 0
-IsFailedAppend f tag page piece (log_call.AppendFailed g named shown bytes) = (g ≡ f) × (named ≡ tag) × (shown.value ≡ page) × (bytes.value.items ≡ piece)
+IsFailedAppend f tag page piece (log_call.AppendFailed g named shown bytes) = (g ≡ f)
+    × (named ≡ tag) × (shown.value ≡ page) × (bytes.value.items ≡ piece)
 IsFailedAppend f tag page piece _ = ⊥
 
 -- whether a call failed

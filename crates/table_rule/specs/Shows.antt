@@ -1,5 +1,5 @@
 -- The rule of the table: what its words, slots and views show of a state that has the law.
-use Rattle.std.specs.Prelude.{◌≡◌, ℕ, ◌<◌, ◌≤◌, ◌%◌, ◌^◌, Bool, true, false, List, [], Vec, vec_capacity, length, map, slice_index, Option, Some, is_some}
+use Rattle.std.specs.Prelude.{◌≡◌, ℕ, ◌<◌, ◌≤◌, ◌%◌, ◌^◌, Bool, true, false, List, [], Vec, vec_capacity, length, map, slice_index, Option, Some, None, is_some, IsSomeAnd}
 use Rattle.std.specs.Global.{Global}
 use mathlib.Core.Option.{some}
 use mathlib.Core.Option as slot
@@ -59,7 +59,8 @@ HasTurn lanes turn.Log = Unit {0}
 -- What the words say of the latches, and of the other words
 pub record ShowsLatches (n lanes : ℕ) (words : List ℕ) (s : State) : Type 0 where
   -- a latch is taken if its word is 1, and else its word is 0
-  pub latch : (x : Turn) → HasTurn lanes x → slice_index words (latch_place n x) ≡ flag_weight (is_taken x s)
+  pub latch : (x : Turn) → HasTurn lanes x → slice_index words (latch_place n x) ≡ flag_weight
+      (is_taken x s)
   pub word : (w : Word) → HasWord n w → slice_index words (word_place n w) ≡ word_of w s
 
 -- What no step changes of a state: what it was opened with.
@@ -127,7 +128,8 @@ entry_of m = record { tag = m.tag; frame = m.frame }
 
 -- no tag stands twice
 abbrev pub AreApart : List Mapped → Type 0
-AreApart entries = (i j : ℕ) (a b : Mapped) → get_elem? entries i ≡ some a → get_elem? entries j ≡ some b → a.tag ≡ b.tag → i ≡ j
+AreApart entries = (i j : ℕ) (a b : Mapped) → get_elem? entries i ≡ some a
+    → get_elem? entries j ≡ some b → a.tag ≡ b.tag → i ≡ j
 
 -- Entries of a map, with room for one of each of n frames: no tag stands twice
 pub record GivesEntries (n : ℕ) (entries : Vec Mapped Global) (m : ℕ → Option ℕ) : Type 0 where
@@ -174,16 +176,39 @@ pub record IsPlaced (relations : List RelEntry) (lanes q word : ℕ) (tag : Tag)
   pub listed : has_block relations tag ≡ true
   pub placed : lane_number tag lanes ≡ q
 
+-- If what the lane q holds now is known, then what it held was, too, and each tag that is no block
+-- of the relations there has the page that it had, or still has none
+abbrev pub KeepsOthers : List RelEntry → ℕ → ℕ → Option Pages → Option Pages → Type 0
+KeepsOthers relations lanes q opened now =
+    (known : Pages) (tag : Tag) → now ≡ Some known
+    → ((word : ℕ) → IsPlaced relations lanes q word tag → ⊥)
+    → IsSomeAnd opened (λ was. known tag ≡ was tag)
+
+-- what the lane q among these holds, if that is known
+abbrev pub contents_in : {L : Type 0} → (L → Option Pages) → slot.Option L → Option Pages
+contents_in contents slot.none = None
+contents_in contents (slot.some l) = contents l
+
+abbrev pub contents_at : {L : Type 0} → (L → Option Pages) → List L → ℕ → Option Pages
+contents_at contents lanes q = contents_in contents (get_elem? lanes q)
+
 module _ {L G : Type 0} where
-  -- The lane q of so many is the device l
-  pub record IsLane (d : Devices L G) (relations : List RelEntry) (lanes q : ℕ) (l : L) (ln : Lane) : Type 0 where
+  -- The lane q of so many is the device l; `opened` is what it held as the table was opened
+  pub record IsLane (d : Devices L G) (relations : List RelEntry) (lanes q : ℕ)
+      (opened : Option Pages) (l : L) (ln : Lane) : Type 0 where
     pub known : ln.known ≡ is_some (d.contents l)
     -- it holds each block of the relations that lies there, and these are the pages
-    pub held : (known : Pages) (word : ℕ) (tag : Tag) → d.contents l ≡ Some known → IsPlaced relations lanes q word tag → is_some (known tag) ≡ true
-    pub pages : (known : Pages) (word : ℕ) (tag : Tag) → d.contents l ≡ Some known → IsPlaced relations lanes q word tag → known tag ≡ ln.stored word
-    pub failed : (known : Pages) (word : ℕ) (tag : Tag) → d.contents l ≡ Some known → IsPlaced relations lanes q word tag → ln.failed word ≡ d.failed_writes l tag
+    pub held : (known : Pages) (word : ℕ) (tag : Tag) → d.contents l ≡ Some known
+        → IsPlaced relations lanes q word tag → is_some (known tag) ≡ true
+    pub pages : (known : Pages) (word : ℕ) (tag : Tag) → d.contents l ≡ Some known
+        → IsPlaced relations lanes q word tag → known tag ≡ ln.stored word
+    pub failed : (known : Pages) (word : ℕ) (tag : Tag) → d.contents l ≡ Some known
+        → IsPlaced relations lanes q word tag → ln.failed word ≡ d.failed_writes l tag
     -- the blocks that were written since its last sync, whether or not its contents are known
-    pub unsynced : (word : ℕ) (tag : Tag) → IsPlaced relations lanes q word tag → ln.unsynced word ≡ d.unsynced l tag
+    pub unsynced : (word : ℕ) (tag : Tag) → IsPlaced relations lanes q word tag
+        → ln.unsynced word ≡ d.unsynced l tag
+    -- what it holds besides the relations' blocks is what it held as the table was opened
+    pub others : KeepsOthers relations lanes q opened (d.contents l)
     pub reads : ln.read_faults ≡ d.read_faults l
     pub writes : ln.write_faults ≡ d.write_faults l
 
@@ -197,8 +222,12 @@ module _ {L G : Type 0} where
   -- What the devices are as a table is built over them: if a lane's contents are known it holds the
   -- relations' blocks that lie there, and the last write of none of these has failed
   pub record AreLanes (d : Devices L G) (relations : List RelEntry) (lanes : List L) : Type 0 where
-    pub held : (q : ℕ) (l : L) (known : Pages) (word : ℕ) (tag : Tag) → get_elem? lanes q ≡ some l → d.contents l ≡ Some known → IsPlaced relations (length lanes) q word tag → is_some (known tag) ≡ true
-    pub unfailed : (q : ℕ) (l : L) (known : Pages) (word : ℕ) (tag : Tag) → get_elem? lanes q ≡ some l → d.contents l ≡ Some known → IsPlaced relations (length lanes) q word tag → d.failed_writes l tag ≡ false
+    pub held : (q : ℕ) (l : L) (known : Pages) (word : ℕ) (tag : Tag) → get_elem? lanes q ≡ some l
+        → d.contents l ≡ Some known → IsPlaced relations (length lanes) q word tag
+        → is_some (known tag) ≡ true
+    pub unfailed : (q : ℕ) (l : L) (known : Pages) (word : ℕ) (tag : Tag)
+        → get_elem? lanes q ≡ some l → d.contents l ≡ Some known
+        → IsPlaced relations (length lanes) q word tag → d.failed_writes l tag ≡ false
 
   -- A new log, as a table is built over it: if its contents are known they are just the head
   pub record IsNewLog (d : Devices L G) (base : ℕ) (g : G) : Type 0 where
@@ -215,19 +244,29 @@ module _ {L G : Type 0} where
   GivesMap n _ m = ⊥
 
   -- a lane is home without the note of a call, and with its number
-  abbrev pub GivesLane : Devices L G → List RelEntry → ℕ → ℕ → Value L G → Lane → Type 0
-  GivesLane d relations lanes q (value.Lane l) ln = IsLane d relations lanes q l.device ln × (l.call ≡ lane_call.Untouched) × (l.number ≡ q)
-  GivesLane d relations lanes q _ ln = ⊥
+  abbrev pub GivesLane : Devices L G → List RelEntry → ℕ → ℕ → Option Pages → Value L G → Lane
+      → Type 0
+  GivesLane d relations lanes q opened (value.Lane l) ln =
+      IsLane d relations lanes q opened l.device ln × (l.call ≡ lane_call.Untouched)
+      × (l.number ≡ q)
+  GivesLane d relations lanes q opened _ ln = ⊥
 
   -- the log is home without the note of a call, and with room for a record
   abbrev pub GivesLog : Devices L G → Value L G → Device → Type 0
-  GivesLog d (value.Log g) dev = IsLog d g.device g.down dev × (g.call ≡ log_call.Untouched) × (record_size ≤ vec_capacity g.buffer)
+  GivesLog d (value.Log g) dev = IsLog d g.device g.down dev × (g.call ≡ log_call.Untouched)
+      × (record_size ≤ vec_capacity g.buffer)
   GivesLog d _ dev = ⊥
+
+  -- what the lane q held as the table was opened, if that is known
+  abbrev pub lane_opened : Devices L G → Opening L G → ℕ → Option Pages
+  lane_opened d o q = contents_at d.contents o.lanes.value.items q
 
   abbrev pub Gives : Devices L G → Opening L G → State → Place → Value L G → Type 0
   Gives d o s (place.Page f) y = GivesPage y (s.pool.core.frame f).page
-  Gives d o s (place.Of (turn.Partition p)) y = GivesMap o.config.frames y (s.pool.core.partition p).map
-  Gives d o s (place.Of (turn.Lane q)) y = GivesLane d o.catalog.value s.lanes q y (s.lane q)
+  Gives d o s (place.Of (turn.Partition p)) y =
+      GivesMap o.config.frames y (s.pool.core.partition p).map
+  Gives d o s (place.Of (turn.Lane q)) y =
+      GivesLane d o.catalog.value s.lanes q (lane_opened d o q) y (s.lane q)
   Gives d o s (place.Of turn.Log) y = GivesLog d y s.device
 
   -- whether a table has the place
@@ -256,33 +295,46 @@ module _ {L G : Type 0} where
     pub few_backends : o.config.passes ≤ 64
     pub few_lanes : o.config.lanes ≤ 16
     -- the pages of the devices at the start, which of them were to be synced, and the counts
-    pub known : (q : ℕ) (l : L) (word : ℕ) → get_elem? o.lanes.value.items q ≡ some l → tag_lane o.config.lanes word ≡ q → s.known word ≡ is_some (d.contents l)
-    pub held : (q : ℕ) (l : L) (known : Pages) (word : ℕ) (tag : Tag) → get_elem? o.lanes.value.items q ≡ some l → d.contents l ≡ Some known → IsPlaced o.catalog.value o.config.lanes q word tag → is_some (known tag) ≡ true
-    pub origin : (q : ℕ) (l : L) (known : Pages) (word : ℕ) (tag : Tag) → get_elem? o.lanes.value.items q ≡ some l → d.contents l ≡ Some known → IsPlaced o.catalog.value o.config.lanes q word tag → known tag ≡ s.origin word
-    pub unsynced : (q : ℕ) (l : L) (word : ℕ) (tag : Tag) → get_elem? o.lanes.value.items q ≡ some l → IsPlaced o.catalog.value o.config.lanes q word tag → s.unsynced word ≡ d.unsynced l tag
-    pub reads : (q : ℕ) (l : L) → get_elem? o.lanes.value.items q ≡ some l → s.reads q ≡ d.read_faults l
-    pub writes : (q : ℕ) (l : L) → get_elem? o.lanes.value.items q ≡ some l → s.writes q ≡ d.write_faults l
+    pub known : (q : ℕ) (l : L) (word : ℕ) → get_elem? o.lanes.value.items q ≡ some l
+        → tag_lane o.config.lanes word ≡ q → s.known word ≡ is_some (d.contents l)
+    pub held : (q : ℕ) (l : L) (known : Pages) (word : ℕ) (tag : Tag)
+        → get_elem? o.lanes.value.items q ≡ some l → d.contents l ≡ Some known
+        → IsPlaced o.catalog.value o.config.lanes q word tag → is_some (known tag) ≡ true
+    pub origin : (q : ℕ) (l : L) (known : Pages) (word : ℕ) (tag : Tag)
+        → get_elem? o.lanes.value.items q ≡ some l → d.contents l ≡ Some known
+        → IsPlaced o.catalog.value o.config.lanes q word tag → known tag ≡ s.origin word
+    pub unsynced : (q : ℕ) (l : L) (word : ℕ) (tag : Tag) → get_elem? o.lanes.value.items q ≡ some l
+        → IsPlaced o.catalog.value o.config.lanes q word tag → s.unsynced word ≡ d.unsynced l tag
+    pub reads : (q : ℕ) (l : L) → get_elem? o.lanes.value.items q ≡ some l
+        → s.reads q ≡ d.read_faults l
+    pub writes : (q : ℕ) (l : L) → get_elem? o.lanes.value.items q ≡ some l
+        → s.writes q ≡ d.write_faults l
     pub log_faults : s.log_faults ≡ d.log_faults o.log.value
 
   abbrev pub KeepsOpening : Devices L G → Opening L G → State → Type 0
   KeepsOpening d o s = IsOpening d o (fixed_of s)
 
   -- The slot has this value, and it is what the state says of the place
-  pub record HasValue (d : Devices L G) (o : Opening L G) (homes : List (slot.Option (Value L G))) (s : State) (x : Place) : Type 0 where
+  pub record HasValue (d : Devices L G) (o : Opening L G) (homes : List (slot.Option (Value L G)))
+      (s : State) (x : Place) : Type 0 where
     pub value : Value L G
     pub home : get_elem? homes (slot_of o.config.frames x) ≡ some (some value)
     pub gives : Gives d o s x value
 
-  -- In the other slots the list in which the lanes came is empty, with room for them, and nothing stands for the lanes that there aren't
+  -- In the other slots the list in which the lanes came is empty, with room for them, and nothing
+  -- stands for the lanes that there aren't
   pub record HasList (o : Opening L G) (homes : List (slot.Option (Value L G))) : Type 0 where
     pub list : Vec L Global
     pub home : get_elem? homes (list_slot o.config.frames) ≡ some (some (value.Lanes list))
     pub empty : list.items ≡ []
     pub room : o.config.lanes ≤ vec_capacity list
-    pub spare : (q : ℕ) → o.config.lanes ≤ q → q < 16 → get_elem? homes (slot_of o.config.frames (place.Of (turn.Lane q))) ≡ some (some value.Away)
+    pub spare : (q : ℕ) → o.config.lanes ≤ q → q < 16
+        → get_elem? homes (slot_of o.config.frames (place.Of (turn.Lane q)))
+        ≡ some (some value.Away)
 
   -- What a table shows of a state
-  pub record Shows (d : Devices L G) (o : Opening L G) (t : table.State (Value L G) View) (s : State) : Type 0 where
+  pub record Shows (d : Devices L G) (o : Opening L G) (t : table.State (Value L G) View)
+      (s : State) : Type 0 where
     pub fixed : KeepsOpening d o s
     pub words : length t.words ≡ word_count o.config.frames
     pub slots : length t.homes ≡ slot_count o.config.frames
@@ -293,8 +345,10 @@ module _ {L G : Type 0} where
     pub homes : (x : Place) → IsPlaceIn o x → IsHome x s.pool.core.views → HasValue d o t.homes s x
     pub list : HasList o t.homes
 
-  -- The rule: the table shows a state that has the law. The state has besides what no word shows: the pages of the blocks after the log, its entries, and what is out
-  pub record RuleHolds (d : Devices L G) (o : Opening L G) (t : table.State (Value L G) View) : Type 0 where
+  -- The rule: the table shows a state that has the law. The state has besides what no word shows:
+  -- the pages of the blocks after the log, its entries, and what is out
+  pub record RuleHolds (d : Devices L G) (o : Opening L G) (t : table.State (Value L G) View) :
+      Type 0 where
     pub state : State
     pub shows : Shows d o t state
     pub laws : Laws state

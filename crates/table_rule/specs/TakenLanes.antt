@@ -15,7 +15,14 @@ use Rattle.table_rule.specs.LaneCalls.{LaneDevices}
 
 -- the lanes among the devices
 abbrev pub lane_devices_of : {L G : Type 0} → Devices L G → LaneDevices L
-lane_devices_of d = record { contents = d.contents; failed_writes = d.failed_writes; unsynced = d.unsynced; read_faults = d.read_faults; write_faults = d.write_faults; calls = d.lane_calls }
+lane_devices_of d = record {
+  contents = d.contents;
+  failed_writes = d.failed_writes;
+  unsynced = d.unsynced;
+  read_faults = d.read_faults;
+  write_faults = d.write_faults;
+  calls = d.lane_calls;
+}
 
 -- A block of the relations that lies in the lane q of so many
 pub record IsBlockOf (relations : List RelEntry) (lanes q : ℕ) (tag : Tag) : Type 0 where
@@ -46,7 +53,11 @@ mark_named marks None = false
 mark_named marks (Some tag) = marks tag
 
 abbrev pub block_page : Pages → Marks → ℕ → BlockPage
-block_page known marks word = record { tag = word; page = page_named known (unpacked_tag word); failed = mark_named marks (unpacked_tag word) }
+block_page known marks word = record {
+  tag = word;
+  page = page_named known (unpacked_tag word);
+  failed = mark_named marks (unpacked_tag word);
+}
 
 abbrev pub block_mark : Marks → ℕ → BlockMark
 block_mark marks word = record { tag = word; unsynced = mark_named marks (unpacked_tag word) }
@@ -63,8 +74,18 @@ block_pages blocks (Some known) marks = Some (map (block_page known marks) block
 module _ {L : Type 0} (d : LaneDevices L) (relations : List RelEntry) (lanes q : ℕ) where
   -- what the lane q is
   abbrev pub taken_lane : L → TakenLane
-  taken_lane l = record { pages = block_pages (blocks_in_lane relations lanes q) (d.contents l) (d.failed_writes l); marks = map (block_mark (d.unsynced l)) (blocks_in_lane relations lanes q); read_faults = d.read_faults l; write_faults = d.write_faults l; calls = d.calls l }
+  taken_lane l = record {
+    pages = block_pages (blocks_in_lane relations lanes q) (d.contents l)
+        (d.failed_writes l);
+    marks = map (block_mark (d.unsynced l))
+        (blocks_in_lane relations lanes q);
+    read_faults = d.read_faults l;
+    write_faults =
+        d.write_faults l;
+    calls = d.calls l;
+  }
 
   -- if its contents are known it holds each block that lies there
   abbrev pub HoldsBlocks : L → Type 0
-  HoldsBlocks l = (tag : Tag) → IsBlockOf relations lanes q tag → ForSome (d.contents l) (λ known. IsSome (known tag))
+  HoldsBlocks l = (tag : Tag) → IsBlockOf relations lanes q tag
+      → ForSome (d.contents l) (λ known. IsSome (known tag))

@@ -16,7 +16,8 @@ use block_tag::PARTITIONS;
 use page_layout::Page;
 use std::alloc::{AllocError, AllocFailed, Global};
 
-/// Memory that a table takes once: the pages of its frames, the maps of its partitions, and a record of its log.
+/// Memory that a table takes once: the pages of its frames, the maps of its partitions, and a
+/// record of its log.
 #[derive(Drop)]
 pub struct Room {
     pages: Vec<Page>,
@@ -87,7 +88,8 @@ pub(crate) fn put<T>(list: &mut Vec<T>, value: T)
 fn put_pages<L, G>(slots: &mut Vec<Value<L, G>>, mut pages: Vec<Page>)
     requires room { vec_len slots.old + vec_len pages ≤ vec_capacity slots.old }
     requires zero { pages.items ≡ replicate (vec_len pages) zero_page }
-    ensures items { slots.new.items ≡ slots.old.items ++ replicate (vec_len pages) (value.Page zero_page) }
+    ensures items { slots.new.items ≡ slots.old.items ++ replicate (vec_len pages)
+        (value.Page zero_page) }
     ensures room { vec_capacity slots.old ≤ vec_capacity slots.new }
 {
     while let Some(page) = pages.pop() {
@@ -181,7 +183,8 @@ impl Room {
 /// The lanes among the slots come back into their list.
 fn take_lanes<L, G>(mut slots: Vec<Value<L, G>>, lanes: &mut Vec<L>)
     requires plain { HasNoDevices slots.items }
-    requires room { (lanes.old.items ≡ []) × (length (lanes_among slots.items) ≤ vec_capacity lanes.old) }
+    requires room { (lanes.old.items ≡ []) × (length (lanes_among slots.items)
+        ≤ vec_capacity lanes.old) }
     ensures { lanes.new.items ≡ lanes_among slots.items }
 {
     while let Some(value) = slots.pop() {
@@ -200,8 +203,10 @@ fn take_lanes<L, G>(mut slots: Vec<Value<L, G>>, lanes: &mut Vec<L>)
 
 /// The devices come back out of the slots.
 pub fn take_back<L, G>(mut slots: Vec<Value<L, G>>) -> (Vec<L>, G)
-    requires { (g : NotedLog G) × (list : Vec L Global) × EndsWith g list slots.items × (list.items ≡ []) × (length (lanes_among slots.items) ≤ vec_capacity list) }
-    ensures { (g : NotedLog G) × (list : Vec L Global) × EndsWith g list slots.items × (result.0.items ≡ lanes_among slots.items) × (result.1 ≡ g.device) }
+    requires { (g : NotedLog G) × (list : Vec L Global) × EndsWith g list slots.items
+        × (list.items ≡ []) × (length (lanes_among slots.items) ≤ vec_capacity list) }
+    ensures { (g : NotedLog G) × (list : Vec L Global) × EndsWith g list slots.items
+        × (result.0.items ≡ lanes_among slots.items) × (result.1 ≡ g.device) }
 {
     let mut lanes = match slots.pop() {
         Some(Value::Lanes(lanes)) => lanes,

@@ -17,8 +17,11 @@ use std::alloc::Global;
 /// The devices come back out of the slots of a table that is closed.
 pub fn take_closed<L, G>(mut closed: Closed<Value<L, G>, Global>) -> (Vec<L>, G)
     requires full { IsFull closed.slots }
-    requires ends { (g : NotedLog G) × (list : Vec L Global) × EndsWith g list (slots_items closed.slots) × (list.items ≡ []) × (length (lanes_among (slots_items closed.slots)) ≤ vec_capacity list) }
-    ensures { (g : NotedLog G) × (list : Vec L Global) × EndsWith g list (slots_items closed.slots) × (result.0.items ≡ lanes_among (slots_items closed.slots)) × (result.1 ≡ g.device) }
+    requires ends { (g : NotedLog G) × (list : Vec L Global)
+        × EndsWith g list (slots_items closed.slots) × (list.items ≡ [])
+        × (length (lanes_among (slots_items closed.slots)) ≤ vec_capacity list) }
+    ensures { (g : NotedLog G) × (list : Vec L Global) × EndsWith g list (slots_items closed.slots)
+        × (result.0.items ≡ lanes_among (slots_items closed.slots)) × (result.1 ≡ g.device) }
 {
     let mut left = closed.slot_count();
     left -= 1;

@@ -25,7 +25,8 @@ pub const COUNTERS: u32 = 20;
 /// How many hint words there are for each frame.
 pub const HINTS_PER_FRAME: u32 = 4;
 
-/// How many slots follow those of the frames: what the latches guard, and the list in which the lanes came.
+/// How many slots follow those of the frames: what the latches guard, and the list in which the
+/// lanes came.
 pub const OTHER_SLOTS: usize = LOG_PLACE + 2;
 
 /// The place of a frame's state word.

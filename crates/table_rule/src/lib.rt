@@ -1,8 +1,8 @@
 //! The rule of the table that the backends share: what its words and slots are, where they lie, and
 //! what they show of the state of the protocol in `history_core`.
 //!
-//! [`Opening`] has what a table is built from, [`Value`] what lies in a slot, and [`Rule`] ties both
-//! to the protocol. The functions to call are in `frame_table`.
+//! [`Opening`] has what a table is built from, [`Value`] what lies in a slot, and [`Rule`] ties
+//! both to the protocol. The functions to call are in `frame_table`.
 #![tactic(auto)]
 
 mod build;

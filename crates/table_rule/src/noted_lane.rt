@@ -94,8 +94,10 @@ impl<L: BlockLane> NotedLane<L> {
         requires held { ForSome (L.contents self.old.device) (λ pages. IsSome (pages tag)) }
         ensures number { self.new.number ≡ self.old.number }
         ensures page { OnOk result (IfSome (L.contents self.old.device) (λ pages. pages tag ≡ Some page.new)) }
-        ensures call { MatchResult result (λ _. NotesRead frame tag page.new self.new.call) (λ _. self.new.call ≡ lane_call.ReadFailed tag) }
-        ensures did { LaneDid (lane_devices L.BlockLane) self.old.device self.new.device self.new.call }
+        ensures call { MatchResult result (λ _. NotesRead frame tag page.new self.new.call)
+            (λ _. self.new.call ≡ lane_call.ReadFailed tag) }
+        ensures did { LaneDid (lane_devices L.BlockLane) self.old.device self.new.device
+            self.new.call }
     {
         match self.device.read(tag, page) {
             Ok(()) => {
@@ -127,8 +129,10 @@ impl<L: BlockLane> NotedLane<L> {
         requires log_first { lsn_of page.now
             ≤ (lane_hold _seat.now.me.0 self.old.number).flushed }
         ensures number { self.new.number ≡ self.old.number }
-        ensures call { MatchResult result (λ _. NotesWritten frame tag page.now self.new.call) (λ _. NotesWriteFailed frame tag page.now self.new.call) }
-        ensures did { LaneDid (lane_devices L.BlockLane) self.old.device self.new.device self.new.call }
+        ensures call { MatchResult result (λ _. NotesWritten frame tag page.now self.new.call)
+            (λ _. NotesWriteFailed frame tag page.now self.new.call) }
+        ensures did { LaneDid (lane_devices L.BlockLane) self.old.device self.new.device
+            self.new.call }
     {
         let noted = Snapshot::of(page);
         match self.device.write(tag, page) {
@@ -155,8 +159,10 @@ impl<L: BlockLane> NotedLane<L> {
     pub fn sync(&mut self) -> Result<(), Failed>
         requires untouched { self.old.call ≡ lane_call.Untouched }
         ensures number { self.new.number ≡ self.old.number }
-        ensures call { MatchResult result (λ _. self.new.call ≡ lane_call.Synced) (λ _. self.new.call ≡ lane_call.SyncFailed) }
-        ensures did { LaneDid (lane_devices L.BlockLane) self.old.device self.new.device self.new.call }
+        ensures call { MatchResult result (λ _. self.new.call ≡ lane_call.Synced)
+            (λ _. self.new.call ≡ lane_call.SyncFailed) }
+        ensures did { LaneDid (lane_devices L.BlockLane) self.old.device self.new.device
+            self.new.call }
     {
         match self.device.sync() {
             Ok(()) => {

@@ -25,7 +25,8 @@ pub const LAST_POSITION: Lsn = 1 << 62;
 /// The kind of a record of a page.
 const PAGE_RECORD: u32 = 1;
 
-/// The one call of the log that was made since it went out. The pages and the bytes stand here for clauses alone.
+/// The one call of the log that was made since it went out. The pages and the bytes stand here for
+/// clauses alone.
 #[derive(Drop)]
 pub enum LogCall {
     Untouched,
@@ -105,7 +106,12 @@ fn put_name(buffer: &mut Vec<u8>, entry: RelEntry, tag: Tag)
 impl<G> NotedLog<G> {
     /// A log that is up and wasn't called, with room for a record.
     pub(crate) fn new(device: G, buffer: Vec<u8>) -> NotedLog<G>
-        ensures { result ≡ record { device = device; down = None; buffer = buffer; call = log_call.Untouched } }
+        ensures { result ≡ record {
+          device = device;
+          down = None;
+          buffer = buffer;
+          call = log_call.Untouched;
+        } }
     {
         NotedLog {
             device,
@@ -143,7 +149,8 @@ impl<G> NotedLog<G> {
         self
     }
 
-    /// Fills the buffer with the record of a block's page, which starts at this position of the log (`XLogInsert`).
+    /// Fills the buffer with the record of a block's page, which starts at this position of the log
+    /// (`XLogInsert`).
     pub fn write_record(&mut self, entry: RelEntry, tag: Tag, start: u64, page: &Page)
         requires { record_size ≤ vec_capacity self.old.buffer }
         ensures record { self.new.buffer.items ≡ block_record entry tag start page.now }
@@ -175,9 +182,13 @@ impl<G: LogDevice> NotedLog<G> {
     pub fn append(&mut self, frame: u32, tag: Tag, page: &Page, end: u64) -> Result<(), Failed>
         requires untouched { self.old.call ≡ log_call.Untouched }
         requires up { self.old.down ≡ None }
-        ensures did { LogDid G.bytes G.synced G.faults G.calls self.old.device self.new.device self.new.call }
-        ensures call { MatchResult result (λ _. IsAppended frame tag page.now self.old.buffer.items self.new.call) (λ _. IsFailedAppend frame tag page.now self.old.buffer.items self.new.call) }
-        ensures down { MatchResult result (λ _. self.new.down ≡ None) (λ _. self.new.down ≡ Some end) }
+        ensures did { LogDid G.bytes G.synced G.faults G.calls self.old.device self.new.device
+            self.new.call }
+        ensures call { MatchResult result (λ _. IsAppended frame tag page.now self.old.buffer.items
+            self.new.call) (λ _. IsFailedAppend frame tag page.now self.old.buffer.items
+            self.new.call) }
+        ensures down { MatchResult result (λ _. self.new.down ≡ None)
+            (λ _. self.new.down ≡ Some end) }
         ensures buffer { self.new.buffer ≡ self.old.buffer }
     {
         let page = Snapshot::of(page);
@@ -207,9 +218,12 @@ impl<G: LogDevice> NotedLog<G> {
     pub fn sync(&mut self, end: u64) -> Result<(), Failed>
         requires untouched { self.old.call ≡ log_call.Untouched }
         requires up { self.old.down ≡ None }
-        ensures did { LogDid G.bytes G.synced G.faults G.calls self.old.device self.new.device self.new.call }
-        ensures call { MatchResult result (λ _. self.new.call ≡ log_call.Synced) (λ _. self.new.call ≡ log_call.SyncFailed) }
-        ensures down { MatchResult result (λ _. self.new.down ≡ None) (λ _. self.new.down ≡ Some end) }
+        ensures did { LogDid G.bytes G.synced G.faults G.calls self.old.device self.new.device
+            self.new.call }
+        ensures call { MatchResult result (λ _. self.new.call ≡ log_call.Synced)
+            (λ _. self.new.call ≡ log_call.SyncFailed) }
+        ensures down { MatchResult result (λ _. self.new.down ≡ None)
+            (λ _. self.new.down ≡ Some end) }
         ensures buffer { self.new.buffer ≡ self.old.buffer }
     {
         let result = self.device.sync();

@@ -37,7 +37,8 @@ pub record Awaits (lsn : ℕ) (v w : View) : Type 0 where
   pub waits : LoadsBelow lsn v last
   pub sees : SeesFlushed lsn last w
 
--- The one call of the log was a sync, which was done, and the flushed position was raised to the log's end
+-- The one call of the log was a sync, which was done, and the flushed position was raised to the
+-- log's end
 pub record SyncsLog (v w : View) : Type 0 where
   pub out : View
   pub home : View
@@ -46,14 +47,16 @@ pub record SyncsLog (v w : View) : Type 0 where
   pub syncs : DidTwo sync_log (log_back false) out home
   pub raises : DidWord raise_flushed home w found
 
--- The one call of the log was a sync, which failed: no more of the log's bytes are taken as durable than when it went out
+-- The one call of the log was a sync, which failed: no more of the log's bytes are taken as durable
+-- than when it went out
 pub record FailsToSync (v w : View) : Type 0 where
   pub out : View
   pub faults : ℕ
   pub went : GoesOutUp v out
   pub fails : DidTwo (fail_sync went.taken.synced faults) (log_back true) out w
 
--- Under the log's latch, where the log ends at `end`, the flushed position was loaded once more, and was at `lsn` or past it by then
+-- Under the log's latch, where the log ends at `end`, the flushed position was loaded once more,
+-- and was at `lsn` or past it by then
 pub record FindsFlushed (lsn end : ℕ) (v w : View) : Type 0 where
   pub within : lsn ≤ end
   pub sees : SeesFlushed lsn v w
@@ -76,12 +79,14 @@ SyncRefused end (LogShort l e) v w = ⊥
 SyncRefused end (LogDown at) v w = (at ≡ end) × FindsDown at v w
 SyncRefused end LogFault v w = FailsToSync v w
 
--- Why the holder of the latch doesn't flush the log up to `lsn`: the log ends before that; or it doesn't, the flushed position was before `lsn` still, and no sync was done
+-- Why the holder of the latch doesn't flush the log up to `lsn`: the log ends before that; or it
+-- doesn't, the flushed position was before `lsn` still, and no sync was done
 abbrev pub HolderRefused : ℕ → ℕ → FlushLog → View → View → Type 0
 HolderRefused lsn end (LogShort l e) v w = (l ≡ lsn) × (e ≡ end) × (end < lsn) × (w ≡ v)
 HolderRefused lsn end why v w = StillUnflushed lsn end (SyncRefused end why) v w
 
--- The flushed position was loaded, and was before `lsn`; then this was done under the log's latch, where the log ends at `end`
+-- The flushed position was loaded, and was before `lsn`; then this was done under the log's latch,
+-- where the log ends at `end`
 pub record Tries (lsn end : ℕ) (Work : View → View → Type 0) (v w : View) : Type 0 where
   pub looked : View
   pub first : SeesUnflushed lsn v looked
@@ -90,7 +95,8 @@ pub record Tries (lsn end : ℕ) (Work : View → View → Type 0) (v w : View) 
 abbrev pub FlushRefused : ℕ → View → View → FlushLog → Type 0
 FlushRefused lsn v w why = (end : ℕ) × Tries lsn end (HolderRefused lsn end why) v w
 
--- The log, which ends at `lsn` or past it, was not flushed that far at first, and was when its latch was taken
+-- The log, which ends at `lsn` or past it, was not flushed that far at first, and was when its
+-- latch was taken
 pub record WasFlushed (lsn : ℕ) (v w : View) : Type 0 where
   pub end : ℕ
   pub tried : Tries lsn end (FindsFlushed lsn end) v w
@@ -102,9 +108,16 @@ pub record Flushes (lsn : ℕ) (v w : View) : Type 0 where
   pub tried : Tries lsn end (StillUnflushed lsn end SyncsLog) v synced
   pub awaits : Awaits lsn synced w
 
--- the view v, with the steps and loads that w counts, the log end and the flushed position that w has seen, and where it raised that position to
+-- the view v, with the steps and loads that w counts, the log end and the flushed position that w
+-- has seen, and where it raised that position to
 abbrev pub as_looked : View → View → View
-as_looked v w = record v { steps = w.steps; loads = w.loads; end_seen = w.end_seen; flushed = w.flushed; raised_to = w.raised_to }
+as_looked v w = record v {
+  steps = w.steps;
+  loads = w.loads;
+  end_seen = w.end_seen;
+  flushed = w.flushed;
+  raised_to = w.raised_to;
+}
 
 -- The log end that a refusal names was seen, and is at or past all that the view had seen of it
 abbrev pub FlushSeesEnd : FlushLog → View → View → Type 0
@@ -123,7 +136,8 @@ abbrev pub flushed_view : FlushedBy → View → View
 flushed_view NoSync v = v
 flushed_view OneSync v = record v { device_calls = v.device_calls ++ LogSync true ∷ [] }
 
--- What was done until the log was flushed up to `lsn`: it was so already, or was once the latch was taken; or one sync was done
+-- What was done until the log was flushed up to `lsn`: it was so already, or was once the latch was
+-- taken; or one sync was done
 pub data FlushWork (lsn : ℕ) (v w : View) : FlushedBy → Type 0 where
   already : SeesFlushed lsn v w → FlushWork lsn v w NoSync
   meanwhile : WasFlushed lsn v w → FlushWork lsn v w NoSync
@@ -140,4 +154,6 @@ pub record Flushed (lsn : ℕ) (v w : View) : Type 0 where
 abbrev pub unflushed_view : FlushLog → View → View
 unflushed_view (LogShort lsn end) v = v
 unflushed_view (LogDown at) v = downed v
-unflushed_view LogFault v = record (faulted v) { device_calls = v.device_calls ++ LogSync false ∷ [] }
+unflushed_view LogFault v = record (faulted v) {
+  device_calls = v.device_calls ++ LogSync false ∷ [];
+}

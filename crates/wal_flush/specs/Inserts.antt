@@ -23,7 +23,8 @@ use Rattle.wal_flush.specs.declared.inserts.InsertError.TheVariants.{LogFull, Lo
 use Rattle.wal_flush.specs.Latched.{FindsDown, GoesOutUp, UnderLatch, downed, faulted}
 
 -- The page p may be inserted for the frame f, which has the tag of a block of the relations
-pub record CanInsert (relations : List RelEntry) (f : ℕ) (tag : Tag) (p : Page) (v : View) : Type 0 where
+pub record CanInsert (relations : List RelEntry) (f : ℕ) (tag : Tag) (p : Page) (v : View) :
+    Type 0 where
   pub named : names_block tag ≡ true
   pub listed : has_block relations tag ≡ true
   -- the view's pin remembers the tag
@@ -38,7 +39,8 @@ pub record CanInsert (relations : List RelEntry) (f : ℕ) (tag : Tag) (p : Page
   pub used : is_new_page p ≡ false
 
 -- The record of the page p, which starts at `start`, was appended by the one call of the log
-pub record Appends (relations : List RelEntry) (f : ℕ) (tag : Tag) (start : ℕ) (p : Page) (v w : View) : Type 0 where
+pub record Appends (relations : List RelEntry) (f : ℕ) (tag : Tag) (start : ℕ) (p : Page)
+    (v w : View) : Type 0 where
   pub out : View
   pub bytes : List ℕ
   pub is_record : IsRecord relations tag start p bytes
@@ -46,7 +48,8 @@ pub record Appends (relations : List RelEntry) (f : ℕ) (tag : Tag) (start : �
   pub did : DidTwo (append f (packed_tag tag) p bytes) (log_back false) out w
 
 -- The record was appended, and it became an entry of the log
-pub record Enters (relations : List RelEntry) (f : ℕ) (tag : Tag) (start : ℕ) (p : Page) (v w : View) : Type 0 where
+pub record Enters (relations : List RelEntry) (f : ℕ) (tag : Tag) (start : ℕ) (p : Page)
+    (v w : View) : Type 0 where
   pub home : View
   pub appends : Appends relations f tag start p v home
   pub did : DidEnter f p home w
@@ -54,7 +57,8 @@ pub record Enters (relations : List RelEntry) (f : ℕ) (tag : Tag) (start : ℕ
 
 -- The one call of the log was the append of such a record, and it failed: a part, the first bytes
 -- of the record, follows the log; if the log's contents aren't known it is []
-pub record FailsToAppend (relations : List RelEntry) (f : ℕ) (tag : Tag) (start : ℕ) (p : Page) (v w : View) : Type 0 where
+pub record FailsToAppend (relations : List RelEntry) (f : ℕ) (tag : Tag) (start : ℕ) (p : Page)
+    (v w : View) : Type 0 where
   pub out : View
   pub bytes : List ℕ
   pub part : List ℕ
@@ -68,16 +72,22 @@ pub record FailsToAppend (relations : List RelEntry) (f : ℕ) (tag : Tag) (star
 
 -- Why the page p is not entered where the log ends at `end`, and what was done
 abbrev pub EnterRefused : List RelEntry → ℕ → Tag → Page → ℕ → InsertError → View → View → Type 0
-EnterRefused relations f tag p end (LogFull e) v w = (e ≡ end) × (last_position < end + record_size) × (w ≡ v)
-EnterRefused relations f tag p end (LogDown at) v w = (at ≡ end) × (end + record_size ≤ last_position) × FindsDown at v w
-EnterRefused relations f tag p end LogFault v w = (end + record_size ≤ last_position) × FailsToAppend relations f tag end (with_lsn (end + record_size) p) v w
+EnterRefused relations f tag p end (LogFull e) v w = (e ≡ end) × (last_position < end + record_size)
+    × (w ≡ v)
+EnterRefused relations f tag p end (LogDown at) v w = (at ≡ end)
+    × (end + record_size ≤ last_position) × FindsDown at v w
+EnterRefused relations f tag p end LogFault v w = (end + record_size ≤ last_position)
+    × FailsToAppend relations f tag end (with_lsn (end + record_size) p) v w
 
 -- Why the page p was not inserted, and what was done under the log's latch
 abbrev pub InsertRefused : List RelEntry → ℕ → Tag → Page → View → View → InsertError → Type 0
-InsertRefused relations f tag p v w why = (end : ℕ) × UnderLatch end (EnterRefused relations f tag p end why) v w
+InsertRefused relations f tag p v w why = (end : ℕ)
+    × UnderLatch end (EnterRefused relations f tag p end why) v w
 
--- The page p was entered, under the log's latch, at the end as it was loaded there, and the entry ends at `lsn`
-pub record Inserts (relations : List RelEntry) (f : ℕ) (tag : Tag) (p : Page) (lsn : ℕ) (v w : View) : Type 0 where
+-- The page p was entered, under the log's latch, at the end as it was loaded there, and the entry
+-- ends at `lsn`
+pub record Inserts (relations : List RelEntry) (f : ℕ) (tag : Tag) (p : Page) (lsn : ℕ) (v w : View)
+    : Type 0 where
   pub start : ℕ
   -- at or past all that the view had seen
   pub later : v.front ≤ start
@@ -85,9 +95,11 @@ pub record Inserts (relations : List RelEntry) (f : ℕ) (tag : Tag) (p : Page) 
   pub room : lsn ≤ last_position
   pub work : UnderLatch start (Enters relations f tag start p) v w
 
--- What an insert of the page with this answer adds to the records that the view failed to append: after a failed append the page's, as its entry would have made it
+-- What an insert of the page with this answer adds to the records that the view failed to append:
+-- after a failed append the page's, as its entry would have made it
 abbrev pub AddsTorn : ℕ → Page → Result ℕ InsertError → List TornRecord → List TornRecord → Type 0
-AddsTorn tag page (Err LogFault) old new = (lsn : ℕ) × (lsn ≤ last_position) × (new ≡ old ++ record { tag = tag; page = with_lsn lsn page } ∷ [])
+AddsTorn tag page (Err LogFault) old new = (lsn : ℕ) × (lsn ≤ last_position)
+    × (new ≡ old ++ record { tag = tag; page = with_lsn lsn page } ∷ [])
 AddsTorn tag page _ old new = new ≡ old
 
 -- the log end that a refusal names was seen, and is at or past all that the view had seen of it
@@ -96,7 +108,8 @@ InsertSeesEnd (LogFull end) v w = (v.end_seen ≤ end) × (end ≤ w.end_seen)
 InsertSeesEnd (LogDown at) v w = (v.end_seen ≤ at) × (at ≤ w.end_seen)
 InsertSeesEnd LogFault v w = Unit {0}
 
--- the view then: the write is the last of its calls, whose place is its front, and it has called the log once
+-- the view then: the write is the last of its calls, whose place is its front, and it has called
+-- the log once
 abbrev pub inserted_view : ℕ → ℕ → Page → ℕ → View → View
 inserted_view f tag p lsn v = record v {
   links = slice_set v.links f (entered_link p (link v f));
@@ -109,4 +122,6 @@ inserted_view f tag p lsn v = record v {
 abbrev pub refused_view : InsertError → View → View
 refused_view (LogFull end) v = v
 refused_view (LogDown at) v = downed v
-refused_view LogFault v = record (faulted v) { device_calls = v.device_calls ++ LogAppend false ∷ [] }
+refused_view LogFault v = record (faulted v) {
+  device_calls = v.device_calls ++ LogAppend false ∷ [];
+}

@@ -43,7 +43,8 @@ pub record FindsDown (at : ℕ) (v w : View) : Type 0 where
   pub went : DidTwo (log_out taken) see_down v out
   pub back : DidLog (log_back false) out w
 
--- the view v, with the steps and loads that w counts, the log end that w has seen, and the records that it failed to append
+-- the view v, with the steps and loads that w counts, the log end that w has seen, and the records
+-- that it failed to append
 abbrev pub as_counted : View → View → View
 as_counted v w = record v { steps = w.steps; loads = w.loads; end_seen = w.end_seen; torn = w.torn }
 
@@ -58,9 +59,20 @@ downed v = record v { saw_down = true }
 abbrev pub faulted : View → View
 faulted v = record (downed v) { met = record v.met { logs = v.met.logs + 1 } }
 
--- What a call of the log leaves of a view, but where an entry is made: all but what it lists and counts of steps and loads, the log end and the flushed position that it saw, where it raised that position to, its calls of devices, and the faults that it met
+-- What a call of the log leaves of a view, but where an entry is made: all but what it lists and
+-- counts of steps and loads, the log end and the flushed position that it saw, where it raised that
+-- position to, its calls of devices, and the faults that it met
 abbrev pub kept_of : View → View
-kept_of v = record v { steps = 0; loads = []; end_seen = 0; flushed = 0; raised_to = 0; device_calls = []; met = record { reads = 0; writes = 0; logs = 0 }; saw_down = false }
+kept_of v = record v {
+  steps = 0;
+  loads = [];
+  end_seen = 0;
+  flushed = 0;
+  raised_to = 0;
+  device_calls = [];
+  met = record { reads = 0; writes = 0; logs = 0 };
+  saw_down = false;
+}
 
 abbrev pub KeepsWork : View → View → Type 0
 KeepsWork v w = kept_of w ≡ kept_of v

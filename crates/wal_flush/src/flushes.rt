@@ -32,7 +32,8 @@ pub enum FlushLog {
     LogFault,
 }
 
-/// By how many syncs of a flush the log got as far as was asked for, which the contract of `flush_to` names.
+/// By how many syncs of a flush the log got as far as was asked for, which the contract of
+/// `flush_to` names.
 #[derive(Clone, Copy, PartialEq, Eq, Debug)]
 pub enum FlushedBy {
     /// It was flushed so far already, or was by the time that the latch was taken.
@@ -85,7 +86,8 @@ fn flush_held<L: BlockLane, G: LogDevice>(
     ensures can { CanTurn table.now seat.new Log }
     ensures leaves { MayLeave Log seat.new.me.0 }
     ensures flushed { IfOk result (λ by. HolderFlushed lsn end by seat.old.me.0 seat.new.me.0) }
-    ensures unflushed { IfErr result (λ _. seat.old.me.0.flushed < lsn → seat.new.me.0.flushed < lsn) }
+    ensures unflushed { IfErr result (λ _. seat.old.me.0.flushed < lsn
+        → seat.new.me.0.flushed < lsn) }
     ensures cause { IfErr result (λ why. HolderRefused lsn end why seat.old.me.0 seat.new.me.0) }
 {
     if lsn > end {
@@ -100,7 +102,8 @@ fn flush_held<L: BlockLane, G: LogDevice>(
     }
 }
 
-/// Loads the flushed position until it is `lsn` or more. Once it was raised that far the first load shows it, since it never falls; but a backend knows of it only what it has loaded.
+/// Loads the flushed position until it is `lsn` or more. Once it was raised that far the first load
+/// shows it, since it never falls; but a backend knows of it only what it has loaded.
 fn await_flushed<L: BlockLane, G: LogDevice, R: Wait>(
     table: &FrameTable<L, G>,
     rt: &R,
@@ -121,7 +124,8 @@ fn await_flushed<L: BlockLane, G: LogDevice, R: Wait>(
     unreachable!()
 }
 
-/// Makes the log durable up to the position `lsn` (`XLogFlush`). The backend has then seen a flushed position of `lsn` or more.
+/// Makes the log durable up to the position `lsn` (`XLogFlush`). The backend has then seen a
+/// flushed position of `lsn` or more.
 ///
 /// If the flushed position is so far already no device is called. Else it waits for the log's latch
 /// and looks once more: if another backend has flushed the log so far meanwhile no device is called
@@ -139,9 +143,12 @@ pub fn flush_to<L: BlockLane, G: LogDevice, R: Wait>(
     ensures seat { SameSeat seat.old seat.new }
     ensures work { KeepsWork seat.old.me.0 seat.new.me.0 }
     ensures rises { OnlyRises seat.old.me.0 seat.new.me.0 }
-    ensures flushed { MatchResult result (λ _. lsn ≤ seat.new.me.0.flushed) (λ _. seat.new.me.0.flushed < lsn) }
-    ensures left { IfErr result (λ why. seat.new.me.0 ≡ as_looked (unflushed_view why seat.old.me.0) seat.new.me.0) }
-    ensures view { IfOk result (λ _. (by : FlushedBy) × (seat.new.me.0 ≡ as_looked (flushed_view by seat.old.me.0) seat.new.me.0)) }
+    ensures flushed { MatchResult result (λ _. lsn ≤ seat.new.me.0.flushed)
+        (λ _. seat.new.me.0.flushed < lsn) }
+    ensures left { IfErr result (λ why. seat.new.me.0 ≡ as_looked (unflushed_view why seat.old.me.0)
+        seat.new.me.0) }
+    ensures view { IfOk result (λ _. (by : FlushedBy)
+        × (seat.new.me.0 ≡ as_looked (flushed_view by seat.old.me.0) seat.new.me.0)) }
     ensures did { IfOk result (λ _. Flushed lsn seat.old.me.0 seat.new.me.0) }
     ensures seen { IfErr result (λ why. FlushSeesEnd why seat.old.me.0 seat.new.me.0) }
     ensures short { IfErr result (ShortOf L.contents table.now seat.old.me.0) }

@@ -8,7 +8,8 @@ use byte_devices::{Failed, LogDevice};
 use byteorder::{ByteOrder, LittleEndian};
 use page_layout::Lsn;
 
-/// The 16 bytes with which a log begins: `PGBUFLOG`, and the position where it begins, its lowest byte first.
+/// The 16 bytes with which a log begins: `PGBUFLOG`, and the position where it begins, its lowest
+/// byte first.
 fn head(base: Lsn) -> [u8; 16]
     ensures { result ≡ head_bytes base }
 {

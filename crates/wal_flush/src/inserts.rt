@@ -64,7 +64,8 @@ fn position_of(page: &Page) -> Lsn
     page.lsn()
 }
 
-/// Appends the record of the page at the log's end, and gives the page its position. If that fails the page is as it was.
+/// Appends the record of the page at the log's end, and gives the page its position. If that fails
+/// the page is as it was.
 fn append_record<L: BlockLane, G: LogDevice>(
     table: &FrameTable<L, G>,
     seat: &mut Seat<Value<L, G>, View>,
@@ -79,10 +80,14 @@ fn append_record<L: BlockLane, G: LogDevice>(
     requires room { end + record_size ≤ last_position }
     ensures seat { SameSeat seat.old seat.new }
     ensures can { IsSeat table.now seat.new }
-    ensures page { MatchResult result (λ _. page.new ≡ with_lsn (end + record_size) page.old) (λ _. page.new ≡ page.old) }
-    ensures appended { IfOk result (λ _. Appends (relations_of table.now) frame tag end page.new seat.old.me.0 seat.new.me.0) }
-    ensures stores { IfOk result (λ _. MayStoreEnd (relations_of table.now) frame tag page.new (end + record_size) seat.new.me.0) }
-    ensures cause { IfErr result (λ why. EnterRefused (relations_of table.now) frame tag page.old end why seat.old.me.0 seat.new.me.0) }
+    ensures page { MatchResult result (λ _. page.new ≡ with_lsn (end + record_size) page.old)
+        (λ _. page.new ≡ page.old) }
+    ensures appended { IfOk result (λ _. Appends (relations_of table.now) frame tag end page.new
+        seat.old.me.0 seat.new.me.0) }
+    ensures stores { IfOk result (λ _. MayStoreEnd (relations_of table.now) frame tag page.new
+        (end + record_size) seat.new.me.0) }
+    ensures cause { IfErr result (λ why. EnterRefused (relations_of table.now) frame tag page.old
+        end why seat.old.me.0 seat.new.me.0) }
     ensures leaves { IfErr result (λ _. MayLeave Log seat.new.me.0) }
 {
     let entry = relation_of(table, tag);
@@ -119,10 +124,13 @@ fn enter<L: BlockLane, G: LogDevice>(
     ensures seat { SameSeat seat.old seat.new }
     ensures can { CanTurn table.now seat.new Log }
     ensures leaves { MayLeave Log seat.new.me.0 }
-    ensures page { MatchResult result (λ lsn. page.new ≡ with_lsn lsn page.old) (λ _. page.new ≡ page.old) }
+    ensures page { MatchResult result (λ lsn. page.new ≡ with_lsn lsn page.old)
+        (λ _. page.new ≡ page.old) }
     ensures lsn { IfOk result (λ lsn. (lsn ≡ end + record_size) × (lsn ≤ last_position)) }
-    ensures entered { IfOk result (λ lsn. Enters (relations_of table.now) frame tag end page.new seat.old.me.0 seat.new.me.0) }
-    ensures cause { IfErr result (λ why. EnterRefused (relations_of table.now) frame tag page.old end why seat.old.me.0 seat.new.me.0) }
+    ensures entered { IfOk result (λ lsn. Enters (relations_of table.now) frame tag end page.new
+        seat.old.me.0 seat.new.me.0) }
+    ensures cause { IfErr result (λ why. EnterRefused (relations_of table.now) frame tag page.old
+        end why seat.old.me.0 seat.new.me.0) }
 {
     if end > LAST_POSITION - RECORD_SIZE {
         return Err(InsertError::LogFull { end });
@@ -133,7 +141,9 @@ fn enter<L: BlockLane, G: LogDevice>(
     Ok(lsn)
 }
 
-/// Inserts a page of the frame's block into the log (`XLogInsert`). It answers the position of the entry's end, which the page has then (`pd_lsn`). The backend has the frame's content lock exclusively, and marked the frame dirty under it; it has to apply the entry to the frame next.
+/// Inserts a page of the frame's block into the log (`XLogInsert`). It answers the position of the
+/// entry's end, which the page has then (`pd_lsn`). The backend has the frame's content lock
+/// exclusively, and marked the frame dirty under it; it has to apply the entry to the frame next.
 ///
 /// It waits for the log's latch, and makes one append at most. It refuses if the log is full, then
 /// if it is down, then if the append fails. After a refusal the page is as it was, and no entry was
@@ -151,16 +161,24 @@ pub fn insert<L: BlockLane, G: LogDevice, R: Wait>(
     requires can { CanInsert (relations_of table.now) frame tag page.old seat.old.me.0 }
     ensures seat { SameSeat seat.old seat.new }
     ensures rises { OnlyRises seat.old.me.0 seat.new.me.0 }
-    ensures page { MatchResult result (λ lsn. page.new ≡ with_lsn lsn page.old) (λ _. page.new ≡ page.old) }
-    ensures view { IfOk result (λ lsn. seat.new.me.0 ≡ as_counted (inserted_view frame (packed_tag tag) page.new lsn seat.old.me.0) seat.new.me.0) }
-    ensures entered { IfOk result (λ _. link seat.new.me.0 frame ≡ entered_link page.new (link seat.old.me.0 frame)) }
-    ensures others { IfOk result (λ _. (g : ℕ) → g ≢ frame → link seat.new.me.0 g ≡ link seat.old.me.0 g) }
-    ensures work { IfErr result (λ _. KeepsWork (with_torn seat.new.me.0.torn seat.old.me.0) seat.new.me.0) }
+    ensures page { MatchResult result (λ lsn. page.new ≡ with_lsn lsn page.old)
+        (λ _. page.new ≡ page.old) }
+    ensures view { IfOk result (λ lsn. seat.new.me.0 ≡ as_counted
+        (inserted_view frame (packed_tag tag) page.new lsn seat.old.me.0) seat.new.me.0) }
+    ensures entered { IfOk result (λ _. link seat.new.me.0 frame ≡ entered_link page.new
+        (link seat.old.me.0 frame)) }
+    ensures others { IfOk result (λ _. (g : ℕ) → g ≢ frame
+        → link seat.new.me.0 g ≡ link seat.old.me.0 g) }
+    ensures work { IfErr result (λ _. KeepsWork (with_torn seat.new.me.0.torn seat.old.me.0)
+        seat.new.me.0) }
     ensures torn { AddsTorn (packed_tag tag) page.old result seat.old.me.0.torn seat.new.me.0.torn }
-    ensures left { IfErr result (λ why. seat.new.me.0 ≡ as_counted (refused_view why seat.old.me.0) seat.new.me.0) }
-    ensures did { IfOk result (λ lsn. Inserts (relations_of table.now) frame tag page.new lsn seat.old.me.0 seat.new.me.0) }
+    ensures left { IfErr result (λ why. seat.new.me.0 ≡ as_counted (refused_view why seat.old.me.0)
+        seat.new.me.0) }
+    ensures did { IfOk result (λ lsn. Inserts (relations_of table.now) frame tag page.new lsn
+        seat.old.me.0 seat.new.me.0) }
     ensures seen { IfErr result (λ why. InsertSeesEnd why seat.old.me.0 seat.new.me.0) }
-    ensures cause { IfErr result (InsertRefused (relations_of table.now) frame tag page.old seat.old.me.0 seat.new.me.0) }
+    ensures cause { IfErr result (InsertRefused (relations_of table.now) frame tag page.old
+        seat.old.me.0 seat.new.me.0) }
 {
     let end = take_end(table, rt, seat);
     let result = enter(table, seat, frame, tag, page, end);

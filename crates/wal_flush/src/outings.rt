@@ -42,7 +42,8 @@ pub(crate) fn take_end<L: BlockLane, G: LogDevice, R: Wait>(
     table.load_log_end(seat, EndLoad::Plain)
 }
 
-/// The log goes out to the holder of its latch, for one call. If it is down it comes back at once, and this is the mark of its failure.
+/// The log goes out to the holder of its latch, for one call. If it is down it comes back at once,
+/// and this is the mark of its failure.
 pub(crate) fn take_log<L: BlockLane, G: LogDevice>(
     table: &FrameTable<L, G>,
     seat: &mut Seat<Value<L, G>, View>,
@@ -50,12 +51,16 @@ pub(crate) fn take_log<L: BlockLane, G: LogDevice>(
     requires seat { CanTurn table.now seat.old Log }
     requires held { (seat.old.me.0.log.held ≡ true) × (seat.old.me.0.log.out ≡ None) }
     ensures seat { (seat.new.table_id ≡ seat.old.table_id) × (seat.new.id ≡ seat.old.id) }
-    ensures hand { IfOk result (λ _. seat.new.me.1 ≡ (slot_of (frames_of table.now) (Of Log), value.Away) ∷ seat.old.me.1) }
+    ensures hand { IfOk result (λ _. seat.new.me.1 ≡ (
+      slot_of (frames_of table.now) (Of Log),
+      value.Away,
+    ) ∷ seat.old.me.1) }
     ensures call { IfOk result (λ log. log.call ≡ log_call.Untouched) }
     ensures room { IfOk result (λ log. record_size ≤ vec_capacity log.buffer) }
     ensures up { IfOk result (λ log. log.down ≡ None) }
     ensures unnoted { IfOk result (λ _. seat.new.me.0.log.change ≡ change.Untouched) }
-    ensures went { IfOk result (λ log. LogWent G.bytes G.synced G.faults G.calls log seat.old.me.0 seat.new.me.0) }
+    ensures went { IfOk result (λ log. LogWent G.bytes G.synced G.faults G.calls log seat.old.me.0
+        seat.new.me.0) }
     ensures back { IfErr result (λ _. seat.new.me.1 ≡ seat.old.me.1) }
     ensures down { IfErr result (λ at. FindsDown at seat.old.me.0 seat.new.me.0) }
 {

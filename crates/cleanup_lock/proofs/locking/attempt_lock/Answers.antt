@@ -1,10 +1,12 @@
-use Rattle.std.proofs.Common.{◌≡◌, ℕ, true, refl, sym, ap, subst, ◌∙◌}
+use Rattle.std.proofs.Common.{◌≡◌, ℕ, true, false, refl, sym, ap, subst, ◌∙◌}
 use Rattle.state_word.specs.Fields.{fields}
+use Rattle.pin_core.specs.declared.view.Link.{Link}
 use Rattle.pin_core.specs.declared.view.View.{View}
 use Rattle.pin_core.specs.State.{link}
 use Rattle.frame_table.specs.Content.{exclusive_link}
 use Rattle.frame_table.specs.FrameSteps.{looking}
 use Rattle.frame_table.proofs.Told.{touches, touches_on}
+use Rattle.frame_table.proofs.Unentered.{touches_unmarked}
 use Rattle.cleanup_lock.specs.Cleanup.{HasWaiter}
 use Rattle.cleanup_lock.proofs.Cleaning.{alone_at, another, bare, may_await, relocked, rewaited, several, shows_own, waits_on}
 use Rattle.cleanup_lock.proofs.Unpins.{holds, unlocked_looked}
@@ -33,7 +35,22 @@ pub unlock_header-requires-then-has-clause-held : goal.unlock_header-requires-th
 unlock_header-requires-then-has-clause-held g c = holds c.look_under_exclusive-word.result (exclusive_link (link c.args.seat.now.me.0 c.args.frame)) (link c.look_under_exclusive-word.new.seat.me.0 c.args.frame) c.requires.view.settled c.look_under_exclusive-word.ensures.held
 
 pub returns-then-has-clause-touches : goal.returns-then-has-clause-touches
-returns-then-has-clause-touches g c = touches_on _ _ _ _ (touches_on _ _ _ _ c.look_under_exclusive-word.ensures.touches c.unlock_header-then-has.ensures.touches) c.unexclusive.ensures.touches
+returns-then-has-clause-touches g c =
+    let f = c.args.frame in
+    let v = c.args.seat.now.me.0 in
+    let looked = c.look_under_exclusive-word in
+    let under = looked.ensures.did.under in
+    let headless = c.unlock_header-then-has.new.seat.me.0 in
+    let clean : (link headless f).dirtied ≡ false =
+    (unlocked_looked looked.result (exclusive_link (link v f)) (link looked.new.seat.me.0 f)
+    (link headless f) (c.requires.headless f) looked.ensures.held
+    c.unlock_header-then-has.ensures.unlocked).dirtied
+    ∙ (bare f v under.locked under.locks c.requires.view.lock.none).1
+    in
+    touches_on _ _ _ _
+    (touches_on _ _ _ _ looked.ensures.touches c.unlock_header-then-has.ensures.touches)
+    (touches_unmarked f headless c.unexclusive.new.seat.me.0 clean c.unexclusive.ensures.touches
+    c.unexclusive.ensures.unnoted)
 
 pub returns-then-has-clause-leaves : goal.returns-then-has-clause-leaves
 returns-then-has-clause-leaves g c =
@@ -74,7 +91,23 @@ pub set_waiter-requires-clause-may : goal.set_waiter-requires-clause-may
 set_waiter-requires-clause-may g c = waits_on c.args.frame c.args.seat.now.me.0 c.look_under_exclusive-word.new.seat.me.0 c.look_under_exclusive-word.ensures.touches c.look_under_exclusive-word.ensures.held.waits c.args.number c.requires.may
 
 pub returns-clause-touches : goal.returns-clause-touches
-returns-clause-touches g c = touches_on _ _ _ _ (touches_on _ _ _ _ (touches_on _ _ _ _ c.look_under_exclusive-word.ensures.touches c.set_waiter.ensures.touches) c.unexclusive-2.ensures.touches) c.wait.ensures.touches
+returns-clause-touches g c =
+    let f = c.args.frame in
+    let v = c.args.seat.now.me.0 in
+    let looked = c.look_under_exclusive-word in
+    let under = looked.ensures.did.under in
+    let noted = c.set_waiter.new.seat.me.0 in
+    let clean : (link noted f).dirtied ≡ false =
+    ap (λ (l : Link). l.dirtied) c.set_waiter.ensures.waits
+    ∙ looked.ensures.held.dirtied
+    ∙ (bare f v under.locked under.locks c.requires.view.lock.none).1
+    in
+    touches_on _ _ _ _
+    (touches_on _ _ _ _
+    (touches_on _ _ _ _ looked.ensures.touches c.set_waiter.ensures.touches)
+    (touches_unmarked f noted c.unexclusive-2.new.seat.me.0 clean
+    c.unexclusive-2.ensures.touches c.unexclusive-2.ensures.unnoted))
+    c.wait.ensures.touches
 
 pub returns-clause-leaves : goal.returns-clause-leaves
 returns-clause-leaves g c =

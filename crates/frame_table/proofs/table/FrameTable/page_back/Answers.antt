@@ -4,7 +4,7 @@ use Rattle.frame_table.proofs.Marks.{back_marks}
 use Rattle.frame_table.proofs.table.FrameTable.page_back.Goals as goal
 
 pub returns-clause-touches : goal.returns-clause-touches
-returns-clause-touches g c = back_touches _ _ _ _ _ c.page_back_at.ensures.did.1
+returns-clause-touches g c = back_touches (link c.args.seat.now.me.0 c.args.frame) _ _ _ _ c.page_back_at.ensures.did.1
 
 pub returns-clause-back : goal.returns-clause-back
 returns-clause-back g c = back_is c.args.frame c.page_back_at.ensures.did.0 c.args.seat.now.me.0 c.page_back_at.new.seat.me.0 c.args.page c.requires.can c.page_back_at.ensures.did.1
