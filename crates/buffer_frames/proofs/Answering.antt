@@ -4,6 +4,8 @@ use Rattle.std.specs.Prelude.{IfErr, IfOk, ◌≢◌, not}
 use Rattle.std.proofs.lemmas.List.Elements.{All-cons, All-nil}
 use Rattle.std.specs.List.{All}
 use denote.Enum.Bare.{sameb}
+use Rattle.atomic_table.specs.declared.shared.Seat.{Seat}
+use Rattle.table_rule.specs.declared.value.Value.{Value}
 use Rattle.access_rings.specs.contracts.ring.RingKind.{the_type}
 use Rattle.access_rings.specs.declared.ring.RingKind.{RingKind}
 use Rattle.access_rings.specs.declared.ring.RingKind.TheVariants.{BulkRead}
@@ -43,8 +45,8 @@ use Rattle.buffer_frames.specs.declared.flushing.FrameFlushError.TheVariants.{Lo
 use Rattle.buffer_frames.specs.declared.flushing.FlushedPage.{FlushedPage}
 use Rattle.buffer_frames.specs.declared.flushing.FlushedPage.TheVariants.{Written, Clean}
 use Rattle.buffer_frames.specs.Flushing.{ClearsJust, CopiesAnd, EndedInError, EndedWritten, FlushAnswer, LogRefuses, LogShows, RejectsVictim, SharesDirty, WriteAnswer, WentToLane, log_syncs, syncs_refused}
-use Rattle.buffer_frames.specs.Stages.{HasVictim, IsPinned}
-use Rattle.buffer_frames.specs.Working.{Calls, EndsWork, IsFlushCall, Made, WorksAt}
+use Rattle.buffer_frames.specs.Stages.{HasVictimOf, IsPinned, IsPinnedValid}
+use Rattle.buffer_frames.specs.Working.{Calls, EndsWork, IsFlushCall, Made, Works}
 use Rattle.buffer_frames.proofs.WorkSteps.{made_after, made_before, made_none, made_on, within_all, within_on}
 
 pub had_output_marked : (v w : View) → SameMarks v w → w.had_output ≡ v.had_output
@@ -159,16 +161,16 @@ module _ {L G : Type 0} (contents : L → Option Pages) (t : FrameTable L G) whe
   flush_between q tag f v u x w (Err why) before a c self b = copies_between q tag f v u x w (Err why) before a c self b
 
 -- A frame of which callers have tokens, and whose content is unlocked
-pub pinned_of_rests : (tag : Tag) (f : ℕ) (t : Tokens) (l : Link) → IsPinnedFor tag f t → LinkRests (held_at t f) l → l.content ≡ Unlocked → IsPinned (packed_tag tag) l × (l.seen_valid ≡ true)
-pinned_of_rests tag f t l p r unlocked = let there = p.there in let s = subst (λ (o : Option HeldFrame). LinkRests o l) there r in (
-  record {
+pub pinned_of_rests : (tag : Tag) (f : ℕ) (t : Tokens) (l : Link) → IsPinnedFor tag f t → LinkRests (held_at t f) l → l.content ≡ Unlocked → IsPinnedValid (packed_tag tag) l
+pinned_of_rests tag f t l p r unlocked = let there = p.there in let s = subst (λ (o : Option HeldFrame). LinkRests o l) there r in record {
+  pinned = record {
     calm = r.calm;
     unlocked = unlocked;
     pinned = λ none. (let no : HandedOut ≡ Absent = sym s.role ∙ none in absurd (cc));
     remembered = s.tag ∙ ap Some p.same;
-  },
-  s.seen (λ none. (let no : Some p.held ≡ None = none in absurd (cc))),
-)
+  };
+  seen = s.seen (λ none. (let no : Some p.held ≡ None = none in absurd (cc)));
+}
 
 pub rests_of_pinned : (tag : Tag) (f : ℕ) (t : Tokens) (l m : Link) → LinkRests (held_at t f) l → l.tag ≡ Some (packed_tag tag) → IsPinned (packed_tag tag) m → m.role ≡ l.role → m.seen_valid ≡ true → LinkRests (held_at t f) m
 rests_of_pinned tag f t l m r tagged p role seen = record { calm = p.calm; role = role ∙ r.role; tag = p.remembered ∙ sym tagged ∙ r.tag; seen = λ some. seen; unlocked = λ none. p.unlocked }
@@ -204,11 +206,14 @@ module _ {L G : Type 0} (contents : L → Option Pages) (t : FrameTable L G) whe
   flush_makes_flush_calls q tag f v w (Err why) c = write_makes_flush_calls q tag c.page v w (Err why) c.work
 
 -- A victim
-pub victim_pinned : (tag f : ℕ) (t : Tokens) (v : View) → HasVictim f t v → (link v f).tag ≡ Some tag → IsPinned tag (link v f)
-victim_pinned tag f t v p remembered = record { calm = p.calm; unlocked = p.unlocked; pinned = λ none. (let no : Victim ≡ Absent = sym p.role ∙ none in absurd (cc)); remembered = remembered }
+pub victim_pinned : (tag f : ℕ) (t : Tokens) (v : View) → HasVictimOf tag f t v → IsPinned tag (link v f)
+victim_pinned tag f t v p = let h = p.victim in record { calm = h.calm; unlocked = h.unlocked; pinned = λ none. (let no : Victim ≡ Absent = sym h.role ∙ none in absurd (cc)); remembered = p.remembered }
 
-pub victim_worked : (tag f : ℕ) (t : Tokens) (v w : View) → HasVictim f t v → WorksAt f v w → IsPinned tag (link w f) → (link w f).role ≡ (link v f).role → HasVictim f t w
-victim_worked tag f t v w p k r role = record { others = beside_kept f t v w k.others p.others; new = p.new; calm = r.calm; unlocked = r.unlocked; role = role ∙ p.role }
+pub victim_worked : {L G : Type 0} {t : FrameTable L G} {s w : Seat (Value L G) View} (tag f : ℕ) (held : Tokens) → HasVictimOf tag f held s.me.0 → Works f t s w → IsPinned tag (link w.me.0 f) → HasVictimOf tag f held w.me.0
+victim_worked {L} {G} {t} {s} {w} tag f held p k r = let h = p.victim in record {
+  victim = record { others = beside_kept f held s.me.0 w.me.0 k.work.others h.others; new = h.new; calm = r.calm; unlocked = r.unlocked; role = k.role ∙ h.role };
+  remembered = r.remembered;
+}
 
 -- it has seen BM_VALID once a load shows it
 pub victim_sees : (w : StateWord) (l m : Link) → m ≡ loaded_link w l → l.pending ≡ false → l.role ≡ Victim → w.valid ≡ true → m.seen_valid ≡ true

@@ -34,10 +34,6 @@ victim_worked t f v w e p = let same = link_same v w e in record {
   role = ap (λ (l : Link). l.role) (same f) ∙ p.role;
 }
 
--- a victim whose tag was loaded
-pub victim_looked : (t : Tokens) (f : ℕ) (v w : View) → HasVictim f t v → ((g : ℕ) → g ≢ f → link w g ≡ link v g) → Looked (link v f) (link w f) → HasVictim f t w
-victim_looked t f v w p same a = record { others = beside_kept f t v w same p.others; new = p.new; calm = calm_looked (link v f) (link w f) a p.calm; unlocked = a.content ∙ p.unlocked; role = a.role ∙ p.role }
-
 -- A frame of which callers have no tokens is given up
 pub rests_unpinned : (l m : Link) → Looked (unpinned_link l) m → HasAtMostLock l → l.content ≡ Unlocked → LinkRests None m
 rests_unpinned l m a c unlocked = record {

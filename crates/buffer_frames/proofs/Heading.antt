@@ -97,9 +97,6 @@ module _ (t : Tokens) (f h word : ℕ) (v w : View) (e : h ≡ f) (rests : Links
       (λ same. subst (λ (x : ℕ). (link w x).role ≢ Victim) (sym same) (not_victim (held_at t h) (link w h).role (got.here.role ∙ (rests h).role)))
       (λ n. not_victim (held_at t g) (link w g).role ((got.others g n).role ∙ (rests g).role))
 
-  pub absent_still : (link w h).role ≡ Absent
-  absent_still = got.here.role ∙ here_absent
-
   pub victim_pinned : (p : ℕ) (x : View) → p ≡ h → ((g : ℕ) → g ≢ h → link x g ≡ link w g) → link x h ≡ victim_link (link w h) → HasVictim p t x
   victim_pinned p x same others pinned = subst (λ (z : ℕ). HasVictim z t x) (sym same) record {
     others = beside_kept h t w x others (beside_looked h t v w got.others (beside h t v rests));

@@ -12,7 +12,7 @@ use Rattle.pin_core.specs.State.{link, no_lane, no_partition}
 use Rattle.pin_core.proofs.Views.{link_same}
 use Rattle.table_rule.specs.declared.value.Value.{Value}
 use Rattle.frame_table.specs.declared.table.FrameTable.{FrameTable}
-use Rattle.frame_table.specs.Seats.{Looked, SameSeat, SameSelf, Stores, Touches, self_of}
+use Rattle.frame_table.specs.Seats.{Looked, SameSeat, SameSelf, Touches, self_of}
 use Rattle.buffer_frames.specs.Tokens.{HeldFrame, Tokens, held_at, tokens_less, tokens_more, tokens_of, tokens_with}
 use Rattle.buffer_frames.specs.Rests.{HasAtMostLock, HasNoDevice, HasNoLatch, HasOneLatch, LinkRests, LinksRest, LinksRestBeside, SameLocks, Stands, kept_by_calls, role_of}
 use Rattle.buffer_frames.proofs.HeldLists.{less_others, less_tag, more_tags, none_of, with_here, with_past}
@@ -24,10 +24,6 @@ calm_looked l m a c = record { no_header = a.header ∙ c.no_header; assigned = 
 pub link_looked : (o : Option HeldFrame) (l m : Link) → Looked l m → LinkRests o l → LinkRests o m
 link_looked o l m a r = record { calm = calm_looked l m a r.calm; role = a.role ∙ r.role; tag = a.tag ∙ r.tag; seen = λ some. a.seen_valid (r.seen some); unlocked = λ none. a.content ∙ r.unlocked none }
 
--- loads at all frames, as a search for a victim makes them
-pub links_looked : (t : Tokens) (v w : View) → ((g : ℕ) → Looked (link v g) (link w g)) → LinksRest t v → LinksRest t w
-links_looked t v w looked r g = link_looked (held_at t g) (link v g) (link w g) (looked g) (r g)
-
 pub beside_looked : (f : ℕ) (t : Tokens) (v w : View) → ((g : ℕ) → g ≢ f → Looked (link v g) (link w g)) → LinksRestBeside f t v → LinksRestBeside f t w
 beside_looked f t v w looked r g n = link_looked (held_at t g) (link v g) (link w g) (looked g n) (r g n)
 
@@ -37,9 +33,6 @@ beside_kept f t v w same r g n = subst (LinkRests (held_at t g)) (sym (same g n)
 
 pub beside_touched : (f : ℕ) (t : Tokens) (v w : View) → Touches f v w → LinksRestBeside f t v → LinksRestBeside f t w
 beside_touched f t v w k r = beside_kept f t v w k.others r
-
-pub beside_stored : (f : ℕ) (t : Tokens) (v w : View) → Stores f v w → LinksRestBeside f t v → LinksRestBeside f t w
-beside_stored f t v w k r = beside_kept f t v w k.others r
 
 -- all frames are those beside f, and f
 pub beside : (f : ℕ) (t : Tokens) (v : View) → LinksRest t v → LinksRestBeside f t v
@@ -57,9 +50,6 @@ rests_looked f t v w k a r = rests_touched f t v w k (link_looked (held_at t f) 
 
 pub links_same : (t : Tokens) (v w : View) → w.links ≡ v.links → LinksRest t v → LinksRest t w
 links_same t v w e r g = subst (LinkRests (held_at t g)) (sym (link_same v w e g)) (r g)
-
-pub beside_same : (f : ℕ) (t : Tokens) (v w : View) → w.links ≡ v.links → LinksRestBeside f t v → LinksRestBeside f t w
-beside_same f t v w e r g n = subst (LinkRests (held_at t g)) (sym (link_same v w e g)) (r g n)
 
 -- Content locks are as they were: over no step, and over steps one after another
 pub same_locks_none : (v : View) → SameLocks v v

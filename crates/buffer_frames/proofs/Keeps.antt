@@ -25,7 +25,7 @@ use Rattle.buffer_frames.specs.Outside.{chosen_of, emptying_of, freeing_of, kept
 use Rattle.buffer_frames.specs.Rests.{HasNoLatch, HasOneLatch, Stands}
 use Rattle.buffer_frames.specs.Stages.{Pins}
 use Rattle.buffer_frames.specs.Tokens.{Tokens}
-use Rattle.buffer_frames.specs.Working.{WorksAt}
+use Rattle.buffer_frames.specs.Working.{Works, WorksAt}
 use Rattle.buffer_frames.proofs.Hints.{load_grows, load_links, load_outside, load_partitions, store_grows, store_links, store_partitions, store_searched}
 use Rattle.buffer_frames.proofs.Keeping.{latch_same, latches_same, links_same, same_locks_at, same_locks_linked, same_locks_looked, same_locks_none, same_locks_on}
 use Rattle.buffer_frames.proofs.SameLocks.{same_locks_chosen, same_locks_worked}
@@ -87,6 +87,10 @@ module _ {L G : Type 0} {t : FrameTable L G} where
   -- work at a frame whose content isn't locked before and after it
   pub keeps_works : (f : ℕ) {s w : Seat (Value L G) View} → SameSeat s w → Stands t w → HasNoLatch w.me.0 → WorksAt f s.me.0 w.me.0 → (link s.me.0 f).content ≡ Unlocked → (link w.me.0 f).content ≡ Unlocked → Keeps kept_by_block_reads None t s w
   keeps_works f {s} {w} same stands latches works before after = record { seat = same; stands = stands; same = ap kept_by_block_reads works.kept; rises = works.advances; locks = same_locks_worked f s.me.0 w.me.0 works before after; latches = latches }
+
+  -- which a call with a victim does
+  pub keeps_flushed : (f : ℕ) {s w : Seat (Value L G) View} → HasNoLatch s.me.0 → Works f t s w → (link s.me.0 f).content ≡ Unlocked → (link w.me.0 f).content ≡ Unlocked → Keeps kept_by_block_reads None t s w
+  keeps_flushed f {s} {w} none k = keeps_works f k.seat k.stands (latches_same s.me.0 w.me.0 k.work.partitions none) k.work
 
 -- One step: at a frame
 module _ {L G : Type 0} {s w : Seat (Value L G) View} (same : SameSeat s w) where

@@ -1,6 +1,6 @@
 -- A lane's latch is taken, the lane goes out and comes back with one call, and the latch is left.
 use Rattle.std.proofs.Common.{◌≡◌, ◌≢◌, ℕ, ◌+◌, Bool, true, false, Some, None, [], List, ◌∷◌, ◌++◌, get_or, sym, refl, ap, ◌∙◌, subst}
-use Rattle.std.specs.Prelude.{MatchResult, Result, Ok, Err, ◌||◌}
+use Rattle.std.specs.Prelude.{MatchResult, Option, Result, Ok, Err, ◌||◌}
 use Rattle.std.specs.Result.{is_ok}
 use Rattle.std.proofs.Math.Bool.{or-false}
 use Rattle.std.proofs.Math.Nat.{add-zero}
@@ -9,6 +9,7 @@ use native.Mathlib.Decide.{ℕ_discrete}
 use Rattle.block_tag.specs.declared.catalogue.RelEntry.{RelEntry}
 use Rattle.block_tag.specs.declared.tag.Tag.{Tag}
 use Rattle.block_tag.specs.Names.{packed_tag}
+use Rattle.segment_store.specs.Contents.{Pages}
 use Rattle.pin_core.specs.declared.view.DeviceCall.{DeviceCall}
 use Rattle.pin_core.specs.declared.view.DeviceCall.TheVariants.{LaneRead, LaneWrite}
 use Rattle.pin_core.specs.declared.view.LaneHold.{LaneHold}
@@ -63,9 +64,6 @@ module _ {L : Type 0} (d : LaneDevices L) (q : ℕ) (after : L) (call : LaneCall
   trip_others : (n : ℕ) → n ≢ q → lane_hold w n ≡ lane_hold v n
   trip_others n o = free.1 n o ∙ came.others n o ∙ went.others n o ∙ turned.1 n o
 
-  pub trip_flushed : w.flushed ≡ v.flushed
-  trip_flushed = ap (λ (z : View). z.flushed) left ∙ ap (λ (z : View). z.flushed) back ∙ ap (λ (z : View). z.flushed) out ∙ ap (λ (z : View). z.flushed) took
-
   pub trip_advances : OnlyRises v w
   trip_advances = rises_on v u w (rises_turned true (Lane q) v u took turned takes) (rises_on u x w (rises_out q taken u x out went) (rises_on x y w (rises_back d q after call x y back came) (rises_turned false (Lane q) y w left free leaves)))
 
@@ -114,8 +112,20 @@ pub lane_free : (q : ℕ) (v u : View) → HasNoDevice v → IsTurned true (Lane
 lane_free q v u n taken = (ap (λ (h : LaneHold). h.held) taken.0, ap (λ (h : LaneHold). h.out) taken.0 ∙ n.home q)
 
 -- it has nothing noted of the lane as it goes out
-pub may_return : {L : Type 0} (d : LaneDevices L) (known : Bool) (relations : List RelEntry) (lanes q flushed : ℕ) (v : View) (h : LaneHold) (before : L) (l : NotedLane L) → l.number ≡ q → lane_hold v q ≡ out_lane (taken_lane d relations lanes q before) flushed h → IsTakenLane d known relations lanes q before → LaneDid d before l.device l.call → MayNote relations lanes q l.call v → MayReturn d known relations lanes q v l
-may_return d known relations lanes q flushed v h before l number out taken did may = record { before = before; number = number; out = ap (λ (k : LaneHold). k.out) out; once = ap (λ (k : LaneHold). k.change) out; taken = taken; did = did; may = may }
+pub may_return : {L : Type 0} (d : LaneDevices L) (opened : Option Pages) (relations : List RelEntry)
+    (lanes q flushed : ℕ) (v : View) (h : LaneHold) (before : L) (l : NotedLane L) → l.number ≡ q
+    → lane_hold v q ≡ out_lane (taken_lane d relations lanes q before) flushed h
+    → IsTakenLane d opened relations lanes q before → LaneDid d before l.device l.call
+    → MayNote relations lanes q l.call v → MayReturn d opened relations lanes q v l
+may_return d opened relations lanes q flushed v h before l number out taken did may = record {
+  before = before;
+  number = number;
+  out = ap (λ (k : LaneHold). k.out) out;
+  once = ap (λ (k : LaneHold). k.change) out;
+  taken = taken;
+  did = did;
+  may = may;
+}
 
 read_fault : (m : FailedCalls) → sum_of_met m (record { reads = 1; writes = 0; logs = 0 }) ≡ met_read m
 read_fault m = let at : ℕ → ℕ → ℕ → FailedCalls = λ a b c. record { reads = a; writes = b; logs = c } in

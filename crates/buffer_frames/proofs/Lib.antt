@@ -12,6 +12,7 @@ pub mod LaneTrips
 pub mod Links
 pub mod Notes
 pub mod Written
+pub mod Works
 pub mod Answering
 pub mod Noting
 pub mod Trying

@@ -20,14 +20,11 @@ use Rattle.frame_table.proofs.Told.{link_is}
 use Rattle.buffer_frames.specs.Tokens.{Tokens}
 use Rattle.buffer_frames.proofs.Keeping.{beside_kept, calm_looked}
 use Rattle.buffer_frames.proofs.LaneTrips.{write_noted_link}
-use Rattle.buffer_frames.specs.Stages.{IsPinned, IsRead, IsReading, IsSharing, Pins}
+use Rattle.buffer_frames.specs.Stages.{IsPinned, IsPinnedValid, IsRead, IsReading, IsSharing, Pins}
 use Rattle.buffer_frames.specs.Working.{WorksAt}
 
 pub read_looked : (tag : ℕ) (l m : Link) → Looked l m → IsRead tag l → IsRead tag m
 read_looked tag l m a r = record { calm = calm_looked l m a r.calm; unlocked = a.content ∙ r.unlocked; role = a.role ∙ r.role; remembered = a.tag ∙ r.remembered }
-
-pub reading_looked : (tag : ℕ) (l m : Link) → Looked l m → IsReading tag l → IsReading tag m
-reading_looked tag l m a r = record { pinned = a.role ∙ r.pinned; remembered = a.tag ∙ r.remembered; unlocked = a.content ∙ r.unlocked; right = a.io ∙ r.right; fresh = a.overwritten ∙ r.fresh; home = a.out ∙ r.home; no_header = a.header ∙ r.no_header; no_copy = a.copying ∙ r.no_copy; applied = a.unapplied ∙ r.applied; assigned = a.pending ∙ r.assigned; no_wait = a.waits r.no_wait }
 
 pub pinned_looked : (tag : ℕ) (l m : Link) → Looked l m → IsPinned tag l → IsPinned tag m
 pinned_looked tag l m a r = record { calm = calm_looked l m a r.calm; unlocked = a.content ∙ r.unlocked; pinned = λ none. r.pinned (sym a.role ∙ none); remembered = a.tag ∙ r.remembered }
@@ -52,15 +49,6 @@ begun_fresh f word v w d home = let is = link_is (pages paged.start_input) f wor
 
 pub reading_begun : (tag : ℕ) (l m : Link) → IsRead tag l → Looked (begun_link true l) m → (m.out ≡ None → m.overwritten ≡ None) → IsReading tag m
 reading_begun tag l m r b fresh = let c = r.calm in record { pinned = b.role ∙ r.role; remembered = b.tag ∙ r.remembered; unlocked = b.content ∙ r.unlocked; right = b.io; fresh = fresh (b.out ∙ c.page_home); home = b.out ∙ c.page_home; no_header = b.header; no_copy = b.copying ∙ c.no_copy; applied = b.unapplied ∙ c.applied; assigned = b.pending ∙ c.assigned; no_wait = b.waits c.no_wait }
-
--- and ends
-pub read_ended : (end : IoEnd) (tag : ℕ) (l m : Link) → IsReading tag l → Looked (finished_link end l) m → IsRead tag m
-read_ended end tag l m r a = record {
-  calm = record { no_header = a.header; assigned = a.pending ∙ r.assigned; no_copy = a.copying ∙ r.no_copy; applied = a.unapplied ∙ r.applied; no_io = a.io; page_home = a.out ∙ r.home; no_wait = a.waits r.no_wait };
-  unlocked = a.content ∙ r.unlocked;
-  role = a.role ∙ r.pinned;
-  remembered = a.tag ∙ r.remembered;
-}
 
 -- The content lock is shared, a write begins and ends, and the lock is given up
 pub sharing_taken : (tag : ℕ) (l m : Link) → IsPinned tag l → l.seen_valid ≡ true → m ≡ shared_link l → IsSharing Quiet tag m
@@ -104,10 +92,13 @@ sharing_ended end tag l m s a = sharing_looked Quiet tag (finished_link end l) m
 pub may_drop : (tag : ℕ) (l : Link) → IsSharing Quiet tag l → CanDropShare l
 may_drop tag l s = record { right = s.shared; no_copy = s.no_copy; no_output = λ out. (let no : Quiet ≡ Output = sym s.right ∙ out in absurd (cc)); page_home = s.home }
 
-pub pinned_unshared : (tag : ℕ) (l m : Link) → IsSharing Quiet tag l → m ≡ unshared_link l → IsPinned tag m
-pinned_unshared tag l m s e = subst (IsPinned tag) (sym e) record {
-  calm = record { no_header = s.no_header; assigned = s.assigned; no_copy = s.no_copy; applied = s.applied; no_io = s.right; page_home = s.home; no_wait = s.no_wait };
-  unlocked = refl;
-  pinned = s.pinned;
-  remembered = s.remembered;
+pub pinned_unshared : (tag : ℕ) (l m : Link) → IsSharing Quiet tag l → m ≡ unshared_link l → IsPinnedValid tag m
+pinned_unshared tag l m s e = subst (IsPinnedValid tag) (sym e) record {
+  pinned = record {
+    calm = record { no_header = s.no_header; assigned = s.assigned; no_copy = s.no_copy; applied = s.applied; no_io = s.right; page_home = s.home; no_wait = s.no_wait };
+    unlocked = refl;
+    pinned = s.pinned;
+    remembered = s.remembered;
+  };
+  seen = s.seen;
 }

@@ -1,8 +1,6 @@
 -- What the checkpoint has noted of a frame, over the steps of a write.
 use Rattle.std.proofs.Common.{◌≡◌, ℕ, Bool, true, false, ap, ◌∙◌}
-use Rattle.state_word.specs.declared.word.IoEnd.{IoEnd}
 use Rattle.pin_core.specs.declared.view.Link.{Link}
-use Rattle.frame_table.specs.Content.{begun_link, finished_link}
 use Rattle.frame_table.specs.Seats.{Looked, locked_link, unlocked_link}
 use Rattle.buffer_frames.proofs.LaneTrips.{write_noted_link}
 use Rattle.buffer_frames.specs.Working.{KeepsNotes}
@@ -23,13 +21,6 @@ notes_looked l m a = record { visited = a.visited; left_to_write = a.left_to_wri
 pub notes_unlocked : (word : ℕ) (l m n : Link) → Looked (locked_link word l) m → n ≡ unlocked_link m → KeepsNotes l n
 notes_unlocked word l m n a e = notes_on l m n record { visited = a.visited; left_to_write = a.left_to_write } (notes_by m n (ap (λ (x : Link). x.visited) e) (ap (λ (x : Link). x.left_to_write) e))
 
--- a write begins, is noted, and ends
-pub notes_begun : (l m : Link) → Looked (begun_link false l) m → KeepsNotes l m
-notes_begun l m a = record { visited = a.visited; left_to_write = a.left_to_write }
-
 pub notes_noted : (done : Bool) (l m : Link) → m ≡ write_noted_link done l → KeepsNotes l m
 notes_noted true l m e = notes_by l m (ap (λ (x : Link). x.visited) e) (ap (λ (x : Link). x.left_to_write) e)
 notes_noted false l m e = notes_by l m (ap (λ (x : Link). x.visited) e) (ap (λ (x : Link). x.left_to_write) e)
-
-pub notes_ended : (end : IoEnd) (l m : Link) → Looked (finished_link end l) m → KeepsNotes l m
-notes_ended end l m a = record { visited = a.visited; left_to_write = a.left_to_write }

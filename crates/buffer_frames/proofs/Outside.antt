@@ -20,7 +20,7 @@ pub outside_step : (v w : View) → SameSelf v w → SameMarks v w → outside_o
 outside_step v w self marks = λ i. record (self i) { dirtied_or_synced = (marks i).dirtied_or_synced; had_output = (marks i).had_output; last_ended = (marks i).last_ended }
 
 pub chosen_aside : (v w : View) → SameAside v w → chosen_of w ≡ chosen_of v
-chosen_aside v w aside = λ i. record (aside i) { partitions = []; unentered = []; residents = [] }
+chosen_aside v w aside = λ i. record (aside i) { partitions = []; residents = [] }
 
 -- a tag was stored, or one was taken away
 pub outside_stored : (v w : View) → SameSelf (record v { cleared = w.cleared }) w → w.cleared ≡ v.cleared → SameMarks v w → outside_of w ≡ outside_of v
@@ -33,14 +33,14 @@ pub outside_emptying : (v w : View) → outside_of w ≡ outside_of v → emptyi
 outside_emptying v w e = ap emptying_of e
 
 pub outside_worked : (v w : View) → SameWork v w → w.lanes ≡ v.lanes → w.log ≡ v.log → outside_of w ≡ outside_of v
-outside_worked v w work lanes log = λ i. record (work i) { links = []; loads = []; changes = []; unentered = []; residents = []; lanes = lanes i; log = log i }
+outside_worked v w work lanes log = λ i. record (work i) { links = []; loads = []; changes = []; residents = []; lanes = lanes i; log = log i }
 
 pub links_worked : (v w : View) → SameWork v w → w.links ≡ v.links
 links_worked v w work = ap (λ (x : View). x.links) work
 
 -- a latch was taken, and counted
 pub searched_counted : (p : ℕ) (v w : View) → SameWork (view_counted true (Partition p) v) w → w.lanes ≡ v.lanes → w.log ≡ v.log → searched_of w ≡ searched_of v
-searched_counted p v w work lanes log = λ i. record (work i) { links = []; loads = []; changes = []; unentered = []; residents = []; turns = 0; hints = []; lanes = lanes i; log = log i }
+searched_counted p v w work lanes log = λ i. record (work i) { links = []; loads = []; changes = []; residents = []; turns = 0; hints = []; lanes = lanes i; log = log i }
 
 -- What follows of it where a victim was chosen
 pub kept_chosen : (v w : View) → chosen_of w ≡ chosen_of v → kept_by_block_reads w ≡ kept_by_block_reads v
@@ -129,10 +129,6 @@ freed_under p v u x w takes lanes log call leaves lanes' log' = let turns : w.tu
 -- What follows of it
 pub stands_freed : {L G : Type 0} (t : FrameTable L G) (s s' : Seat (Value L G) View) → SameSeat s s' → freeing_of s'.me.0 ≡ freeing_of s.me.0 → Stands t s → Stands t s'
 stands_freed t s s' same e k = stands_on t s s' same (devices_same s.me.0 s'.me.0 (ap (λ (x : View). x.emptied) e) (ap (λ (x : View). x.lanes) e) (ap (λ (x : View). x.sizes) e) (ap (λ (x : View). x.log) e) k.quiet) k
-
-pub grows_freed : (v w : View) → Grows v w → freeing_of w ≡ freeing_of v → OnlyRises v w
-grows_freed v w g e = rises_by v w g (ap (λ (x : View). x.lanes) e)
-    (let a = ap (λ (x : View). x.end_seen) e in omega arith) (let a = ap (λ (x : View). x.flushed) e in omega arith) (λ d. ap (λ (x : View). x.saw_down) e ∙ d)
 
 -- with the count of tags, as it is then
 pub freed_searched : (v w : View) → freeing_of w ≡ freeing_of v → w.cleared ≡ v.cleared → searched_of w ≡ searched_of v

@@ -21,12 +21,12 @@ use Rattle.table_rule.specs.Blocks.{has_block}
 use Rattle.frame_table.specs.declared.table.FrameTable.{FrameTable}
 use Rattle.frame_table.specs.Content.{left_to_write_link}
 use Rattle.frame_table.specs.FrameSteps.{Did, looking}
-use Rattle.frame_table.specs.Seats.{IsWordOf, Looked, OnlyRises, SameMarks, SameSelf, Touches, HasFlag, HasRoom, HoldsHeader, HoldsNumber, HoldsWord, MayUnpin, unpinned_link, lanes_in, locked_link, read_link, relations_of, unlocked_link, victim_link}
-use Rattle.frame_table.proofs.Rising.{rises_none, rises_on, rises_touched}
+use Rattle.frame_table.specs.Seats.{IsWordOf, Looked, OnlyRises, SameMarks, SameSelf, Touches, HasRoom, HoldsHeader, MayUnpin, unpinned_link, lanes_in, locked_link, read_link, relations_of, unlocked_link, victim_link}
+use Rattle.frame_table.proofs.Rising.{rises_none, rises_touched}
 use Rattle.frame_table.proofs.Told.{looked_on}
 use Rattle.clock_sweep.specs.Keeping.{SamePins}
 use Rattle.buffer_frames.specs.Rests.{HasAtMostLock, LinkRests, LinksRest, LinksRestBeside, role_of}
-use Rattle.buffer_frames.specs.Tokens.{HeldFrame, IsPinnedFor, Tokens, held_at}
+use Rattle.buffer_frames.specs.Tokens.{HeldFrame, Tokens, held_at}
 use Rattle.buffer_frames.proofs.Keeping.{beside_kept, calm_looked}
 use Rattle.buffer_frames.specs.declared.flushing.FrameFlushError.{FrameFlushError}
 use Rattle.buffer_frames.specs.declared.flushing.FlushedPage.{FlushedPage}
@@ -42,7 +42,7 @@ use Rattle.buffer_frames.specs.declared.syncing.SyncOnly.{SyncOnly}
 use Rattle.buffer_frames.specs.declared.syncing.SyncOnly.TheVariants.{NotRecentlyUsed, Needed}
 use Rattle.buffer_frames.specs.declared.syncing.Synced.{Synced}
 use Rattle.buffer_frames.specs.declared.syncing.Synced.TheVariants.{Skipped, Clean, Written}
-use Rattle.buffer_frames.specs.Syncs.{ComesAtOnce, EndsSync, IsDirty, FlushesPinned, LeavesPinned, LoadsTag, LooksUnderHeader, PinnedAnswer, PinsUnder, SeesClean, SyncAnswer, SyncsOne, WritesBlock, by_load, by_word, passes_over, pinned_anew, pinned_before, synced_of}
+use Rattle.buffer_frames.specs.Syncs.{ComesAtOnce, EndsSync, IsDirty, FlushesPinned, LeavesPinned, LoadsTag, LooksUnderHeader, PinnedAnswer, PinsUnder, SeesClean, SyncAnswer, SyncsOne, WritesBlock, by_load, by_word, passes_over, synced_of}
 
 -- the header is locked, and the word loaded under it is the one that is held
 pub locked_as : (was word : ℕ) (l m n : Link) → Looked (locked_link was l) m → Looked m n → fields word ≡ fields was → Looked (locked_link word l) n
@@ -117,19 +117,6 @@ notes_locked word l m a = record { visited = a.visited; left_to_write = a.left_t
 pub notes_unpinned : (l m : Link) → Looked (unpinned_link l) m → KeepsNotes l m
 notes_unpinned l m a = record { visited = a.visited; left_to_write = a.left_to_write }
 
--- what is known under the header, before and after the tag was loaded
-some_word : (a b : StateWord) → Some a ≡ Some b → a ≡ b
-some_word a b e = cc
-
-pub holds_flag : (word : ℕ) (l : Link) → HoldsNumber IsDirty word l → HoldsWord (HasFlag true) l
-holds_flag word l h = record {
-  held = λ none. (let no : Some (fields word) ≡ None = sym h.held ∙ none in absurd (cc));
-  knows = λ w e. subst (HasFlag true) (some_word (fields word) w (sym h.held ∙ e)) h.knows.tagged;
-}
-
-pub holds_read : (word : ℕ) (tag : Tag) (l m : Link) → m ≡ read_link (Some tag) l → HoldsNumber IsDirty word l → HoldsNumber IsDirty word m
-holds_read word tag l m e h = record { held = ap (λ (x : Link). x.header) e ∙ h.held; knows = h.knows }
-
 pub holds_header : (word : ℕ) (l : Link) → l.header ≡ Some (fields word) → l.pending ≡ false → HoldsHeader l
 holds_header word l held settled = record { held = λ none. (let no : Some (fields word) ≡ None = sym held ∙ none in absurd (cc)); settled = settled }
 
@@ -157,20 +144,6 @@ rests_left_to_write o l m e r = let c = r.calm in subst (LinkRests o) (sym e) re
   seen = r.seen;
   unlocked = r.unlocked;
 }
-
-pub none_own : (t : Tokens) (f : ℕ) (tag : Tag) (l : Link) → ((n : ℕ) → l.tag ≡ Some n → n ≡ packed_tag tag) → (IsPinnedFor tag f t → ⊥) → LinkRests (held_at t f) (unlocked_link l) → held_at t f ≡ None
-none_own t f tag l same none r = of_held (held_at t f) refl
-  where
-    of_held : (o : Option HeldFrame) → held_at t f ≡ o → o ≡ None
-    of_held None e = refl
-    of_held (Some h) e = absurd (none record { held = h; there = e; same = same h.tag (subst (λ (o : Option HeldFrame). l.tag ≡ option_map HeldFrame.tag o) e r.tag) })
-
-pub some_own : (t : Tokens) (f : ℕ) (tag : Tag) → IsPinnedFor tag f t → held_at t f ≢ None
-some_own t f tag i none = let no : Some i.held ≡ None = sym i.there ∙ none in absurd (cc)
-
-pub under_on : (f word : ℕ) (v u w : View) → OnlyRises v u → (link u f).role ≡ (link v f).role → PinsUnder f word u w → PinsUnder f word v w
-under_on f word v u w rises role (pinned_anew x y z more d after woken) = pinned_anew x y z (rises_on v u x rises more) d after woken
-under_on f word v u w rises role (pinned_before is) = pinned_before (λ absent. is (role ∙ absent))
 
 pub is_dirty : (l : Link) (w : StateWord) → IsWordOf l w → w.dirty ≡ true → IsDirty w
 is_dirty l w shows d = record { dirty = d; tagged = shows.valid (shows.dirty d); few = shows.few }

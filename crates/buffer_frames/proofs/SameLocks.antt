@@ -6,17 +6,11 @@ use Rattle.pin_core.specs.declared.view.Link.{Link}
 use Rattle.pin_core.specs.declared.view.View.{View}
 use Rattle.pin_core.specs.declared.view.Content.TheVariants.{Unlocked}
 use Rattle.pin_core.specs.State.{link}
-use Rattle.frame_table.specs.Latches.{SameWork}
 use Rattle.frame_table.specs.Seats.{victim_link}
 use Rattle.clock_sweep.specs.Keeping.{GetsHeader}
 use Rattle.buffer_frames.specs.Rests.{SameLocks}
-use Rattle.buffer_frames.proofs.Keeping.{same_locks_at, same_locks_linked, same_locks_on}
+use Rattle.buffer_frames.proofs.Keeping.{same_locks_at, same_locks_on}
 use Rattle.buffer_frames.specs.Working.{WorksAt}
-use Rattle.buffer_frames.proofs.Outside.{links_worked}
-
--- work at a latch or a map
-pub same_locks_mapped : (v w : View) → SameWork v w → SameLocks v w
-same_locks_mapped v w work = same_locks_linked v w (links_worked v w work)
 
 -- a search for a victim got the header of a frame, which is pinned
 pub same_locks_chosen : (f h word : ℕ) (v u w : View) → h ≡ f → GetsHeader f word v u → ((g : ℕ) → g ≢ h → link w g ≡ link u g) → link w h ≡ victim_link (link u h) → SameLocks v w

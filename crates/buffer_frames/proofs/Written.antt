@@ -18,7 +18,6 @@ use Rattle.wal_flush.specs.declared.flushes.FlushLog.TheVariants.{LogShort, LogD
 use Rattle.wal_flush.specs.Flushes.{FlushRefused, FlushSeesEnd, ShortOf, as_looked, flushed_view, unflushed_view}
 use Rattle.wal_flush.specs.Latched.{KeepsWork}
 use Rattle.wal_flush.specs.Latched.{kept_of as log_kept}
-use Rattle.wal_flush.proofs.Listing.{flushed_lists}
 use Rattle.wal_flush.proofs.Rising.{flushed_rises}
 use Rattle.buffer_frames.specs.Rests.{Stands, kept_by_calls}
 use Rattle.buffer_frames.proofs.Keeping.{devices_same, stands_on}
@@ -111,6 +110,3 @@ copied_then_loaded f page found v u w touches copies loads = (
   within_on (Copies f page) v v u w (rises_none v) (within_all (Copies f page) v u copies) (flushed_rises found u w loads),
   within_on (λ a b. DidWord load_flushed a b found) v u w w (rises_touched f v u touches) (within_all (λ a b. DidWord load_flushed a b found) u w loads) (rises_none w),
 )
-
-pub works_loaded : (f found : ℕ) (v w : View) → DidWord load_flushed v w found → WorksAt f v w
-works_loaded f found v w d = works_flushed f v w (loaded_work found v w d) (flushed_rises found v w d) (flushed_lists f found v w d)

@@ -9,7 +9,14 @@ use Rattle.access_rings.specs.RingState.{RingState}
 -- What a call that works at frames and maps, and calls no device, leaves of a view: all but what it
 -- has of them, and what it lists and counts of loads, changed words and steps
 abbrev pub outside_of : View → View
-outside_of v = record v { links = []; partitions = []; steps = 0; loads = []; changes = []; unentered = []; residents = [] }
+outside_of v = record v {
+  links = [];
+  partitions = [];
+  steps = 0;
+  loads = [];
+  changes = [];
+  residents = [];
+}
 
 -- what a choice of a victim leaves: it may move the hand, too
 abbrev pub chosen_of : View → View

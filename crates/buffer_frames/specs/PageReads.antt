@@ -37,7 +37,6 @@ kept_by_reads v = record v {
   dirtied_or_synced = false;
   had_output = false;
   last_ended = None;
-  unentered = [];
   residents = [];
 }
 

@@ -35,7 +35,6 @@ kept_by_calls v = record v {
   saw_down = false;
   had_output = false;
   last_ended = None;
-  unentered = [];
   residents = [];
 }
 

@@ -27,12 +27,22 @@ pub record HasVictim (f : ℕ) (t : Tokens) (v : View) : Type 0 where
   pub unlocked : (link v f).content ≡ Unlocked
   pub role : (link v f).role ≡ Victim
 
+-- The frame f is pinned as a victim, and has this tag
+pub record HasVictimOf (tag f : ℕ) (t : Tokens) (v : View) : Type 0 where
+  pub victim : HasVictim f t v
+  pub remembered : (link v f).tag ≡ Some tag
+
 -- A frame is pinned for the tag, and nothing is done there
 pub record IsPinned (tag : ℕ) (l : Link) : Type 0 where
   pub calm : HasAtMostLock l
   pub unlocked : l.content ≡ Unlocked
   pub pinned : l.role ≢ Absent
   pub remembered : l.tag ≡ Some tag
+
+-- So it is, and the pin has seen BM_VALID
+pub record IsPinnedValid (tag : ℕ) (l : Link) : Type 0 where
+  pub pinned : IsPinned tag l
+  pub seen : l.seen_valid ≡ true
 
 -- A frame is pinned for the tag, for callers, and nothing is done there
 pub record IsRead (tag : ℕ) (l : Link) : Type 0 where

@@ -28,7 +28,6 @@ use Rattle.content_locks.specs.Io.{LocksHeader}
 use Rattle.cleanup_lock.specs.Waking.{Woken}
 use Rattle.clock_sweep.specs.Keeping.{SamePins}
 use Rattle.buffer_frames.specs.Rests.{HasAtMostLock}
-use Rattle.buffer_frames.specs.Tokens.{HeldFrame, Tokens, held_at}
 use Rattle.buffer_frames.specs.declared.flushing.FrameFlushError.{FrameFlushError}
 use Rattle.buffer_frames.specs.declared.flushing.FlushedPage.{FlushedPage}
 use Rattle.buffer_frames.specs.declared.flushing.FlushedPage.TheVariants as flush
@@ -97,12 +96,6 @@ pub data PinsUnder (f word : ℕ) (v w : View) : Type 0 where
   pinned_anew : (x u y : View) → OnlyRises v x → Did (pins pin_victim) f x u word → OnlyRises u y
       → Woken f y w → PinsUnder f word v w
   pinned_before : (link v f).role ≢ Absent → PinsUnder f word v w
-
--- no two frames are pinned for one block
-abbrev pub AreAlone : Tokens → Type 0
-AreAlone t =
-    (f g : ℕ) (h k : HeldFrame) → held_at t f ≡ Some h → held_at t g ≡ Some k → h.tag ≡ k.tag
-    → f ≡ g
 
 -- what a dirty frame's state word shows, too
 pub record IsDirty (w : StateWord) : Type 0 where
@@ -222,7 +215,11 @@ pub record WritesPages (n : ℕ) (v w : View) : Type 0 where
 -- what the sync of a lane makes of the view, beside what it has of latches: the call, the fault if
 -- it failed, and the mark
 abbrev pub synced_work : ℕ → Bool → View → View
-synced_work lane done v = record (work_of v) { device_calls = v.device_calls ++ LaneSync lane done ∷ []; met = met_lane_write done v.met; dirtied_or_synced = true }
+synced_work lane done v = record (work_of v) {
+  device_calls = v.device_calls ++ LaneSync lane done ∷ [];
+  met = met_lane_write done v.met;
+  dirtied_or_synced = true;
+}
 
 -- The last step to the view left the latch of this lane, one of `lanes`. Nothing else that it has
 -- of latches was changed, as how far each lane is swept

@@ -1,6 +1,7 @@
 -- What the work at one frame leaves of a view, and what was done in the course of a call.
 use Rattle.std.specs.Prelude.{◌≡◌, ◌≢◌, ℕ, ◌+◌, ◌++◌, true, false, List, Some}
 use Rattle.std.specs.List.{All}
+use Rattle.atomic_table.specs.declared.shared.Seat.{Seat}
 use Rattle.pin_core.specs.declared.view.DeviceCall.{DeviceCall}
 use Rattle.pin_core.specs.declared.view.DeviceCall.TheVariants.{LaneWrite, LogSync}
 use Rattle.state_word.specs.declared.word.IoEnd.{IoEnd}
@@ -10,9 +11,11 @@ use Rattle.pin_core.specs.declared.view.Link.{Link}
 use Rattle.pin_core.specs.declared.view.FailedCalls.{FailedCalls}
 use Rattle.pin_core.specs.declared.view.View.{View}
 use Rattle.pin_core.specs.State.{link}
-use Rattle.frame_table.specs.Seats.{ListsOnly, OnlyRises}
+use Rattle.table_rule.specs.declared.value.Value.{Value}
+use Rattle.frame_table.specs.declared.table.FrameTable.{FrameTable}
+use Rattle.frame_table.specs.Seats.{ListsOnly, OnlyRises, SameSeat}
 use Rattle.content_locks.specs.Io.{EndsIo}
-use Rattle.buffer_frames.specs.Rests.{kept_by_calls}
+use Rattle.buffer_frames.specs.Rests.{Stands, kept_by_calls}
 
 -- Work at the frame f, and at devices for its page: the view has at other frames, and at the
 -- partitions, what it had
@@ -29,6 +32,16 @@ pub record WorksAt (f : ℕ) (v w : View) : Type 0 where
 pub record KeepsNotes (l m : Link) : Type 0 where
   pub visited : l.visited ≡ true → m.visited ≡ true
   pub left_to_write : l.left_to_write ≡ false → m.left_to_write ≡ false
+
+module _ {L G : Type 0} where
+  -- A call that works at the frame f: the seat is the same one, has no slot in hand, and no device's
+  -- latch. The frame's role stays, and what the checkpoint of the view has noted there
+  pub record Works (f : ℕ) (t : FrameTable L G) (s s' : Seat (Value L G) View) : Type 0 where
+    pub seat : SameSeat s s'
+    pub stands : Stands t s'
+    pub work : WorksAt f s.me.0 s'.me.0
+    pub role : (link s'.me.0 f).role ≡ (link s.me.0 f).role
+    pub notes : KeepsNotes (link s.me.0 f) (link s'.me.0 f)
 
 -- This was done between v and w
 pub record Within (Work : View → View → Type 0) (v w : View) : Type 0 where

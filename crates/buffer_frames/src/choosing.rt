@@ -58,7 +58,8 @@ pub(crate) fn choose<L: BlockLane, G: LogDevice, R: Wait>(
     ensures no_census { IfOk result (λ _. census.new ≡ new_census (frames_of table.now)) }
     ensures rests { IfErr result (λ _. LinksRest _held.now seat.new.me.0) }
     ensures frames { IfErr result (λ why. why.frames ≡ frames_of table.now) }
-    ensures did { IfOk result (λ chosen. ChoosesVictim (frames_of table.now) chosen.pin.frame chosen.from_ring
+    ensures did { IfOk result (λ chosen. ChoosesVictim (frames_of table.now) chosen.pin.frame
+        chosen.from_ring
         seat.old.me.0 (choice_state queue.old ring.old census.old)
         seat.new.me.0 (choice_state queue.new ring.new census.new)) }
     ensures cause { IfErr result (λ _. FindsNone (frames_of table.now) (frame_at_place (ring_gone_on ring.old))

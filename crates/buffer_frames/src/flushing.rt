@@ -17,9 +17,9 @@ ghost use Rattle.buffer_frames.specs.Flushing.{CallsLane, CopiesAnd, EndedInErro
 ghost use Rattle.buffer_frames.specs.Flushing.{FlushAnswer, ClearsJust, IsNotRejected};
 ghost use Rattle.buffer_frames.specs.Flushing.{RejectsVictim, VictimAnswer, WriteAnswer};
 ghost use Rattle.buffer_frames.specs.Flushing.{met_flushing, met_lane_write};
-ghost use Rattle.buffer_frames.specs.Stages.{HasVictim, IsPinned, IsSharing};
+ghost use Rattle.buffer_frames.specs.Stages.{HasVictimOf, IsPinnedValid, IsSharing};
 ghost use Rattle.buffer_frames.specs.Working.{Calls, IsFlushCall, KeepsNotes, Made, Within};
-ghost use Rattle.buffer_frames.specs.Working.{WorksAt};
+ghost use Rattle.buffer_frames.specs.Working.{Works, WorksAt};
 
 use crate::pins::HeldPins;
 use access_rings::{Ring, RingKind};
@@ -79,13 +79,9 @@ fn clear_just<L: BlockLane, G: LogDevice, R: Wait>(
     requires others { LinksRestBeside frame _held.now seat.old.me.0 }
     requires inside { frame < frames_of table.now }
     requires shares { IsSharing Output (packed_tag _tag) (link seat.old.me.0 frame) }
-    ensures seat { SameSeat seat.old seat.new }
-    ensures stands { Stands table.now seat.new }
-    ensures works { WorksAt frame seat.old.me.0 seat.new.me.0 }
+    ensures works { Works frame table.now seat.old seat.new }
     ensures marks { SameMarks seat.old.me.0 seat.new.me.0 }
     ensures shares { IsSharing Output (packed_tag _tag) (link seat.new.me.0 frame) }
-    ensures role { (link seat.new.me.0 frame).role ≡ (link seat.old.me.0 frame).role }
-    ensures notes { KeepsNotes (link seat.old.me.0 frame) (link seat.new.me.0 frame) }
     ensures calls { Made [] seat.old.me.0 seat.new.me.0 }
     ensures clears { Within (ClearsJust frame) seat.old.me.0 seat.new.me.0 }
     ensures met { seat.new.me.0.met ≡ seat.old.me.0.met }
@@ -111,13 +107,9 @@ fn write_lane<L: BlockLane, G: LogDevice, R: Wait>(
     requires shares { IsSharing Output (packed_tag tag) (link seat.old.me.0 frame) }
     requires copied { (link seat.old.me.0 frame).copied ≡ Some page.now }
     requires log_first { lsn_of page.now ≤ seat.old.me.0.flushed }
-    ensures seat { SameSeat seat.old seat.new }
-    ensures stands { Stands table.now seat.new }
-    ensures works { WorksAt frame seat.old.me.0 seat.new.me.0 }
+    ensures works { Works frame table.now seat.old seat.new }
     ensures marks { SameMarks seat.old.me.0 seat.new.me.0 }
     ensures shares { IsSharing Output (packed_tag tag) (link seat.new.me.0 frame) }
-    ensures role { (link seat.new.me.0 frame).role ≡ (link seat.old.me.0 frame).role }
-    ensures notes { KeepsNotes (link seat.old.me.0 frame) (link seat.new.me.0 frame) }
     ensures done { OnTrue result ((link seat.new.me.0 frame).last_write ≡ Done) }
     ensures calls { CallsLane result (lane_number tag (lanes_in table.now)) (packed_tag tag)
         page.now seat.old.me.0 seat.new.me.0 }
@@ -147,13 +139,9 @@ fn write_logged<L: BlockLane, G: LogDevice, R: Wait>(
     requires block { has_block (relations_of table.now) tag ≡ true }
     requires shares { IsSharing Output (packed_tag tag) (link seat.old.me.0 frame) }
     requires copied { (link seat.old.me.0 frame).copied ≡ Some page.now }
-    ensures seat { SameSeat seat.old seat.new }
-    ensures stands { Stands table.now seat.new }
-    ensures works { WorksAt frame seat.old.me.0 seat.new.me.0 }
+    ensures works { Works frame table.now seat.old seat.new }
     ensures marks { SameMarks seat.old.me.0 seat.new.me.0 }
     ensures shares { IsSharing Output (packed_tag tag) (link seat.new.me.0 frame) }
-    ensures role { (link seat.new.me.0 frame).role ≡ (link seat.old.me.0 frame).role }
-    ensures notes { KeepsNotes (link seat.old.me.0 frame) (link seat.new.me.0 frame) }
     ensures done { IfOk result (λ _. (link seat.new.me.0 frame).last_write ≡ Done) }
     ensures answer { WriteAnswer L.contents table.now (lane_number tag (lanes_in table.now)) tag
         page.now seat.old.me.0 seat.new.me.0 result }
@@ -186,12 +174,8 @@ fn write_out<L: BlockLane, G: LogDevice, R: Wait>(
     requires block { has_block (relations_of table.now) tag ≡ true }
     requires shares { IsSharing Output (packed_tag tag) (link seat.old.me.0 right.frame) }
     requires begun { seat.old.me.0.had_output ≡ true }
-    ensures seat { SameSeat seat.old seat.new }
-    ensures stands { Stands table.now seat.new }
-    ensures works { WorksAt right.frame seat.old.me.0 seat.new.me.0 }
+    ensures works { Works right.frame table.now seat.old seat.new }
     ensures shares { IsSharing Quiet (packed_tag tag) (link seat.new.me.0 right.frame) }
-    ensures role { (link seat.new.me.0 right.frame).role ≡ (link seat.old.me.0 right.frame).role }
-    ensures notes { KeepsNotes (link seat.old.me.0 right.frame) (link seat.new.me.0 right.frame) }
     ensures answer { CopiesAnd
         (λ p v w. WriteAnswer L.contents table.now (lane_number tag (lanes_in table.now)) tag p v w
         result) right.frame seat.old.me.0 seat.new.me.0 }
@@ -231,13 +215,8 @@ fn flush_shared<L: BlockLane, G: LogDevice, R: Wait>(
     requires tag { names_block tag ≡ true }
     requires block { has_block (relations_of table.now) tag ≡ true }
     requires shares { IsSharing Quiet (packed_tag tag) (link seat.old.me.0 frame) }
-    ensures seat { SameSeat seat.old seat.new }
-    ensures stands { Stands table.now seat.new }
-    ensures works { WorksAt frame seat.old.me.0 seat.new.me.0 }
-    ensures pinned { IsPinned (packed_tag tag) (link seat.new.me.0 frame) }
-    ensures role { (link seat.new.me.0 frame).role ≡ (link seat.old.me.0 frame).role }
-    ensures notes { KeepsNotes (link seat.old.me.0 frame) (link seat.new.me.0 frame) }
-    ensures seen { (link seat.new.me.0 frame).seen_valid ≡ true }
+    ensures works { Works frame table.now seat.old seat.new }
+    ensures pinned { IsPinnedValid (packed_tag tag) (link seat.new.me.0 frame) }
     ensures answer { FlushAnswer L.contents table.now (lane_number tag (lanes_in table.now)) tag
         frame seat.old.me.0 seat.new.me.0 result }
     ensures met { seat.new.me.0.met ≡ met_flushing result seat.old.me.0.met }
@@ -273,15 +252,9 @@ pub fn flush_pinned<L: BlockLane, G: LogDevice, R: Wait>(
     requires inside { frame < frames_of table.now }
     requires tag { names_block tag ≡ true }
     requires block { has_block (relations_of table.now) tag ≡ true }
-    requires pinned { IsPinned (packed_tag tag) (link seat.old.me.0 frame) }
-    requires seen { (link seat.old.me.0 frame).seen_valid ≡ true }
-    ensures seat { SameSeat seat.old seat.new }
-    ensures stands { Stands table.now seat.new }
-    ensures works { WorksAt frame seat.old.me.0 seat.new.me.0 }
-    ensures pinned { IsPinned (packed_tag tag) (link seat.new.me.0 frame) }
-    ensures role { (link seat.new.me.0 frame).role ≡ (link seat.old.me.0 frame).role }
-    ensures notes { KeepsNotes (link seat.old.me.0 frame) (link seat.new.me.0 frame) }
-    ensures seen { (link seat.new.me.0 frame).seen_valid ≡ true }
+    requires pinned { IsPinnedValid (packed_tag tag) (link seat.old.me.0 frame) }
+    ensures works { Works frame table.now seat.old seat.new }
+    ensures pinned { IsPinnedValid (packed_tag tag) (link seat.new.me.0 frame) }
     ensures answer { FlushAnswer L.contents table.now (lane_number tag (lanes_in table.now)) tag
         frame seat.old.me.0 seat.new.me.0 result }
     ensures met { seat.new.me.0.met ≡ met_flushing result seat.old.me.0.met }
@@ -344,11 +317,8 @@ fn is_rejected<L: BlockLane, G: LogDevice, R: Wait>(
     requires inside { frame < frames_of table.now }
     requires shares { IsSharing Quiet (packed_tag _tag) (link seat.old.me.0 frame) }
     requires place { from_ring ≡ true → frame_at_place ring.old ≡ Some frame }
-    ensures seat { SameSeat seat.old seat.new }
-    ensures stands { Stands table.now seat.new }
-    ensures works { WorksAt frame seat.old.me.0 seat.new.me.0 }
+    ensures works { Works frame table.now seat.old seat.new }
     ensures shares { IsSharing Quiet (packed_tag _tag) (link seat.new.me.0 frame) }
-    ensures role { (link seat.new.me.0 frame).role ≡ (link seat.old.me.0 frame).role }
     ensures calls { Made [] seat.old.me.0 seat.new.me.0 }
     ensures met { seat.new.me.0.met ≡ seat.old.me.0.met }
     ensures rejected { OnTrue result
@@ -385,19 +355,13 @@ pub fn flush_victim<L: BlockLane, G: LogDevice, R: Wait>(
     from_ring: bool,
 ) -> Result<VictimPage, FrameFlushError>
     requires stands { Stands table.now seat.old }
-    requires latches { HasNoLatch seat.old.me.0 }
-    requires victim { HasVictim frame held.now seat.old.me.0 }
+    requires victim { HasVictimOf (packed_tag tag) frame held.now seat.old.me.0 }
     requires inside { frame < frames_of table.now }
     requires tag { names_block tag ≡ true }
     requires block { has_block (relations_of table.now) tag ≡ true }
-    requires remembered { (link seat.old.me.0 frame).tag ≡ Some (packed_tag tag) }
     requires place { from_ring ≡ true → frame_at_place ring.old ≡ Some frame }
-    ensures seat { SameSeat seat.old seat.new }
-    ensures stands { Stands table.now seat.new }
-    ensures latches { HasNoLatch seat.new.me.0 }
-    ensures works { WorksAt frame seat.old.me.0 seat.new.me.0 }
-    ensures victim { HasVictim frame held.now seat.new.me.0 }
-    ensures remembered { (link seat.new.me.0 frame).tag ≡ Some (packed_tag tag) }
+    ensures works { Works frame table.now seat.old seat.new }
+    ensures victim { HasVictimOf (packed_tag tag) frame held.now seat.new.me.0 }
     ensures answer { VictimAnswer L.contents table.now (lane_number tag (lanes_in table.now)) tag
         frame from_ring ring.old ring.new seat.old.me.0 seat.new.me.0 result }
     ensures calls { Calls IsFlushCall seat.old.me.0 seat.new.me.0 }

@@ -34,7 +34,9 @@ impl Model for HeldPins {
 
     ghost view = { λ h. held_in h.pins.items };
 
-    ghost invariant = { λ h. (h.count ≡ count_of (held_in h.pins.items)) × (h.count ≤ 8) × TokensAreCounted (held_in h.pins.items) × AreOfBlocks h.pins.items × (vec_len h.pins ≤ h.count) × (8 ≤ vec_capacity h.pins) };
+    ghost invariant = { λ h. (h.count ≡ count_of (held_in h.pins.items)) × (h.count ≤ 8)
+        × TokensAreCounted (held_in h.pins.items) × AreOfBlocks h.pins.items
+        × (vec_len h.pins ≤ h.count) × (8 ≤ vec_capacity h.pins) };
 }
 
 ghost use Rattle.std.specs.Prelude.{◌≡◌, ◌<◌, None, IfSome, IfNone, length};

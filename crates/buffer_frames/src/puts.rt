@@ -1,5 +1,5 @@
 //! A page is put into a frame.
-ghost use Rattle.std.specs.Prelude.{◌≡◌, ◌<◌, None, Some, false, true};
+ghost use Rattle.std.specs.Prelude.{◌≡◌, ◌<◌, IfOk, None, Some, false, true};
 ghost use Rattle.block_tag.specs.Names.{names_block, packed_tag};
 ghost use Rattle.page_layout.specs.Soundness.{is_new_page, is_sound_page};
 ghost use Rattle.pin_core.specs.declared.view.Content.TheVariants as content;
@@ -83,6 +83,7 @@ pub fn put_locked<L: BlockLane, G: LogDevice, R: Wait>(
     ensures calls { Made (put_calls result) seat.old.me.0 seat.new.me.0 }
     ensures met { seat.new.me.0.met ≡ met_put result seat.old.me.0.met }
     ensures torn { AddsTorn (packed_tag tag) page.old result seat.old.me.0.torn seat.new.me.0.torn }
+    ensures entered { IfOk result (λ _. (link seat.new.me.0 frame).entered ≡ true) }
 {
     table.mark_dirty(rt, seat, frame);
     match insert(table, rt, seat, frame, tag, page) {

@@ -1,6 +1,5 @@
 //! A frame is written for the background writer or a checkpoint (`SyncOneBuffer`).
-ghost use Rattle.std.specs.Prelude.{◌≡◌, ◌≢◌, ◌<◌, false, true, None};
-ghost use Rattle.block_tag.specs.Names.{names_block};
+ghost use Rattle.std.specs.Prelude.{◌≡◌, ◌≢◌, ◌<◌, false, None};
 ghost use Rattle.state_word.specs.Fields.{fields};
 ghost use Rattle.pin_core.specs.declared.view.Content.TheVariants.{Unlocked};
 ghost use Rattle.pin_core.specs.declared.view.Role.TheVariants.{Absent};
@@ -9,9 +8,9 @@ ghost use Rattle.frame_table.specs.Seats.{HoldsNumber, IsWordOf, Looked, SameMar
 ghost use Rattle.frame_table.specs.Seats.{Touches, frames_of, locked_link, unlocked_link};
 ghost use Rattle.buffer_frames.specs.Rests.{HasAtMostLock, LinkRests, LinksRest};
 ghost use Rattle.buffer_frames.specs.Rests.{LinksRestBeside, Stands};
-ghost use Rattle.buffer_frames.specs.Tokens.{IsPinnedFor, held_at};
+ghost use Rattle.buffer_frames.specs.Tokens.{held_at};
 ghost use Rattle.buffer_frames.specs.declared.syncing.SyncOnly.TheVariants.{Needed};
-ghost use Rattle.buffer_frames.specs.Syncs.{AreAlone, ComesAtOnce, FlushesPinned, IsDirty};
+ghost use Rattle.buffer_frames.specs.Syncs.{ComesAtOnce, FlushesPinned, IsDirty};
 ghost use Rattle.buffer_frames.specs.Syncs.{LeavesPinned, LooksUnderHeader, PinsUnder, SyncsOne};
 ghost use Rattle.buffer_frames.specs.Syncs.{passes_over, synced_of};
 
@@ -19,7 +18,6 @@ use crate::flushing::{FlushedPage, FrameFlushError, flush_pinned};
 use crate::pins::HeldPins;
 use crate::tags::tag_shown;
 use atomic_table::Seat;
-use block_tag::Tag;
 use byte_devices::LogDevice;
 use cleanup_lock::unpin_and_wake;
 use frame_table::{FrameTable, Value};
@@ -172,19 +170,6 @@ fn flush_anew<L: BlockLane, G: LogDevice, R: Wait>(
     answer
 }
 
-/// Whether callers have tokens of the frame, which has this tag.
-fn is_own(held: &HeldPins, frame: u32, tag: &Tag) -> bool
-    requires tag { names_block tag.now ≡ true }
-    requires alone { AreAlone held.now }
-    ensures own { result ≡ true → IsPinnedFor tag.now frame held.now }
-    ensures others { result ≡ false → IsPinnedFor tag.now frame held.now → ⊥ }
-{
-    match held.frame_of(tag) {
-        Some(own) => own == frame,
-        None => false,
-    }
-}
-
 /// Writes a frame whose header is held, if it is still dirty once that is unlocked. The backend
 /// pins it for that unless callers have tokens of it.
 fn flush_under<L: BlockLane, G: LogDevice, R: Wait>(
@@ -200,7 +185,6 @@ fn flush_under<L: BlockLane, G: LogDevice, R: Wait>(
     requires others { LinksRestBeside frame held.now seat.old.me.0 }
     requires inside { frame < frames_of table.now }
     requires rests { LinkRests (held_at held.now frame) (unlocked_link (link seat.old.me.0 frame)) }
-    requires alone { AreAlone held.now }
     requires header { HoldsNumber IsDirty word (link seat.old.me.0 frame) }
     requires unlocked { (link seat.old.me.0 frame).content ≡ Unlocked }
     ensures seat { SameSeat seat.old seat.new }
@@ -210,8 +194,7 @@ fn flush_under<L: BlockLane, G: LogDevice, R: Wait>(
     ensures pins { PinsUnder frame word seat.old.me.0 seat.new.me.0 }
     ensures flushes { FlushesPinned L.contents table.now frame seat.old.me.0 seat.new.me.0 result }
 {
-    let tag = tag_shown(table, seat, frame);
-    if is_own(held, frame, &tag) {
+    if held.holds(frame) {
         table.unlock_header(seat, frame);
         return flush_seen(table, rt, seat, held, frame, page);
     }
@@ -231,7 +214,6 @@ pub fn sync_one<L: BlockLane, G: LogDevice, R: Wait>(
 ) -> Result<Synced, FrameFlushError>
     requires stands { Stands table.now seat.old }
     requires rests { LinksRest held.now seat.old.me.0 }
-    requires alone { AreAlone held.now }
     requires inside { frame < frames_of table.now }
     requires unlocked { only ≡ Needed → (link seat.old.me.0 frame).content ≡ Unlocked }
     ensures seat { SameSeat seat.old seat.new }

@@ -191,3 +191,7 @@ returns-in-Err-clause-torn g c =
     let m : MarkedFrameDirty c.args.frame c.args.seat.now.me.0 c.mark_dirty.new.seat.me.0 = record { touches = d.touches; marks = d.marks; dirtied = d.dirtied; did = d.did } in
     let e = c.in-Err.ensures in
     torn_not_put c.args.frame c.args._held.now _ _ m _ _ e.left e.rises (packed_tag c.args.tag) c.args.page.now e.torn
+
+pub returns-in-Ok-clause-entered : goal.returns-in-Ok-clause-entered
+returns-in-Ok-clause-entered g c = ap (λ (l : Link). l.entered) c.apply.ensures.applied
+    ∙ ap (λ (l : Link). l.entered) c.in-Ok.ensures.entered
