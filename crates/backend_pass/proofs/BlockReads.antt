@@ -152,6 +152,7 @@ same_kept p q table id census e advances = record {
   };
   upto = ap (λ (x : View). x.upto) e;
   torn = ap (λ (x : View). x.torn) e;
+  unentered = ap (λ (x : View). x.unentered) e;
 }
 
 pub calls_kept : (p q : PassState) → kept_by_calls q.view ≡ kept_by_calls p.view → KeepsCalls p q
@@ -160,7 +161,7 @@ calls_kept p q e = record { calls = ap (λ (x : View). x.calls) e; front = ap (�
 -- what a call leaves of a pass is no matter of the hint that it had
 module _ (p q : PassState) (seen : HintSeen) where
   pub same_hinted : SamePass (record p { hint = seen }) q → SamePass p q
-  same_hinted s = let k = s.keeps in record { keeps = record { table = k.table; id = k.id; own = k.own; number = k.number; next = k.next; joined = k.joined; kept = k.kept; advances = k.advances }; upto = s.upto; torn = s.torn }
+  same_hinted s = let k = s.keeps in record { keeps = record { table = k.table; id = k.id; own = k.own; number = k.number; next = k.next; joined = k.joined; kept = k.kept; advances = k.advances }; upto = s.upto; torn = s.torn; unentered = s.unentered }
 
   pub calls_hinted : KeepsCalls (record p { hint = seen }) q → KeepsCalls p q
   calls_hinted k = record { calls = k.calls; front = k.front; place_loads = k.place_loads }

@@ -10,9 +10,15 @@ use Rattle.pin_core.specs.declared.view.Link.{Link}
 use Rattle.pin_core.specs.declared.view.View.{View}
 use Rattle.pin_core.specs.State.{link}
 use Rattle.page_core.specs.Steps.{MayWait}
-use Rattle.frame_table.specs.Content.{exclusive_link}
+use Rattle.page_core.specs.Kinds.{exclude}
+use Rattle.frame_table.specs.Content.{HoldsNoUnentered, exclusive_link}
+use Rattle.frame_table.proofs.Unentered.{holds_unmarked}
 use Rattle.frame_table.specs.Seats.{Looked, SameMarks, Touches}
-use Rattle.cleanup_lock.specs.Cleanup.{CanLockForCleanup}
+use Rattle.content_locks.specs.Locks.{LocksContent}
+use Rattle.content_locks.proofs.Locking.{locks_waiting}
+use Rattle.cleanup_lock.specs.Cleanup.{CanLockForCleanup, GrantsCleanup, GrantsTry, Retried}
+use Rattle.cleanup_lock.specs.Cleanup.{still, again}
+use Rattle.cleanup_lock.proofs.Cleaning.{bare}
 use Rattle.buffer_frames.specs.Rests.{LinkRests, OnlyTokens}
 use Rattle.buffer_frames.specs.Tokens.{HeldFrame, IsPinnedFor, Tokens, held_at}
 use Rattle.buffer_frames.proofs.Keeping.{devices_touched, latches_same, link_looked, rests_touched}
@@ -61,3 +67,24 @@ can_clean o h l e unlocked r = record { lock = can_lock o h l e unlocked r; sett
 -- and a wait, under the pass's number
 pub may_wait : (number id : ℕ) (t : Tokens) (v : View) → IsNumbered number id v → OnlyTokens t v → MayWait number v
 may_wait number id t v n r = record { own = sym n.number_is; nowhere = λ f. (r.links f).calm.no_wait }
+
+-- the content lock was taken first of all, after turns of the wait or at once
+first_locks : (number f : ℕ) (v u : View) → Retried number f v u → (x : View)
+    → LocksContent exclude f u x → (y : View) × LocksContent exclude f v y
+first_locks number f v u still x locks = (x, locks)
+first_locks number f v u (again {u = m} before round) x locks =
+    first_locks number f v m before round.looks.under.locked round.looks.under.locks
+
+-- a cleanup lock that was just taken: the frame isn't marked dirty under it
+pub unmarked_cleaned : (number f : ℕ) (v w : View) → GrantsCleanup number f v w
+    → (link v f).content ≡ Unlocked → Looked (exclusive_link (link v f)) (link w f)
+    → HoldsNoUnentered (link w f)
+unmarked_cleaned number f v w g none a =
+    let under = g.grants.under in
+    let first = first_locks number f v g.tried g.waits under.locked under.locks in
+    holds_unmarked (link w f) (a.dirtied ∙ (bare f v first.0 first.1 none).1)
+
+pub unmarked_tried : (f : ℕ) (v w : View) → GrantsTry f v w → (link v f).content ≡ Unlocked
+    → Looked (exclusive_link (link v f)) (link w f) → HoldsNoUnentered (link w f)
+unmarked_tried f v w g none a = holds_unmarked (link w f)
+    (a.dirtied ∙ (bare f v g.locked (locks_waiting exclude f v g.locked g.locks) none).1)

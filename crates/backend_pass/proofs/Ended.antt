@@ -34,14 +34,16 @@ use Rattle.history_core.proofs.Histories.{loaded_flushed}
 use Rattle.history_core.proofs.Promises.{seen_durable, sweeps}
 use Rattle.history_core.proofs.Rest.{whole}
 use Rattle.table_rule.specs.declared.opening.Opening.{Opening}
-use Rattle.table_rule.specs.Shows.{Devices}
+use Rattle.table_rule.specs.Shows.{Devices, KeepsOthers, lane_opened}
+use Rattle.table_rule.proofs.Theirs.{still_theirs}
 use Rattle.frame_table.specs.Closes.{Closes}
 use Rattle.buffer_frames.specs.Tokens.{no_tokens}
 use Rattle.buffer_frames.specs.Rests.{OnlyTokens}
 use Rattle.buffer_frames.proofs.Resting.{rests_hold_nothing}
 use Rattle.backend_pass.specs.Passes.{PassState}
 use Rattle.backend_pass.specs.Managers.{AreFronted, IsFirstAt, first_in, others_in}
-use Rattle.backend_pass.specs.Closing.{ClosesAll, ClosesPass, EachPass, NothingPut, NothingWritten, PutNothing, PassTore, TookEach, calls_of_passes, joined_views, met_by_passes, torn_of_passes}
+use Rattle.history_core.specs.Unentered.{IsUnentered}
+use Rattle.backend_pass.specs.Closing.{ClosesAll, ClosesPass, EachPass, NothingPut, NothingWritten, PassNotes, PutNothing, PassTore, TookEach, calls_of_passes, joined_views, met_by_passes, torn_of_passes, unentered_of_passes}
 use Rattle.backend_pass.proofs.Fronts.{at_last}
 use Rattle.backend_pass.proofs.Joining.{Joins, at_later, first_here, first_past, joined_hold_nothing, joins, others_here, others_past}
 
@@ -119,6 +121,18 @@ fronted_at : (base : ℕ) (ps : List PassState) (i : ℕ) (p : PassState) → Ar
 fronted_at base [] i p a e = absurd (some-ne-none p (sym e))
 fronted_at base (x ∷ xs) zero p a e = subst (λ (y : PassState). IsFront base y.view.calls y.view.front) (some-injective x p e) a.0
 fronted_at base (x ∷ xs) (suc i) p a e = fronted_at base xs i p a.1 e
+
+-- one of the passes noted what all noted as unentered
+noted_in : (ps : List PassState) (k tag : ℕ)
+    → get_elem? (unentered_of_passes ps) k ≡ some tag
+    → (i j : ℕ) × (p : PassState) × (get_elem? ps i ≡ some p)
+    × (get_elem? p.view.unentered j ≡ some tag)
+noted_in [] k tag e = absurd (some-ne-none tag (sym e))
+noted_in (p ∷ ps) k tag e = ⊎_elim
+    (λ (t : get_elem? p.view.unentered k ≡ some tag). (0, k, p, refl, t))
+    (λ (t : (j : ℕ) × (get_elem? (unentered_of_passes ps) j ≡ some tag)).
+    let r = noted_in ps t.0 tag t.1 in (suc r.0, r.1, r.2, r.3, r.4))
+    (at_both p.view.unentered (unentered_of_passes ps) k tag e)
 
 -- one of the passes has what all have of torn records
 torn_in : (ps : List PassState) (k : ℕ) (x : TornRecord) → get_elem? (torn_of_passes ps) k ≡ some x → (i j : ℕ) × (p : PassState) × (get_elem? ps i ≡ some p) × (get_elem? p.view.torn j ≡ some x)
@@ -259,6 +273,14 @@ module _ (s : State) (h : Laws s) (w : View) (there : get_elem? s.pool.core.view
           (λ (e : u ≡ emptied_view). absurd (some-ne-none x (sym (subst (λ (y : View). get_elem? y.torn k ≡ some x) e is))))
           (is_one i u at)
 
+  -- a block that is noted as unentered is noted by w
+  pub noted : (tag : ℕ) → IsUnentered s tag → (k : ℕ) × (get_elem? w.unentered k ≡ some tag)
+  noted tag (i, k, u, at, is) = ⊎_elim
+      (λ (e : w ≡ u). (k, subst (λ (y : View). get_elem? y.unentered k ≡ some tag) (sym e) is))
+      (λ (e : u ≡ emptied_view). absurd (some-ne-none tag
+      (sym (subst (λ (y : View). get_elem? y.unentered k ≡ some tag) e is))))
+      (is_one i u at)
+
   -- where w has no mark no write failed, and there was no output
   quiet_where_unmarked : w.dirtied_or_synced ≡ false → AllQuiet s
   quiet_where_unmarked e = h.marks (total-alone mark_weight s.pool.core.views 0 w there (λ j u n at. ap mark_weight (others j u n at)) ∙ ap flag_weight e)
@@ -292,8 +314,8 @@ module _ (s : State) (h : Laws s) (w : View) (there : get_elem? s.pool.core.view
 
 module _ {L G : Type 0} where
   -- all of that
-  pub closes_all : (d : Devices L G) (o : Opening L G) (ps : List PassState) (lanes : List L) (log : G) (v w : View) (k : ℕ) → IsFirstAt k ps → first_in ps ≡ v → w ≡ joined_views v (others_in ps) → OnlyTokens no_tokens v → AreFronted o.base ps → TookEach o.config.frames ps → Closes d o w lanes log → ClosesAll d o ps lanes log
-  closes_all d o ps lanes log v w k at first is r fronts took c = record {
+  pub closes_all : (d : Devices L G) (o : Opening L G) (ps : List PassState) (lanes : List L) (log : G) (v w : View) (k : ℕ) → IsFirstAt k ps → first_in ps ≡ v → w ≡ joined_views v (others_in ps) → OnlyTokens no_tokens v → AreFronted o.base ps → TookEach o.config.frames ps → length o.lanes.value.items ≡ o.config.lanes → Closes d o w lanes log → ClosesAll d o ps lanes log
+  closes_all d o ps lanes log v w k at first is r fronts took opened c = record {
     state = s;
     laws = h;
     opened = c.opened;
@@ -302,11 +324,16 @@ module _ {L G : Type 0} where
     others = c.others;
     counted = c.counted;
     lane = c.lane;
+    theirs = still_theirs d.contents o.catalog.value o.lanes.value.items lanes
+        (c.counted ∙ sym opened) (λ q l at. subst (λ (n : ℕ). KeepsOthers o.catalog.value n q
+        (lane_opened d o q) (d.contents l)) (c.opened.lanes ∙ sym c.counted)
+        (c.lane q l at).others);
     covered = c.covered;
     mark = c.mark;
     device = c.device;
     bytes = λ up. holds_bytes s h w c.first c.others (ap (λ (l : LogHold). l.appended) (j.log ∙ r.quiet.log)) (c.device.down ∙ up);
     torn = λ rests down. torn rests (λ up. down (sym c.device.down ∙ up));
+    unentered = unentered;
     history = subst (IsHistory s.known s.origin s.opened_sizes s.log) (j.calls ∙ ap (λ (u : View). u.calls ++ calls_of_passes (others_in ps)) (sym first)) (history s h w c.first c.others);
     each = each;
     reads_rose = λ more. reads_rose s h w c.first c.others (subst (λ (m : FailedCalls). 0 < m.reads) met more);
@@ -359,6 +386,27 @@ module _ {L G : Type 0} where
 
       torn : (rests : h.rest.behind.rest ≢ []) → s.device.down ≢ None → PassTore ps (h.rest.behind.begins rests).entry.change
       torn rests down = let t = tore s h w c.first c.others rests down in let r = of_pass t.0 t.1 (subst (λ (l : List TornRecord). get_elem? l t.0 ≡ some t.1) j.torn t.2) in (r.0, r.1, r.2, t.1, r.3, r.4, t.3)
+
+      noted_pass : (n tag : ℕ)
+          → get_elem? (v.unentered ++ unentered_of_passes (others_in ps)) n ≡ some tag
+          → PassNotes ps tag
+      noted_pass n tag e = ⊎_elim
+          (λ (t : get_elem? v.unentered n ≡ some tag). let f = first_there ps k at in (
+            k,
+            n,
+            f.0,
+            f.1,
+            subst (λ (y : View). get_elem? y.unentered n ≡ some tag) (sym (f.2 ∙ first)) t,
+          ))
+          (λ (t : (m : ℕ) × (get_elem? (unentered_of_passes (others_in ps)) m ≡ some tag)).
+          let r = noted_in (others_in ps) t.0 tag t.1 in
+          let o = other_there ps k r.0 r.2 at r.3 in (o.0, r.1, r.2, o.1, r.4))
+          (at_both v.unentered (unentered_of_passes (others_in ps)) n tag e)
+
+      unentered : (tag : ℕ) → IsUnentered s tag → PassNotes ps tag
+      unentered tag is = let t = noted s h w c.first c.others tag is in
+          noted_pass t.0 tag
+          (subst (λ (l : List ℕ). get_elem? l t.0 ≡ some tag) j.unentered t.1)
 
       output : (i : ℕ) (p : PassState) → get_elem? ps i ≡ some p → p.view.had_output ≡ true → w.had_output ≡ true
       output i p e = ⊎_elim

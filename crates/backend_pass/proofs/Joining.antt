@@ -14,7 +14,7 @@ use Rattle.buffer_frames.specs.Tokens.{no_tokens}
 use Rattle.backend_pass.specs.Passes.{PassState}
 use Rattle.history_core.specs.Log.{IsFront}
 use Rattle.backend_pass.specs.Managers.{AreFronted, AreOthers, AreSpent, IsFirstAt, first_in, is_first, others_in}
-use Rattle.backend_pass.specs.Closing.{calls_of_passes, joined_views, met_by_passes, torn_of_passes}
+use Rattle.backend_pass.specs.Closing.{calls_of_passes, joined_views, met_by_passes, torn_of_passes, unentered_of_passes}
 use Rattle.pin_core.specs.declared.view.JoinedCheckpoint.{JoinedCheckpoint}
 use Rattle.grid.proofs.Lists.{at_longer}
 
@@ -82,6 +82,7 @@ pub record Joins (v w : View) (ps : List PassState) : Type 0 where
   pub calls : w.calls ≡ v.calls ++ calls_of_passes ps
   pub met : w.met ≡ sum_of_met v.met (met_by_passes ps)
   pub torn : w.torn ≡ v.torn ++ torn_of_passes ps
+  pub unentered : w.unentered ≡ v.unentered ++ unentered_of_passes ps
   pub front : v.front ≤ w.front
   pub seen : v.end_seen ≤ w.end_seen
   pub flushed : v.flushed ≤ w.flushed
@@ -114,6 +115,7 @@ joins v [] = record {
   calls = sym (append-nil v.calls);
   met = met_none v.met;
   torn = sym (append-nil v.torn);
+  unentered = sym (append-nil v.unentered);
   front = omega arith;
   seen = omega arith;
   flushed = omega arith;
@@ -133,6 +135,8 @@ joins v (p ∷ ps) = let r = joins (joined_view v p.view) ps in record {
   calls = r.calls ∙ append_assoc v.calls p.view.calls (calls_of_passes ps);
   met = r.met ∙ met_sum v.met p.view.met (met_by_passes ps);
   torn = r.torn ∙ append_assoc v.torn p.view.torn (torn_of_passes ps);
+  unentered = r.unentered
+      ∙ append_assoc v.unentered p.view.unentered (unentered_of_passes ps);
   front = let a = r.front in omega arith;
   seen = let a = r.seen in omega arith;
   flushed = let a = r.flushed in omega arith;

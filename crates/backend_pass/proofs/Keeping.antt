@@ -4,7 +4,16 @@ use Rattle.frame_table.proofs.Rising.{rises_none, rises_on}
 use Rattle.backend_pass.specs.Passes.{KeepsCallers, KeepsCalls, KeepsPass, PassState}
 
 pub pass_none : (p : PassState) → KeepsPass p p
-pass_none p = record { table = refl; id = refl; own = refl; number = refl; next = refl; joined = refl; kept = refl; advances = rises_none p.view }
+pass_none p = record {
+  table = refl;
+  id = refl;
+  own = refl;
+  number = refl;
+  next = refl;
+  joined = refl;
+  kept = refl;
+  advances = rises_none p.view;
+}
 
 pub pass_on : (p q r : PassState) → KeepsPass p q → KeepsPass q r → KeepsPass p r
 pass_on p q r a b = record {
@@ -19,10 +28,14 @@ pass_on p q r a b = record {
 }
 
 pub calls_on : (p q r : PassState) → KeepsCalls p q → KeepsCalls q r → KeepsCalls p r
-calls_on p q r a b = record { calls = b.calls ∙ a.calls; front = b.front ∙ a.front; place_loads = b.place_loads ∙ a.place_loads }
+calls_on p q r a b = record {
+  calls = b.calls ∙ a.calls;
+  front = b.front ∙ a.front;
+  place_loads = b.place_loads ∙ a.place_loads;
+}
 
 pub callers_none : (p : PassState) → KeepsCallers p p
-callers_none p = record { keeps = pass_none p; tokens = refl; locks = λ f. refl; census = refl; calls = record { calls = refl; front = refl; place_loads = refl }; torn = refl; sought = record { hint = refl; turns = refl; stores = refl; queue = refl; ticks = refl } }
+callers_none p = record { keeps = pass_none p; tokens = refl; locks = λ f. refl; census = refl; calls = record { calls = refl; front = refl; place_loads = refl }; torn = refl; unentered = refl; lookups = record { hint = refl; turns = refl; stores = refl; queue = refl; ticks = refl } }
 
 pub callers_on : (p q r : PassState) → KeepsCallers p q → KeepsCallers q r → KeepsCallers p r
 callers_on p q r a b = record {
@@ -32,5 +45,6 @@ callers_on p q r a b = record {
   census = b.census ∙ a.census;
   calls = calls_on p q r a.calls b.calls;
   torn = b.torn ∙ a.torn;
-  sought = record { hint = b.sought.hint ∙ a.sought.hint; turns = b.sought.turns ∙ a.sought.turns; stores = b.sought.stores ∙ a.sought.stores; queue = b.sought.queue ∙ a.sought.queue; ticks = b.sought.ticks ∙ a.sought.ticks };
+  unentered = b.unentered ∙ a.unentered;
+  lookups = record { hint = b.lookups.hint ∙ a.lookups.hint; turns = b.lookups.turns ∙ a.lookups.turns; stores = b.lookups.stores ∙ a.lookups.stores; queue = b.lookups.queue ∙ a.lookups.queue; ticks = b.lookups.ticks ∙ a.lookups.ticks };
 }

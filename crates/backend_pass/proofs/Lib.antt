@@ -18,3 +18,5 @@ pub mod PassSyncing
 pub mod Crossing
 pub mod Owning
 pub mod Listed
+pub mod Standing
+pub mod Between

@@ -62,6 +62,7 @@ same_read p q table id census k = let e = k.kept in record {
   };
   upto = ap (λ (x : View). x.upto) e;
   torn = ap (λ (x : View). x.torn) e;
+  unentered = ap (λ (x : View). x.unentered) e;
 }
 
 module _ {L G : Type 0} (contents : L → Option Pages) (m : Manager L G) where

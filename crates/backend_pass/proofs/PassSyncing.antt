@@ -21,15 +21,13 @@ use Rattle.buffer_frames.specs.Flushing.{met_flushing}
 use Rattle.buffer_frames.proofs.Written.{flushed_met}
 use Rattle.buffer_frames.specs.declared.syncing.Synced.{Synced}
 use Rattle.buffer_frames.specs.declared.syncing.SyncOnly.{SyncOnly}
-use Rattle.buffer_frames.specs.Syncs.{AreAlone, SyncsFrame, synced_work}
+use Rattle.buffer_frames.specs.Syncs.{SyncsFrame, synced_work}
 use Rattle.clock_sweep.specs.CensusList.{CensusList}
 use Rattle.clock_sweep.specs.FreeFrames.{QueueState}
 use Rattle.backend_pass.proofs.Owning.{beside_of, own_in}
 use Rattle.backend_pass.specs.declared.errors.FlushError.{FlushError}
-use Rattle.backend_pass.specs.declared.manager.Manager.{Manager}
 use Rattle.backend_pass.specs.declared.met.Shown.{Shown}
 use Rattle.backend_pass.specs.FrameFlushes.{IsOkOrShort, frame_answer}
-use Rattle.backend_pass.specs.Managers.{Belongs}
 use Rattle.buffer_frames.specs.Outside.{shown_count}
 use Rattle.backend_pass.specs.Passes.{IsShown, KeepsCallers, NoDeviceFails, PassState, SamePass}
 use Rattle.backend_pass.specs.PassSyncs.{shown_lane_synced, shown_log_flushed, shown_synced}
@@ -46,7 +44,8 @@ callers_kept p q table id tokens census hint e rises locks = record {
   census = ap (λ (x : CensusList × QueueState). x.0) census;
   calls = calls_kept p q e;
   torn = ap (λ (x : View). x.torn) e;
-  sought = record { hint = hint; turns = ap (λ (x : View). x.turns) e; stores = ap (λ (x : View). x.hints) e; queue = ap (λ (x : CensusList × QueueState). x.1) census; ticks = ap (λ (x : View). x.ticks) e };
+  unentered = ap (λ (x : View). x.unentered) e;
+  lookups = record { hint = hint; turns = ap (λ (x : View). x.turns) e; stores = ap (λ (x : View). x.hints) e; queue = ap (λ (x : CensusList × QueueState). x.1) census; ticks = ap (λ (x : View). x.ticks) e };
 }
 
 pub callers_from : (a p q : PassState) → p ≡ a → KeepsCallers p q → KeepsCallers a q
@@ -62,7 +61,8 @@ rises_begun upto v w e = subst (OnlyRises v) (sym e) (rises_by v (view_of begin_
 pub callers_begun : (upto : ℕ) (p q : PassState) → q.table ≡ p.table → q.id ≡ p.id → q.tokens ≡ p.tokens → beside_of q ≡ beside_of p → q.hint ≡ p.hint → q.view ≡ view_of begin_checkpoint upto p.view → SameLocks p.view q.view → KeepsCallers p q
 callers_begun upto p q table id tokens census hint e locks = record {
   torn = ap (λ (x : View). x.torn) e;
-  sought = record { hint = hint; turns = ap (λ (x : View). x.turns) e; stores = ap (λ (x : View). x.hints) e; queue = ap (λ (x : CensusList × QueueState). x.1) census; ticks = ap (λ (x : View). x.ticks) e };
+  unentered = ap (λ (x : View). x.unentered) e;
+  lookups = record { hint = hint; turns = ap (λ (x : View). x.turns) e; stores = ap (λ (x : View). x.hints) e; queue = ap (λ (x : CensusList × QueueState). x.1) census; ticks = ap (λ (x : View). x.ticks) e };
   keeps = record {
     table = table;
     id = id;
@@ -116,7 +116,8 @@ kept_synced lane done v w e = ap kept_by_calls e
 pub callers_synced : (lane : ℕ) (done : Bool) (p q : PassState) → q.table ≡ p.table → q.id ≡ p.id → q.tokens ≡ p.tokens → beside_of q ≡ beside_of p → q.hint ≡ p.hint → work_of q.view ≡ synced_work lane done p.view → OnlyRises p.view q.view → SameLocks p.view q.view → KeepsCallers p q
 callers_synced lane done p q table id tokens census hint e rises locks = record {
   torn = ap (λ (x : View). x.torn) e;
-  sought = record { hint = hint; turns = ap (λ (x : View). x.turns) e; stores = ap (λ (x : View). x.hints) e; queue = ap (λ (x : CensusList × QueueState). x.1) census; ticks = ap (λ (x : View). x.ticks) e };
+  unentered = ap (λ (x : View). x.unentered) e;
+  lookups = record { hint = hint; turns = ap (λ (x : View). x.turns) e; stores = ap (λ (x : View). x.hints) e; queue = ap (λ (x : CensusList × QueueState). x.1) census; ticks = ap (λ (x : View). x.ticks) e };
   keeps = record {
     table = table;
     id = id;
@@ -134,7 +135,7 @@ callers_synced lane done p q table id tokens census hint e rises locks = record 
 }
 
 pub same_synced : (lane : ℕ) (done : Bool) (p q : PassState) → q.table ≡ p.table → q.id ≡ p.id → q.tokens ≡ p.tokens → beside_of q ≡ beside_of p → q.hint ≡ p.hint → work_of q.view ≡ synced_work lane done p.view → OnlyRises p.view q.view → SameLocks p.view q.view → SamePass p q
-same_synced lane done p q table id tokens census hint e rises locks = record { keeps = (callers_synced lane done p q table id tokens census hint e rises locks).keeps; upto = ap (λ (x : View). x.upto) e; torn = ap (λ (x : View). x.torn) e }
+same_synced lane done p q table id tokens census hint e rises locks = record { keeps = (callers_synced lane done p q table id tokens census hint e rises locks).keeps; upto = ap (λ (x : View). x.upto) e; torn = ap (λ (x : View). x.torn) e; unentered = ap (λ (x : View). x.unentered) e }
 
 module _ {L G : Type 0} (contents : L → Option Pages) (t : FrameTable L G) where
   pub sync_complete : (only : SyncOnly) (f : ℕ) (p q : PassState) (r : Result Synced FlushError) → SyncsFrame contents t only f p.view q.view (frame_answer r) → q.view.met ≡ met_flushing (frame_answer r) p.view.met → NothingFails contents t p q → IsOk r
@@ -146,7 +147,3 @@ module _ {L G : Type 0} (contents : L → Option Pages) (t : FrameTable L G) whe
   pub sync_short : (only : SyncOnly) (f : ℕ) (p q : PassState) (r : Result Synced FlushError) → SyncsFrame contents t only f p.view q.view (frame_answer r) → q.view.met ≡ met_flushing (frame_answer r) p.view.met → NoDeviceFails p q → IsOkOrShort r
   sync_short only f p q (Ok synced) s met n = tt
   sync_short only f p q (Err why) s met n = let b = s.came.2 in flush_short contents t (lane_number b.tag (lanes_in t)) b.tag f p.view q.view (Err why) b.answer met n.up n.met
-
--- a pass has no two tokens of one block
-pub pass_alone : {L G : Type 0} (contents : L → Option Pages) (m : Manager L G) (p : PassState) → Belongs contents m p → AreAlone p.tokens
-pass_alone contents m p b = b.alone

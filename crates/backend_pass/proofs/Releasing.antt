@@ -94,6 +94,7 @@ same_none p q table id census e = record {
   };
   upto = ap (λ (x : View). x.upto) e;
   torn = ap (λ (x : View). x.torn) e;
+  unentered = ap (λ (x : View). x.unentered) e;
 }
 
 pub same_touched : (p q : PassState) (f : ℕ) → q.table ≡ p.table → q.id ≡ p.id → beside_of q ≡ beside_of p → Touches f p.view q.view → SamePass p q
@@ -110,6 +111,7 @@ same_touched p q f table id census k = let e = k.self in record {
   };
   upto = ap (λ (x : View). x.upto) e;
   torn = ap (λ (x : View). x.torn) e;
+  unentered = ap (λ (x : View). x.unentered) e;
 }
 
 -- The tokens u are of frames that are held in t, for the same blocks

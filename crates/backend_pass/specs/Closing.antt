@@ -1,5 +1,5 @@
 -- What a manager gives as it is closed.
-use Rattle.std.specs.Prelude.{◌≡◌, ◌≢◌, ◌<◌, ◌≤◌, ℕ, ◌+◌, true, false, List, [], ◌∷◌, ◌++◌, length}
+use Rattle.std.specs.Prelude.{◌≡◌, ◌≢◌, ◌<◌, ◌≤◌, ℕ, ◌+◌, true, false, List, [], ◌∷◌, ◌++◌, length, map}
 use Rattle.std.specs.Prelude.{Option, None}
 use Rattle.std.specs.List.{All}
 use mathlib.Core.Option.{some}
@@ -16,10 +16,12 @@ use Rattle.history_core.specs.Device.{HasRisen}
 use Rattle.history_core.specs.History.{IsHistory}
 use Rattle.history_core.specs.Laws.{Laws}
 use Rattle.history_core.specs.TornRecords.{IsOfPage}
+use Rattle.history_core.specs.Unentered.{IsUnentered}
 use Rattle.history_core.specs.Promises.{AreDurable, AreStored, AreSynced}
 use Rattle.block_tag.specs.declared.tag.Tag.{Tag}
+use Rattle.segment_store.specs.Lanes.{HoldTheirs}
 use Rattle.table_rule.specs.declared.opening.Opening.{Opening}
-use Rattle.table_rule.specs.Shows.{Devices, IsPlaced, IsLane, IsLog, KeepsOpening}
+use Rattle.table_rule.specs.Shows.{Devices, IsPlaced, IsLane, IsLog, KeepsOpening, lane_opened}
 use Rattle.grid.specs.Shape.{total}
 use Rattle.backend_pass.specs.Passes.{PassState}
 use Rattle.clock_sweep.specs.FreeFrames.{QueueState, joined_parts, times}
@@ -44,6 +46,17 @@ abbrev pub PassTore : List PassState → Change → Type 0
 PassTore ps c =
     (i k : ℕ) × (p : PassState) × (x : TornRecord) × (get_elem? ps i ≡ some p)
     × (get_elem? p.view.torn k ≡ some x) × IsOfPage c x.tag x.page
+
+-- the blocks that they noted as unentered, one pass after the other
+abbrev pub unentered_of_passes : List PassState → List ℕ
+unentered_of_passes [] = []
+unentered_of_passes (p ∷ ps) = p.view.unentered ++ unentered_of_passes ps
+
+-- One of them noted the block as unentered
+abbrev pub PassNotes : List PassState → ℕ → Type 0
+PassNotes ps tag =
+    (i k : ℕ) × (p : PassState) × (get_elem? ps i ≡ some p)
+    × (get_elem? p.view.unentered k ≡ some tag)
 
 -- the faults that they met, in all
 abbrev pub met_by_passes : List PassState → FailedCalls
@@ -136,7 +149,10 @@ module _ {L G : Type 0} where
         → u ≡ emptied_view
     pub counted : length lanes ≡ o.config.lanes
     pub lane : (q : ℕ) (l : L) → get_elem? lanes q ≡ some l
-        → IsLane d o.catalog.value state.lanes q l (state.lane q)
+        → IsLane d o.catalog.value state.lanes q (lane_opened d o q) l (state.lane q)
+    -- if all that the lanes held as they were opened was their own, so is all that they hold now
+    pub theirs : HoldTheirs (map d.contents o.lanes.value.items)
+        → HoldTheirs (map d.contents lanes)
     -- if a block isn't in a lane's list of unsynced blocks, the lane was synced after the last of
     -- the block's entries that it has
     pub covered : (q word : ℕ) (l : L) (tag : Tag) → get_elem? lanes q ≡ some l
@@ -151,6 +167,8 @@ module _ {L G : Type 0} where
     -- append
     pub torn : (some : laws.rest.behind.rest ≢ []) → mark ≢ None
         → PassTore ps (laws.rest.behind.begins some).entry.change
+    -- a block that a backend noted as unentered is one that one of the passes noted
+    pub unentered : (tag : ℕ) → IsUnentered state tag → PassNotes ps tag
     pub history : IsHistory state.known state.origin state.opened_sizes state.log
         (calls_in_order ps)
     pub each : EachPass (ClosesPass state) ps

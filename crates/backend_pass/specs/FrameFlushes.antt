@@ -58,6 +58,11 @@ shown_unflushed LogFault s = shown_log s
 shown_unflushed (LogDown at) s = s
 shown_unflushed (LogShort lsn end) s = s
 
+-- what is shown after a page was written, was clean, or was not written
+abbrev pub shown_page : Result Bool FlushError → Shown → Shown
+shown_page (Ok wrote) s = s
+shown_page (Err why) s = shown_unflushed why s
+
 -- Each sound page that the block's lane can have held as the table was opened has its position at
 -- `end` or before it
 abbrev pub WasWithin : {L G : Type 0} → (L → Option Pages) → FrameTable L G → Tag → ℕ → Type 0

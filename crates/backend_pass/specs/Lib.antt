@@ -11,3 +11,4 @@ pub mod Closing
 pub mod Locks
 pub mod Cleanups
 pub mod PassSyncs
+pub mod Between

@@ -1,5 +1,5 @@
 -- What contracts see of a pass.
-use Rattle.std.specs.Prelude.{◌≡◌, ℕ, ◌+◌, List, [], ◌∷◌, false}
+use Rattle.std.specs.Prelude.{◌≡◌, ℕ, ◌+◌, List, [], ◌∷◌, false, Result, Ok, Err}
 use Rattle.atomic_table.specs.Seated.{TableId}
 use Rattle.pin_core.specs.declared.view.View.{View}
 use Rattle.pin_core.specs.State.{emptied_view}
@@ -78,16 +78,25 @@ pub record KeepsPass (p q : PassState) : Type 0 where
   pub advances : OnlyRises p.view q.view
 
 -- It is the same pass, its checkpoint began where it did before, and it may have failed to append
--- records
+-- records, and noted blocks as unentered
 pub record SameButTorn (p q : PassState) : Type 0 where
   pub keeps : KeepsPass p q
   pub upto : q.view.upto ≡ p.view.upto
 
--- It is the same pass, its checkpoint began where it did before, and it failed to append no record
+-- It is the same pass, its checkpoint began where it did before, it failed to append no record, and
+-- it may have noted blocks as unentered
+pub record SameButUnentered (p q : PassState) : Type 0 where
+  pub keeps : KeepsPass p q
+  pub upto : q.view.upto ≡ p.view.upto
+  pub torn : q.view.torn ≡ p.view.torn
+
+-- It is the same pass, its checkpoint began where it did before, it failed to append no record, and
+-- it noted no block as unentered
 pub record SamePass (p q : PassState) : Type 0 where
   pub keeps : KeepsPass p q
   pub upto : q.view.upto ≡ p.view.upto
   pub torn : q.view.torn ≡ p.view.torn
+  pub unentered : q.view.unentered ≡ p.view.unentered
 
 -- What the pass read and put, and its front, are as they were
 pub record KeepsCalls (p q : PassState) : Type 0 where
@@ -100,7 +109,7 @@ pub record KeepsCalls (p q : PassState) : Type 0 where
 -- clock's hand are as before.
 -- Only reads take latches of partitions and store hints; so a pass's other calls need this one
 -- short clause. Calls below a pass need none, since the equations of their views say it.
-pub record KeepsSought (p q : PassState) : Type 0 where
+pub record KeepsLookups (p q : PassState) : Type 0 where
   pub hint : q.hint ≡ p.hint
   pub turns : q.view.turns ≡ p.view.turns
   pub stores : q.view.hints ≡ p.view.hints
@@ -108,7 +117,8 @@ pub record KeepsSought (p q : PassState) : Type 0 where
   pub ticks : q.view.ticks ≡ p.view.ticks
 
 -- What callers have of the pass is as it was: their tokens and content locks, the census, what the
--- pass read and put, and what it failed to append; and it looked up no block
+-- pass read and put, what it failed to append, and the blocks that it noted as unentered; and it
+-- looked up no block
 pub record KeepsCallers (p q : PassState) : Type 0 where
   pub keeps : KeepsPass p q
   pub tokens : q.tokens ≡ p.tokens
@@ -116,7 +126,8 @@ pub record KeepsCallers (p q : PassState) : Type 0 where
   pub census : q.census ≡ p.census
   pub calls : KeepsCalls p q
   pub torn : q.view.torn ≡ p.view.torn
-  pub sought : KeepsSought p q
+  pub unentered : q.view.unentered ≡ p.view.unentered
+  pub lookups : KeepsLookups p q
 
 -- whether the pass has marked a frame dirty or synced a lane is as before
 abbrev pub KeepsMark : PassState → PassState → Type 0
@@ -148,3 +159,8 @@ abbrev pub shown_unput : InsertError → Shown → Shown
 shown_unput (LogFull end) s = s
 shown_unput (LogDown at) s = s
 shown_unput LogFault s = shown_log s
+
+-- what is shown after a put: the position of its record is the front
+abbrev pub shown_after_put : Result ℕ InsertError → Shown → Shown
+shown_after_put (Ok lsn) s = record s { front = lsn }
+shown_after_put (Err why) s = shown_unput why s

@@ -15,6 +15,7 @@ impl Pass {
     ghost use Rattle.std.specs.Prelude.{◌≡◌, ◌≢◌, ℕ, IfErr, IfOk};
     ghost use Rattle.pin_core.specs.declared.view.Content.TheVariants as lock;
     ghost use Rattle.pin_core.specs.State.{link};
+    ghost use Rattle.frame_table.specs.Content.{HoldsNoUnentered};
     ghost use Rattle.cleanup_lock.specs.Cleanup.{GrantsCleanup, GrantsTry, RefusesCleanup};
     ghost use Rattle.cleanup_lock.specs.Cleanup.{RefusesTry, local_pins, refused_tokens};
     ghost use Rattle.cleanup_lock.specs.Cleanup.{tried_local_pins};
@@ -23,7 +24,7 @@ impl Pass {
     ghost use Rattle.backend_pass.specs.Locks.{ChangesLock, HasLock, IsTagged};
     ghost use Rattle.backend_pass.specs.Managers.{Belongs};
     ghost use Rattle.backend_pass.specs.Passes.{KeepsCalls, KeepsDevices, KeepsLocks, KeepsMark};
-    ghost use Rattle.backend_pass.specs.Passes.{KeepsSought, SamePass};
+    ghost use Rattle.backend_pass.specs.Passes.{KeepsLookups, SamePass};
 
     /// Takes the cleanup lock of the frame of the pass's only token there, which has the token's
     /// block: the exclusive content lock, while no other backend pins the frame
@@ -40,7 +41,7 @@ impl Pass {
         requires unlocked { HasLock lock.Unlocked pinned.frame self.old }
         ensures belongs { Belongs L.contents manager.now self.new }
         ensures same { SamePass self.old self.new }
-        ensures sought { KeepsSought self.old self.new }
+        ensures lookups { KeepsLookups self.old self.new }
         ensures tokens { self.new.tokens ≡ self.old.tokens }
         ensures census { self.new.census ≡ self.old.census }
         ensures calls { KeepsCalls self.old self.new }
@@ -56,6 +57,8 @@ impl Pass {
         ensures token { IfOk result (λ taken. taken.pinned ≡ pinned) }
         ensures lock { IfOk result
             (λ _. ChangesLock lock.Exclusive pinned.frame self.old self.new) }
+        ensures unmarked { IfOk result
+            (λ _. HoldsNoUnentered (link self.new.view pinned.frame)) }
         ensures granted { IfOk result
             (λ _. GrantsCleanup self.old.view.number pinned.frame self.old.view self.new.view) }
         ensures back { IfErr result (λ refused. refused.pinned ≡ pinned) }
@@ -87,7 +90,7 @@ impl Pass {
         requires unlocked { HasLock lock.Unlocked pinned.frame self.old }
         ensures belongs { Belongs L.contents manager.now self.new }
         ensures same { SamePass self.old self.new }
-        ensures sought { KeepsSought self.old self.new }
+        ensures lookups { KeepsLookups self.old self.new }
         ensures tokens { self.new.tokens ≡ self.old.tokens }
         ensures census { self.new.census ≡ self.old.census }
         ensures calls { KeepsCalls self.old self.new }
@@ -100,6 +103,8 @@ impl Pass {
         ensures token { IfOk result (λ taken. taken.pinned ≡ pinned) }
         ensures lock { IfOk result
             (λ _. ChangesLock lock.Exclusive pinned.frame self.old self.new) }
+        ensures unmarked { IfOk result
+            (λ _. HoldsNoUnentered (link self.new.view pinned.frame)) }
         ensures granted { IfOk result (λ _. GrantsTry pinned.frame self.old.view self.new.view) }
         ensures back { IfErr result (λ refused. refused.pinned ≡ pinned) }
         ensures kept { IfErr result (λ _. KeepsLocks self.old self.new) }

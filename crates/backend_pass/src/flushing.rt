@@ -1,19 +1,11 @@
 //! A pass writes the page of a frame.
-ghost use Rattle.std.specs.Prelude.{◌≡◌, ◌<◌, true, IfErr, IfOk};
-ghost use Rattle.block_tag.specs.Names.{lane_number, names_block, packed_tag};
-ghost use Rattle.pin_core.specs.declared.view.Content.TheVariants.{Unlocked};
-ghost use Rattle.pin_core.specs.State.{link};
+ghost use Rattle.std.specs.Prelude.{◌≡◌, true};
+ghost use Rattle.block_tag.specs.Names.{names_block, packed_tag};
 ghost use Rattle.table_rule.specs.Blocks.{has_block, is_block};
-ghost use Rattle.frame_table.specs.Seats.{frames_of, lanes_in, relations_of};
-ghost use Rattle.buffer_frames.specs.Rests.{OnlyTokens};
-ghost use Rattle.buffer_frames.specs.Tokens.{IsPinnedFor};
-ghost use Rattle.buffer_frames.specs.declared.flushing.FlushedPage.TheVariants.{Written};
-ghost use Rattle.buffer_frames.specs.Flushing.{EndedInError, EndedWritten, FlushAnswer};
-ghost use Rattle.buffer_frames.specs.Flushing.{met_flushing};
-ghost use Rattle.buffer_frames.specs.Working.{KeepsNotes, WorksAt};
-ghost use Rattle.backend_pass.specs.Passes.{view_in, shown_log, shown_write};
-ghost use Rattle.backend_pass.specs.Seats.{IsSeated, SameBadge};
-ghost use Rattle.backend_pass.specs.FrameFlushes.{frame_refusal, shown_unflushed};
+ghost use Rattle.frame_table.specs.Seats.{relations_of};
+ghost use Rattle.backend_pass.specs.Passes.{shown_log, shown_write};
+ghost use Rattle.backend_pass.specs.FrameFlushes.{frame_refusal, page_answer, shown_page};
+ghost use Rattle.backend_pass.specs.FrameFlushes.{shown_unflushed};
 
 use crate::errors::FlushError;
 use crate::manager::Manager;
@@ -21,14 +13,11 @@ use crate::met::{Met, Shown};
 use crate::pass::Pass;
 use crate::pinned::Pinned;
 use crate::seats::{return_seat, take_seat};
-use atomic_table::Badge;
 use block_tag::Tag;
-use buffer_frames::{FlushedPage, HeldPins};
+use buffer_frames::FlushedPage;
 use byte_devices::LogDevice;
 use crossbeam_utils::CachePadded;
 use frame_table::FrameTable;
-use page_layout::Page;
-use pin_core::View;
 use segment_store::BlockLane;
 use std::sync::Wait;
 use wal_flush::FlushLog;
@@ -82,6 +71,16 @@ impl Shown {
             _ => self,
         }
     }
+
+    /// After a page was written, was clean, or was not written.
+    fn after_answer(self, answer: &Result<bool, FlushError>) -> Shown
+        ensures { result ≡ shown_page answer.now self }
+    {
+        match answer {
+            Ok(_wrote) => self,
+            Err(why) => self.after_flush(why),
+        }
+    }
 }
 
 /// Shows that a tag names a block of the relations, given that its number is that of one. It does
@@ -92,42 +91,17 @@ pub(crate) fn show_block<L: BlockLane, G: LogDevice>(_table: &FrameTable<L, G>, 
     ensures listed { has_block (relations_of _table.now) _tag ≡ true }
 {}
 
-/// Writes the page of a frame that callers hold tokens of, from the seat of a pass.
-fn flush_seated<L: BlockLane, G: LogDevice, R: Wait>(
-    table: &FrameTable<L, G>,
-    rt: &R,
-    badge: &mut Badge<View>,
-    held: &HeldPins,
-    page: &mut Page,
-    frame: u32,
-    tag: Tag,
-) -> Result<FlushedPage, buffer_frames::FrameFlushError>
-    requires seated { IsSeated table.now.table.shared.table_id held.now badge.old }
-    requires pinned { IsPinnedFor tag frame held.now }
-    requires unlocked { (link (view_in badge.old.views) frame).content ≡ Unlocked }
-    requires inside { frame < frames_of table.now }
-    requires tag { names_block tag ≡ true }
-    requires block { has_block (relations_of table.now) tag ≡ true }
-    ensures badge { SameBadge badge.old badge.new }
-    ensures rests { OnlyTokens held.now (view_in badge.new.views) }
-    ensures works { WorksAt frame (view_in badge.old.views) (view_in badge.new.views) }
-    ensures notes { KeepsNotes (link (view_in badge.old.views) frame)
-        (link (view_in badge.new.views) frame) }
-    ensures unlocked { (link (view_in badge.new.views) frame).content ≡ Unlocked }
-    ensures answer { FlushAnswer L.contents table.now (lane_number tag (lanes_in table.now)) tag
-        frame (view_in badge.old.views) (view_in badge.new.views) result }
-    ensures met { (view_in badge.new.views).met
-        ≡ met_flushing result (view_in badge.old.views).met }
-    ensures ended { IfErr result
-        (λ _. EndedInError frame (view_in badge.old.views) (view_in badge.new.views)) }
-    ensures written { IfOk result
-        (λ flushed. flushed ≡ Written
-        → EndedWritten frame (view_in badge.old.views) (view_in badge.new.views)) }
+/// The answer of a pass, by that of its frames: whether the page was written.
+fn flush_answer(
+    answer: Result<FlushedPage, buffer_frames::FrameFlushError>,
+) -> Result<bool, FlushError>
+    ensures { page_answer result ≡ answer }
 {
-    let mut seat = take_seat::<L, G>(badge);
-    let answer = buffer_frames::flush_frame(table, rt, &mut seat, held, frame, tag, page);
-    return_seat(badge, seat);
-    answer
+    match answer {
+        Ok(FlushedPage::Written) => Ok(true),
+        Ok(FlushedPage::Clean) => Ok(false),
+        Err(cause) => Err(flush_error(cause)),
+    }
 }
 
 impl Pass {
@@ -142,7 +116,7 @@ impl Pass {
     ghost use Rattle.buffer_frames.specs.Working.{KeepsNotes};
     ghost use Rattle.backend_pass.specs.Locks.{HasLock};
     ghost use Rattle.backend_pass.specs.Managers.{Belongs};
-    ghost use Rattle.backend_pass.specs.Passes.{KeepsCalls, KeepsLocks, KeepsMark, KeepsSought};
+    ghost use Rattle.backend_pass.specs.Passes.{KeepsCalls, KeepsLocks, KeepsMark, KeepsLookups};
     ghost use Rattle.backend_pass.specs.Passes.{NoDeviceFails, SamePass};
     ghost use Rattle.backend_pass.specs.FrameFlushes.{IsOkOrShort, WasWithin, page_answer};
 
@@ -160,7 +134,7 @@ impl Pass {
         requires unlocked { HasLock Unlocked pinned.now.frame self.old }
         ensures belongs { Belongs L.contents manager.now self.new }
         ensures same { SamePass self.old self.new }
-        ensures sought { KeepsSought self.old self.new }
+        ensures lookups { KeepsLookups self.old self.new }
         ensures tokens { self.new.tokens ≡ self.old.tokens }
         ensures census { self.new.census ≡ self.old.census }
         ensures calls { KeepsCalls self.old self.new }
@@ -195,23 +169,20 @@ impl Pass {
         let frame = pinned.frame;
         let tag = pinned.tag;
         show_block(&manager.table, tag);
-        match flush_seated(
+        let mut seat = take_seat::<L, G>(&mut self.seat);
+        let flushed = buffer_frames::flush_frame(
             &manager.table,
             rt,
-            &mut self.seat,
+            &mut seat,
             &self.held,
-            &mut self.backend.page,
             frame,
             tag,
-        ) {
-            Ok(FlushedPage::Written) => Ok(true),
-            Ok(FlushedPage::Clean) => Ok(false),
-            Err(cause) => {
-                let why = flush_error(cause);
-                let shown = self.shown.after_flush(&why);
-                self.shown = CachePadded::new(shown);
-                Err(why)
-            }
-        }
+            &mut self.backend.page,
+        );
+        return_seat(&mut self.seat, seat);
+        let answer = flush_answer(flushed);
+        let shown = self.shown.after_answer(&answer);
+        self.shown = CachePadded::new(shown);
+        answer
     }
 }

@@ -20,6 +20,7 @@ impl Pass {
     ghost use Rattle.pin_core.specs.declared.view.Content.TheVariants as lock;
     ghost use Rattle.pin_core.specs.State.{link};
     ghost use Rattle.page_core.specs.Kinds as kinds;
+    ghost use Rattle.frame_table.specs.Content.{HoldsNoUnentered};
     ghost use Rattle.frame_table.specs.FrameSteps.{Did};
     ghost use Rattle.frame_table.specs.Kinds.{pages};
     ghost use Rattle.content_locks.specs.Locks.{LocksAtOnce, LocksContent, RefusesLock};
@@ -28,7 +29,7 @@ impl Pass {
     ghost use Rattle.backend_pass.specs.Locks.{ChangesLock, HasLock};
     ghost use Rattle.backend_pass.specs.Managers.{Belongs};
     ghost use Rattle.backend_pass.specs.Passes.{KeepsCalls, KeepsDevices, KeepsLocks, KeepsMark};
-    ghost use Rattle.backend_pass.specs.Passes.{KeepsSought, SamePass};
+    ghost use Rattle.backend_pass.specs.Passes.{KeepsLookups, SameButUnentered, SamePass};
 
     /// Takes the content lock of a token's frame in shared mode, once no backend has it exclusively
     /// (`BUFFER_LOCK_SHARE`).
@@ -43,7 +44,7 @@ impl Pass {
         requires unlocked { HasLock lock.Unlocked pinned.frame self.old }
         ensures belongs { Belongs L.contents manager.now self.new }
         ensures same { SamePass self.old self.new }
-        ensures sought { KeepsSought self.old self.new }
+        ensures lookups { KeepsLookups self.old self.new }
         ensures tokens { self.new.tokens ≡ self.old.tokens }
         ensures census { self.new.census ≡ self.old.census }
         ensures calls { KeepsCalls self.old self.new }
@@ -71,7 +72,7 @@ impl Pass {
         requires unlocked { HasLock lock.Unlocked pinned.frame self.old }
         ensures belongs { Belongs L.contents manager.now self.new }
         ensures same { SamePass self.old self.new }
-        ensures sought { KeepsSought self.old self.new }
+        ensures lookups { KeepsLookups self.old self.new }
         ensures tokens { self.new.tokens ≡ self.old.tokens }
         ensures census { self.new.census ≡ self.old.census }
         ensures calls { KeepsCalls self.old self.new }
@@ -79,6 +80,7 @@ impl Pass {
         ensures devices { KeepsDevices self.old self.new }
         ensures token { result.pinned ≡ pinned }
         ensures lock { ChangesLock lock.Exclusive pinned.frame self.old self.new }
+        ensures unmarked { HoldsNoUnentered (link self.new.view pinned.frame) }
         ensures did { LocksContent kinds.exclude pinned.frame self.old.view self.new.view }
     {
         let mut seat = take_seat::<L, G>(&mut self.seat);
@@ -98,7 +100,7 @@ impl Pass {
         requires unlocked { HasLock lock.Unlocked pinned.frame self.old }
         ensures belongs { Belongs L.contents manager.now self.new }
         ensures same { SamePass self.old self.new }
-        ensures sought { KeepsSought self.old self.new }
+        ensures lookups { KeepsLookups self.old self.new }
         ensures tokens { self.new.tokens ≡ self.old.tokens }
         ensures census { self.new.census ≡ self.old.census }
         ensures calls { KeepsCalls self.old self.new }
@@ -136,7 +138,7 @@ impl Pass {
         requires unlocked { HasLock lock.Unlocked pinned.frame self.old }
         ensures belongs { Belongs L.contents manager.now self.new }
         ensures same { SamePass self.old self.new }
-        ensures sought { KeepsSought self.old self.new }
+        ensures lookups { KeepsLookups self.old self.new }
         ensures tokens { self.new.tokens ≡ self.old.tokens }
         ensures census { self.new.census ≡ self.old.census }
         ensures calls { KeepsCalls self.old self.new }
@@ -145,6 +147,8 @@ impl Pass {
         ensures token { IfOk result (λ taken. taken.pinned ≡ pinned) }
         ensures lock { IfOk result
             (λ _. ChangesLock lock.Exclusive pinned.frame self.old self.new) }
+        ensures unmarked { IfOk result
+            (λ _. HoldsNoUnentered (link self.new.view pinned.frame)) }
         ensures did { IfOk result
             (λ _. LocksAtOnce kinds.exclude pinned.frame self.old.view self.new.view) }
         ensures back { IfErr result (λ refused. refused.pinned ≡ pinned) }
@@ -174,7 +178,7 @@ impl Pass {
         requires locked { HasLock lock.Shared shared.pinned.frame self.old }
         ensures belongs { Belongs L.contents manager.now self.new }
         ensures same { SamePass self.old self.new }
-        ensures sought { KeepsSought self.old self.new }
+        ensures lookups { KeepsLookups self.old self.new }
         ensures tokens { self.new.tokens ≡ self.old.tokens }
         ensures census { self.new.census ≡ self.old.census }
         ensures calls { KeepsCalls self.old self.new }
@@ -192,7 +196,8 @@ impl Pass {
         pinned
     }
 
-    /// Releases the exclusive lock and returns the token.
+    /// Releases the exclusive lock and returns the token. If the last put under it was refused, and
+    /// none before it was done, the pass notes the block as unentered.
     pub fn unexclusive<L: BlockLane, G: LogDevice>(
         &mut self,
         manager: &Manager<L, G>,
@@ -202,8 +207,10 @@ impl Pass {
         requires pinned { IsPinnedFor exclusive.pinned.tag exclusive.pinned.frame self.old.tokens }
         requires locked { HasLock lock.Exclusive exclusive.pinned.frame self.old }
         ensures belongs { Belongs L.contents manager.now self.new }
-        ensures same { SamePass self.old self.new }
-        ensures sought { KeepsSought self.old self.new }
+        ensures same { SameButUnentered self.old self.new }
+        ensures unnoted { HoldsNoUnentered (link self.old.view exclusive.pinned.frame)
+            → self.new.view.unentered ≡ self.old.view.unentered }
+        ensures lookups { KeepsLookups self.old self.new }
         ensures tokens { self.new.tokens ≡ self.old.tokens }
         ensures census { self.new.census ≡ self.old.census }
         ensures calls { KeepsCalls self.old self.new }

@@ -1,5 +1,6 @@
 //! A manager.
-ghost use Rattle.std.specs.Prelude.{◌≡◌, ◌≤◌, ◌%◌, ◌^◌, length, None, IfErr, IfOk, unwrap_or};
+ghost use Rattle.std.specs.Prelude.{◌≡◌, ◌≤◌, ◌%◌, length, None, IfErr, IfOk, unwrap_or};
+ghost use Rattle.history_core.specs.State.{last_position};
 ghost use Rattle.table_rule.specs.Shows.{AreLanes, IsNewLog, devices};
 ghost use Rattle.frame_table.specs.Seats.{frames_of};
 ghost use Rattle.backend_pass.specs.declared.errors.StartError.TheVariants as why;
@@ -70,7 +71,7 @@ impl<L: BlockLane, G: LogDevice> Manager<L, G> {
         log: G,
         base: u64,
     ) -> Result<(Manager<L, G>, Vec<Pass>), StartRefused<L, G>>
-        requires base { (base % 8 ≡ 0) × (base ≤ 2 ^ 62) }
+        requires base { (base % 8 ≡ 0) × (base ≤ last_position) }
         requires devices { AreLanes (devices L.BlockLane G.LogDevice) catalog lanes.items }
         requires log { IsNewLog (devices L.BlockLane G.LogDevice) base log }
         ensures fits { IfOk result (λ _. start_refusal config (length lanes.items) ≡ None) }

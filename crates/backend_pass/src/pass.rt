@@ -69,7 +69,7 @@ impl Pass {
     ghost use Rattle.backend_pass.specs.Managers.{Belongs};
     ghost use Rattle.buffer_frames.specs.Outside.{shown_count};
     ghost use Rattle.backend_pass.specs.Passes.{KeepsCalls, KeepsDevices, KeepsLocks, KeepsMark};
-    ghost use Rattle.backend_pass.specs.Passes.{KeepsSought, SamePass};
+    ghost use Rattle.backend_pass.specs.Passes.{KeepsLookups, SamePass};
 
     /// The faults that the pass met.
     pub fn met(&self) -> Met
@@ -124,7 +124,7 @@ impl Pass {
             → HasLock Unlocked pinned.frame self.old }
         ensures belongs { Belongs L.contents manager.now self.new }
         ensures same { SamePass self.old self.new }
-        ensures sought { KeepsSought self.old self.new }
+        ensures lookups { KeepsLookups self.old self.new }
         ensures tokens { self.new.tokens ≡ tokens_less pinned.frame self.old.tokens }
         ensures census { self.new.census ≡ self.old.census }
         ensures calls { KeepsCalls self.old self.new }

@@ -2,18 +2,7 @@
 //!
 //! Rings are passed as `&mut Option<Ring>`: if a reference stood inside the `Option`, no clause
 //! could tell the caller what it refers to after a call.
-ghost use Rattle.std.specs.Prelude.{◌≡◌, true, is_some};
-ghost use Rattle.block_tag.specs.Names.{lane_number, names_block};
-ghost use Rattle.table_rule.specs.Blocks.{has_block};
-ghost use Rattle.frame_table.specs.Seats.{frames_of, lanes_in, relations_of};
-ghost use Rattle.buffer_frames.specs.Backends.{IsFurnished, KeepsOwn, choice_of};
-ghost use Rattle.buffer_frames.specs.Tokens.{IsNew};
-ghost use Rattle.buffer_frames.specs.Hinting.{TakesTurns};
-ghost use Rattle.buffer_frames.specs.Outside.{kept_by_block_reads, ring_shape};
-ghost use Rattle.buffer_frames.specs.Reads.{CensusRead, ReadAnswer, ReadCalls, ReadNotes};
-ghost use Rattle.buffer_frames.specs.Reads.{met_read_block};
-ghost use Rattle.backend_pass.specs.Passes.{view_in};
-ghost use Rattle.backend_pass.specs.Seats.{IsSeated, KeepsBadge};
+ghost use Rattle.std.specs.Prelude.{◌≡◌};
 ghost use Rattle.backend_pass.specs.Reading.{read_refusal, shown_after};
 
 use crate::errors::ReadError;
@@ -23,15 +12,12 @@ use crate::pass::Pass;
 use crate::pinned::Pinned;
 use crate::seats::{return_seat, take_seat};
 use access_rings::Ring;
-use atomic_table::Badge;
 use block_tag::Tag;
 use buffer_frames::{
-    Backend, BlockError, FrameFlushError, HeldPins, HintSeen, MOST_TOKENS, PinnedBlock,
-    VictimError, read_block,
+    BlockError, FrameFlushError, HintSeen, MOST_TOKENS, PinnedBlock, VictimError, read_block,
 };
 use byte_devices::LogDevice;
 use crossbeam_utils::CachePadded;
-use pin_core::View;
 use segment_store::BlockLane;
 use std::sync::Wait;
 use wal_flush::FlushLog;
@@ -100,56 +86,6 @@ impl Shown {
     }
 }
 
-/// Reads a block that callers have no token of, from the seat of a pass.
-fn read_seated<L: BlockLane, G: LogDevice, R: Wait>(
-    manager: &Manager<L, G>,
-    rt: &R,
-    badge: &mut Badge<View>,
-    held: &HeldPins,
-    backend: &mut Backend,
-    tag: &Tag,
-    ring: &mut Option<Ring>,
-) -> Result<PinnedBlock, BlockError>
-    requires seated { IsSeated manager.now.table.table.shared.table_id held.now badge.old }
-    requires own { IsFurnished manager.now.table manager.now.sweep backend.old
-        (view_in badge.old.views) }
-    requires tag { names_block tag.now ≡ true }
-    requires block { has_block (relations_of manager.now.table) tag.now ≡ true }
-    requires new { IsNew tag.now held.now }
-    ensures keeps { KeepsBadge kept_by_block_reads badge.old badge.new }
-    ensures own { KeepsOwn manager.now.table manager.now.sweep backend.old backend.new
-        (view_in badge.new.views) }
-    ensures ring { ring_shape ring.new ≡ ring_shape ring.old }
-    ensures turns { TakesTurns backend.new.lookups.hint
-        (view_in badge.old.views).turns (view_in badge.new.views).turns }
-    ensures hints { ReadNotes (frames_of manager.now.table) tag.now backend.new.lookups.hint
-        (view_in badge.old.views).hints (view_in badge.new.views).hints result }
-    ensures answer { ReadAnswer L.contents manager.now.table tag.now held.now
-        (view_in badge.old.views) (view_in badge.new.views) result }
-    ensures census { CensusRead (frames_of manager.now.table) backend.old.census
-        backend.new.census result }
-    ensures met { (view_in badge.new.views).met
-        ≡ met_read_block result (view_in badge.old.views).met }
-    ensures calls { ReadCalls L.contents manager.now.table tag.now held.now (is_some ring.old)
-        backend.new.lookups.hint (choice_of backend.old ring.old)
-        (choice_of backend.new ring.new) (lane_number tag.now (lanes_in manager.now.table))
-        (view_in badge.old.views) (view_in badge.new.views) result }
-{
-    let mut seat = take_seat::<L, G>(badge);
-    let answer = read_block(
-        &manager.table,
-        rt,
-        &mut seat,
-        held,
-        &manager.sweep,
-        backend,
-        tag,
-        ring,
-    );
-    return_seat(badge, seat);
-    answer
-}
-
 impl Pass {
     ghost use Rattle.std.specs.Prelude.{◌≡◌, ◌≢◌, ◌<◌, ◌≤◌, ◌↔◌, ℕ, None, Some, Ok, Err, IfErr};
     ghost use Rattle.std.specs.Prelude.{IfOk, is_some, true};
@@ -208,15 +144,19 @@ impl Pass {
         ensures back { IfOk result
             (λ pinned. tokens_less pinned.frame self.new.tokens ≡ self.old.tokens) }
     {
-        match read_seated(
-            manager,
+        let mut seat = take_seat::<L, G>(&mut self.seat);
+        let answer = read_block(
+            &manager.table,
             rt,
-            &mut self.seat,
+            &mut seat,
             &self.held,
+            &manager.sweep,
             &mut self.backend,
             tag,
             ring,
-        ) {
+        );
+        return_seat(&mut self.seat, seat);
+        match answer {
             Ok(PinnedBlock { pin, hit }) => {
                 let frame = pin.frame();
                 let tag = *tag;

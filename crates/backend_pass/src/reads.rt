@@ -17,11 +17,12 @@ impl Pass {
     ghost use Rattle.std.specs.Prelude.{◌≡◌, ◌≢◌, ℕ};
     ghost use Rattle.pin_core.specs.declared.view.Content.TheVariants as lock;
     ghost use Rattle.pin_core.specs.State.{link};
+    ghost use Rattle.frame_table.specs.Content.{HoldsNoUnentered};
     ghost use Rattle.buffer_frames.specs.Tokens.{IsPinnedFor};
     ghost use Rattle.backend_pass.specs.Locks.{HasLock};
     ghost use Rattle.backend_pass.specs.Managers.{Belongs};
     ghost use Rattle.buffer_frames.specs.PageReads.{ReadsPage, ReadsUnder, SharesToRead};
-    ghost use Rattle.backend_pass.specs.Passes.{KeepsDevices, KeepsLocks, KeepsMark, KeepsSought};
+    ghost use Rattle.backend_pass.specs.Passes.{KeepsDevices, KeepsLocks, KeepsMark, KeepsLookups};
     ghost use Rattle.backend_pass.specs.Passes.{SamePass};
 
     /// Reads the page of a token's block under the content lock that the pass has.
@@ -37,7 +38,7 @@ impl Pass {
         requires locked { (link self.old.view pinned.now.frame).content ≢ lock.Unlocked }
         ensures belongs { Belongs L.contents manager.now self.new }
         ensures same { SamePass self.old self.new }
-        ensures sought { KeepsSought self.old self.new }
+        ensures lookups { KeepsLookups self.old self.new }
         ensures tokens { self.new.tokens ≡ self.old.tokens }
         ensures census { self.new.census ≡ self.old.census }
         ensures mark { KeepsMark self.old self.new }
@@ -49,6 +50,8 @@ impl Pass {
             self.old.view self.new.view }
         ensures did { ReadsUnder (link self.old.view pinned.now.frame).content pinned.now.frame
             page.new result self.old.view self.new.view }
+        ensures unmarked { HoldsNoUnentered (link self.old.view pinned.now.frame)
+            → HoldsNoUnentered (link self.new.view pinned.now.frame) }
     {
         let frame = pinned.frame;
         let tag = pinned.tag;
@@ -74,7 +77,7 @@ impl Pass {
         requires unlocked { HasLock lock.Unlocked pinned.now.frame self.old }
         ensures belongs { Belongs L.contents manager.now self.new }
         ensures same { SamePass self.old self.new }
-        ensures sought { KeepsSought self.old self.new }
+        ensures lookups { KeepsLookups self.old self.new }
         ensures tokens { self.new.tokens ≡ self.old.tokens }
         ensures census { self.new.census ≡ self.old.census }
         ensures mark { KeepsMark self.old self.new }
@@ -111,7 +114,7 @@ impl Pass {
         requires locked { HasLock lock.Shared shared.now.pinned.frame self.old }
         ensures belongs { Belongs L.contents manager.now self.new }
         ensures same { SamePass self.old self.new }
-        ensures sought { KeepsSought self.old self.new }
+        ensures lookups { KeepsLookups self.old self.new }
         ensures tokens { self.new.tokens ≡ self.old.tokens }
         ensures census { self.new.census ≡ self.old.census }
         ensures mark { KeepsMark self.old self.new }
@@ -142,7 +145,7 @@ impl Pass {
         requires locked { HasLock lock.Exclusive exclusive.now.pinned.frame self.old }
         ensures belongs { Belongs L.contents manager.now self.new }
         ensures same { SamePass self.old self.new }
-        ensures sought { KeepsSought self.old self.new }
+        ensures lookups { KeepsLookups self.old self.new }
         ensures tokens { self.new.tokens ≡ self.old.tokens }
         ensures census { self.new.census ≡ self.old.census }
         ensures mark { KeepsMark self.old self.new }
@@ -152,6 +155,8 @@ impl Pass {
             → link self.new.view g ≡ link self.old.view g }
         ensures reads { ReadsPage L.contents manager.now.table exclusive.now.pinned.tag page.new
             result self.old.view self.new.view }
+        ensures unmarked { HoldsNoUnentered (link self.old.view exclusive.now.pinned.frame)
+            → HoldsNoUnentered (link self.new.view exclusive.now.pinned.frame) }
         ensures did { ReadsUnder lock.Exclusive exclusive.now.pinned.frame page.new result
             self.old.view self.new.view }
     {

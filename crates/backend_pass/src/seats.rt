@@ -1,7 +1,7 @@
 //! The seat of a pass leaves its badge while the pass works with it.
 ghost use Rattle.std.specs.Prelude.{◌≡◌, ◌∷◌, []};
 ghost use Rattle.backend_pass.specs.Passes.{view_in};
-ghost use Rattle.backend_pass.specs.Seats.{HasSeat};
+ghost use Rattle.backend_pass.specs.Seats.{IsSeatOf};
 
 use atomic_table::{Badge, Seat};
 use byte_devices::LogDevice;
@@ -15,7 +15,7 @@ pub(crate) fn take_seat<L: BlockLane, G: LogDevice>(
     badge: &mut Badge<View>,
 ) -> Seat<Value<L, G>, View>
     requires { badge.old.views ≡ view_in badge.old.views ∷ [] }
-    ensures { HasSeat badge.old result }
+    ensures { IsSeatOf badge.old result }
 {
     replace(badge, Badge::blank()).into_seat::<Value<L, G>>()
 }
@@ -26,7 +26,7 @@ pub(crate) fn return_seat<L: BlockLane, G: LogDevice>(
     seat: Seat<Value<L, G>, View>,
 )
     requires { seat.me.1 ≡ [] }
-    ensures { HasSeat badge.new seat }
+    ensures { IsSeatOf badge.new seat }
 {
     *badge = seat.into_badge();
 }

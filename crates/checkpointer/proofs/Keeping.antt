@@ -14,15 +14,12 @@ use Rattle.backend_pass.specs.Managers.{Belongs}
 use Rattle.backend_pass.specs.Passes.{KeepsCallers, KeepsMark, PassState, SamePass}
 use Rattle.backend_pass.proofs.Seated.{same_on}
 use Rattle.backend_pass.proofs.Keeping.{callers_none, callers_on, pass_none}
-use Rattle.checkpointer.specs.Stages.{HasNoLock, KeepsBackend, MarksFrames, WritesMarked, pages_by}
+use Rattle.checkpointer.specs.Stages.{KeepsBackend, MarksFrames, WritesMarked, pages_by}
 use Rattle.checkpointer.proofs.Flushing.{flushes_none, flushes_on, synced_flushes}
-
-pub no_lock_after : (p q : PassState) → KeepsCallers p q → HasNoLock p → HasNoLock q
-no_lock_after p q a none f = a.locks f ∙ none f
 
 module _ {L G : Type 0} (contents : L → Option Pages) (m : Manager L G) where
   pub keeps_none : (p : PassState) → Belongs contents m p → KeepsBackend contents m p p
-  keeps_none p b = record { belongs = b; same = record { keeps = pass_none p; upto = refl; torn = refl }; callers = callers_none p }
+  keeps_none p b = record { belongs = b; same = record { keeps = pass_none p; upto = refl; torn = refl; unentered = refl }; callers = callers_none p }
 
   pub keeps_on : (p q r : PassState) → KeepsBackend contents m p q → KeepsBackend contents m q r → KeepsBackend contents m p r
   keeps_on p q r a b = record { belongs = b.belongs; same = same_on p q r a.same b.same; callers = callers_on p q r a.callers b.callers }
@@ -47,7 +44,7 @@ module _ {L G : Type 0} (contents : L → Option Pages) (m : Manager L G) where
   marks_listed p marked b = record {
     keeps = record {
       belongs = belongs_listed p marked b;
-      same = record { keeps = record { table = refl; id = refl; own = refl; number = refl; next = refl; joined = refl; kept = refl; advances = rises_none p.view }; upto = refl; torn = refl };
+      same = record { keeps = record { table = refl; id = refl; own = refl; number = refl; next = refl; joined = refl; kept = refl; advances = rises_none p.view }; upto = refl; torn = refl; unentered = refl };
       callers = record {
         keeps = record { table = refl; id = refl; own = refl; number = refl; next = refl; joined = refl; kept = refl; advances = rises_none p.view };
         tokens = refl;
@@ -55,7 +52,8 @@ module _ {L G : Type 0} (contents : L → Option Pages) (m : Manager L G) where
         census = refl;
         calls = record { calls = refl; front = refl; place_loads = refl };
         torn = refl;
-        sought = record { hint = refl; turns = refl; stores = refl; queue = refl; ticks = refl };
+        unentered = refl;
+        lookups = record { hint = refl; turns = refl; stores = refl; queue = refl; ticks = refl };
       };
     };
     mark = refl;

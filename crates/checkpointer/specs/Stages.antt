@@ -2,11 +2,9 @@
 use Rattle.std.specs.Prelude.{◌≡◌, ℕ, zero, suc, true, List, [], ◌∷◌, ◌++◌, Option, min}
 use Rattle.std.specs.List.{All}
 use Rattle.segment_store.specs.Contents.{Pages}
-use Rattle.pin_core.specs.declared.view.Content.TheVariants.{Unlocked}
 use Rattle.pin_core.specs.declared.view.DeviceCall.{DeviceCall}
 use Rattle.pin_core.specs.declared.view.DeviceCall.TheVariants.{LaneWrite, LaneSync, LogSync}
 use Rattle.pin_core.specs.declared.view.View.{View}
-use Rattle.pin_core.specs.State.{link}
 use Rattle.frame_table.specs.Seats.{lanes_in}
 use Rattle.buffer_frames.specs.Working.{Made}
 use Rattle.buffer_frames.specs.declared.syncing.Synced.{Synced}
@@ -16,10 +14,6 @@ use Rattle.backend_pass.specs.Closing.{HasSwept}
 use Rattle.backend_pass.specs.declared.manager.Manager.{Manager}
 use Rattle.backend_pass.specs.Managers.{Belongs}
 use Rattle.backend_pass.specs.Passes.{KeepsCallers, KeepsMark, PassState, SamePass}
-
--- the pass has no content lock
-abbrev pub HasNoLock : PassState → Type 0
-HasNoLock p = (f : ℕ) → (link p.view f).content ≡ Unlocked
 
 -- the call was done, and is one of a flush: a sync of the log, or a write of a lane
 abbrev pub IsFlush : DeviceCall → Type 0

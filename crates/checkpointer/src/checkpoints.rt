@@ -4,12 +4,12 @@
 //! `sync_lane` of a pass, in this order. In another order less can be said at the end. Beginning a
 //! checkpoint forgets what the last one marked; `sync_lane` sets the pass's mark.
 ghost use Rattle.std.specs.Prelude.{◌≡◌, ℕ, IfErr, IfOk, IsOk};
+ghost use Rattle.backend_pass.specs.Between.{HasNoLock};
 ghost use Rattle.backend_pass.specs.Managers.{Belongs};
 ghost use Rattle.backend_pass.specs.Passes.{KeepsCallers, NoDeviceFails};
 ghost use Rattle.backend_pass.specs.Reading.{NothingFails};
 ghost use Rattle.checkpointer.specs.Checkpoints.{Begins, Completes};
 ghost use Rattle.checkpointer.specs.Refusals.{IsCompleteOrShort, Stops, met_checkpointing};
-ghost use Rattle.checkpointer.specs.Stages.{HasNoLock};
 
 use crate::ending::{Checkpoint, CheckpointError, unflushed, unwritten};
 use crate::lanes::sync_lanes;

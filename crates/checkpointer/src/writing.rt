@@ -3,13 +3,14 @@ ghost use Rattle.std.specs.Prelude.{◌≡◌, ◌<◌, ℕ, false, IfErr, IfOk,
 ghost use Rattle.frame_table.specs.Seats.{frames_of};
 ghost use Rattle.pin_core.specs.declared.view.Content.TheVariants.{Unlocked};
 ghost use Rattle.pin_core.specs.State.{link};
+ghost use Rattle.backend_pass.specs.Between.{HasNoLock};
 ghost use Rattle.backend_pass.specs.Locks.{HasLock};
 ghost use Rattle.backend_pass.specs.Managers.{Belongs};
 ghost use Rattle.backend_pass.specs.Reading.{NothingFails};
 ghost use Rattle.checkpointer.specs.Marked.{AreInside, AreMarked, HasVisited, HasNoneLeft};
 ghost use Rattle.checkpointer.specs.Marked.{KeepsEachNote};
 ghost use Rattle.checkpointer.specs.Refusals.{StopsWriting};
-ghost use Rattle.checkpointer.specs.Stages.{HasNoLock, WritesMarked, pages_by};
+ghost use Rattle.checkpointer.specs.Stages.{WritesMarked, pages_by};
 ghost use Rattle.checkpointer.specs.Writes.{SyncsUntilPassed, SyncsWhileNeeded, WritesInOrder};
 ghost use Rattle.checkpointer.specs.Writes.{WritesUpTo};
 

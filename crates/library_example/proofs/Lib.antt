@@ -1,3 +1,3 @@
 pub mod OldLanes
-pub mod Returning
 pub mod Crossing
+pub mod Returning

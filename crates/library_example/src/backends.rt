@@ -1,9 +1,14 @@
 //! Three backends, each in a thread of its own, over lanes and a log of any kind.
-ghost use Rattle.std.specs.Prelude.{◌≡◌, All, IfErr, IfOk, length};
+ghost use Rattle.std.specs.Prelude.{◌≡◌, All, IfErr, IfOk, List, length};
 ghost use Rattle.pin_core.specs.declared.view.Content.TheVariants as lock;
+ghost use Rattle.pin_core.specs.State.{link};
+ghost use Rattle.frame_table.specs.Content.{HoldsNoUnentered};
+ghost use Rattle.table_rule.specs.Shows.{devices};
+ghost use Rattle.backend_pass.specs.Between.{AllReturn, HasOnly, IsIdle, Returns};
+ghost use Rattle.backend_pass.specs.Closing.{ClosesAll};
 ghost use Rattle.backend_pass.specs.Managers.{AreNewPasses};
-ghost use Rattle.backend_pass.specs.Passes.{KeepsPass};
-ghost use Rattle.library_example.specs.Passes.{AllReturn, HasOnly, IsIdle, Returns};
+ghost use Rattle.backend_pass.specs.Passes.{KeepsPass, PassState};
+ghost use Rattle.library_example.specs.Passes.{NotesNone, RedoesEach};
 
 use crate::counters::{Change, Pages};
 use crate::files::block;
@@ -45,6 +50,7 @@ fn lock_for<L: BlockLane, G: LogDevice, R: Wait>(
 ) -> Result<Exclusive, BackendError>
     requires { HasOnly L.contents manager.now lock.Unlocked pinned pass.old }
     ensures same { KeepsPass pass.old pass.new }
+    ensures noted { NotesNone pass.old pass.new }
     ensures locked { IfOk result (λ locked.
         HasOnly L.contents manager.now lock.Exclusive locked.pinned pass.new) }
     ensures refused { IfErr result (λ _. IsIdle L.contents manager.now pass.new) }
@@ -73,6 +79,8 @@ fn put_changed<L: BlockLane, G: LogDevice, R: Wait>(
     requires { HasOnly L.contents manager.now lock.Exclusive locked.old.pinned pass.old }
     ensures same { KeepsPass pass.old pass.new }
     ensures only { HasOnly L.contents manager.now lock.Exclusive locked.new.pinned pass.new }
+    ensures entered { IfOk result (λ _. NotesNone pass.old pass.new
+        × HoldsNoUnentered (link pass.new.view locked.new.pinned.frame)) }
 {
     pass.read_exclusive(manager, rt, locked, &mut pages.read);
     if !pages.change(change) {
@@ -82,7 +90,8 @@ fn put_changed<L: BlockLane, G: LogDevice, R: Wait>(
     Ok(())
 }
 
-/// Changes the page of a block. Whatever goes wrong, its token is given back.
+/// Changes the page of a block. Whatever goes wrong, its token is given back. If the put is done,
+/// the pass doesn't note the block as unentered.
 fn change_block<L: BlockLane, G: LogDevice, R: Wait>(
     manager: &Manager<L, G>,
     rt: &R,
@@ -92,7 +101,8 @@ fn change_block<L: BlockLane, G: LogDevice, R: Wait>(
     pages: &mut Pages,
 ) -> Result<(), BackendError>
     requires { IsIdle L.contents manager.now pass.old }
-    ensures { Returns L.contents manager.now pass.old pass.new }
+    ensures back { Returns L.contents manager.now pass.old pass.new }
+    ensures noted { IfOk result (λ _. NotesNone pass.old pass.new) }
 {
     let pinned = pass.read_buffer(manager, rt, tag, &mut None)?;
     let mut locked = lock_for(manager, rt, pass, pinned, change)?;
@@ -111,7 +121,8 @@ fn count_blocks<L: BlockLane, G: LogDevice, R: Wait>(
     pages: &mut Pages,
 ) -> Result<(), BackendError>
     requires { IsIdle L.contents manager.now pass.old }
-    ensures { Returns L.contents manager.now pass.old pass.new }
+    ensures back { Returns L.contents manager.now pass.old pass.new }
+    ensures noted { IfOk result (λ _. NotesNone pass.old pass.new) }
 {
     for number in 0..manager.blocks(rel, Fork::Main) {
         change_block(manager, rt, pass, block(rel, number), Change::Count, pages)?;
@@ -128,7 +139,8 @@ fn work<L: BlockLane, G: LogDevice, R: Wait>(
     number: usize,
 ) -> Result<(), BackendError>
     requires { IsIdle L.contents manager.now pass.old }
-    ensures { Returns L.contents manager.now pass.old pass.new }
+    ensures back { Returns L.contents manager.now pass.old pass.new }
+    ensures noted { IfOk result (λ _. NotesNone pass.old pass.new) }
 {
     let mut pages = Pages::new(alloc)?;
     count_blocks(manager, rt, pass, RelNo(0), &mut pages)?;
@@ -196,4 +208,23 @@ pub fn work_and_close<
     }
     let _checkpoint = checkpointed?;
     Ok(devices)
+}
+
+/// One backend works alone, and the manager is closed. If each put was done, no pass noted a block
+/// as unentered: so redo excepts none, if a crash finds the devices so.
+pub fn work_alone_and_close<L: BlockLane + Drop, G: LogDevice + Drop, R: Wait>(
+    manager: Manager<L, G>,
+    rt: &R,
+    alloc: Global,
+    mut passes: Vec<Pass>,
+) -> Result<(Vec<L>, G), BackendError>
+    requires { AreNewPasses L.contents manager BACKENDS passes.items }
+    ensures { IfOk result (λ given. (ps : List PassState)
+        × (closed : ClosesAll (devices L.BlockLane G.LogDevice) manager.table.table.shared.key ps
+        given.0.items given.1) × RedoesEach closed.state) }
+{
+    let done = work(&manager, rt, alloc, &mut passes[0], 0);
+    let given = manager.close(passes);
+    done?;
+    Ok(given)
 }

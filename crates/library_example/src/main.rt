@@ -10,7 +10,7 @@ mod backends;
 mod counters;
 mod files;
 
-use crate::backends::{BACKENDS, work_and_close};
+use crate::backends::{BACKENDS, work_alone_and_close, work_and_close};
 use crate::counters::{Counter, counter_of};
 use crate::files::{LANES, block, catalog, old_lanes, page_in};
 use backend_pass::{Config, Manager, StartRefused};
@@ -29,13 +29,14 @@ const BASE: Lsn = 4096;
 
 const ROOM: usize = 1_000_000;
 
-/// Starts a manager over these lanes and a new log, and lets the backends work. The lanes and the
-/// log afterwards.
+/// Starts a manager over these lanes and a new log, and lets the backends work, or one alone. The
+/// lanes and the log afterwards.
 fn run<R: Threads + Wait + Sync>(
     rt: &R,
     alloc: Global,
     catalog: Catalog,
     lanes: Vec<MemLane>,
+    alone: bool,
 ) -> anyhow::Result<(Vec<MemLane>, MemLog)>
     requires { AreLanes (devices ⟦<MemLane as BlockLane>⟧ ⟦<MemLog as LogDevice>⟧)
         catalog lanes.items }
@@ -48,6 +49,10 @@ fn run<R: Threads + Wait + Sync>(
         lanes: LANES,
     };
     match Manager::start(alloc, config, catalog, lanes, log, BASE) {
+        Ok((manager, passes)) if alone => {
+            let given = work_alone_and_close(manager, rt, alloc, passes)?;
+            Ok(given)
+        }
         Ok((manager, passes)) => work_and_close(manager, rt, alloc, passes),
         Err(StartRefused { why, lanes, log }) => {
             drop(lanes);
@@ -106,7 +111,7 @@ fn main(rt: HostRuntime) -> anyhow::Result<()> {
     let relations = catalog(alloc)?;
     let lanes = old_lanes(alloc, &relations)?;
     let mut redone_lanes = old_lanes(alloc, &relations)?;
-    let (lanes, log) = run(&rt, alloc, catalog(alloc)?, lanes)?;
+    let (lanes, log) = run(&rt, alloc, catalog(alloc)?, lanes, false)?;
     println!(rt; "the log has {} bytes", log.bytes().len())?;
     let redone = redo(alloc, &relations, &log, &mut redone_lanes)?;
     println!(rt;
@@ -120,5 +125,11 @@ fn main(rt: HostRuntime) -> anyhow::Result<()> {
             rel.0
         )?;
     }
+    let lanes = old_lanes(alloc, &relations)?;
+    let (_lanes, log) = run(&rt, alloc, catalog(alloc)?, lanes, true)?;
+    println!(rt;
+        "after one backend alone the log has {} bytes",
+        log.bytes().len()
+    )?;
     Ok(())
 }

@@ -1,24 +1,17 @@
--- Passes of a small manager.
-use Rattle.std.proofs.Common.{◌≡◌, ◌≢◌, ◌+◌, ◌∙◌, ℕ, List, [], ◌∷◌, ◌++◌, length, nat_eq, Option, refl, sym, ap, subst, arith}
-use mathlib.Core.Logic.{dite}
-use native.Mathlib.Decide.{ℕ_discrete}
+-- What calls leave of the passes of a small manager, and that the three can be given back.
+use Rattle.std.proofs.Common.{◌≡◌, ◌+◌, ◌∙◌, ℕ, List, [], ◌∷◌, ◌++◌, length, nat_eq, Option, refl, sym, ap, subst, arith}
 use Rattle.segment_store.specs.Contents.{Pages}
 use Rattle.pin_core.specs.declared.view.Content.{Content}
-use Rattle.pin_core.specs.declared.view.Content.TheVariants.{Unlocked}
-use Rattle.pin_core.specs.declared.view.Link.{Link}
 use Rattle.pin_core.specs.declared.view.View.{View}
-use Rattle.pin_core.specs.State.{link}
-use Rattle.pin_core.proofs.Views.{link_new}
-use Rattle.frame_table.specs.Seats.{base_of, frames_of, lanes_in}
-use Rattle.buffer_frames.specs.Tokens.{IsPinnedFor, Tokens, tokens_less}
 use Rattle.backend_pass.specs.declared.manager.Manager.{Manager}
 use Rattle.backend_pass.specs.declared.pinned.Pinned.{Pinned}
-use Rattle.backend_pass.specs.Locks.{ChangesLock, HasLock}
+use Rattle.backend_pass.specs.Locks.{ChangesLock}
 use Rattle.backend_pass.specs.Managers.{AreAll, AreNewPasses, Belongs, IsNewPass, first_in}
-use Rattle.backend_pass.specs.Passes.{KeepsCallers, KeepsLocks, KeepsPass, PassOwn, PassState, SameButTorn, SamePass}
+use Rattle.backend_pass.specs.Passes.{KeepsCallers, KeepsLocks, KeepsPass, PassState, SameButTorn, SamePass}
 use Rattle.grid.specs.Shape.{total}
+use Rattle.backend_pass.proofs.Between.{idle_kept, new_idle, new_number, number_kept, only_kept, only_relocked}
 use Rattle.backend_pass.proofs.Joining.{first_here, first_past}
-use Rattle.manager_bench.specs.Bench.{HasOnly, IsFree, IsNumber}
+use Rattle.manager_bench.specs.Bench.{HoldsOnly, IsFree}
 
 -- a list of three, from its end
 length_three : (xs : List PassState) (a b c : PassState) → length (((xs ++ a ∷ []) ++ b ∷ []) ++ c ∷ []) ≡ length xs + 3
@@ -35,11 +28,7 @@ all_parts_of a b c x y z = omega arith
 
 module _ {L G : Type 0} (contents : L → Option Pages) (m : Manager L G) where
   new_free : (i : ℕ) (p : PassState) → IsNewPass contents m 3 i p → IsFree contents m i p
-  new_free i p n = record {
-    is = record { belongs = n.belongs; number = ap (λ (v : View). v.number) n.view; joined = ap (λ (v : View). v.joined) n.view; next = n.next; rest = n.rest; part = n.part };
-    spent = n.tokens;
-    unlocked = λ f. ap (λ (v : View). (link v f).content) n.view ∙ ap (λ (l : Link). l.content) (link_new (frames_of m.table) 128 (lanes_in m.table) i (base_of m.table) f);
-  }
+  new_free i p n = record { is = new_number contents m 3 i p n; idle = new_idle contents m 3 i p n }
 
   pub three_free : (ps qs rs ss : List PassState) (a b c : PassState) → AreNewPasses contents m 3 ps → ps ≡ qs ++ c ∷ [] → qs ≡ rs ++ b ∷ [] → rs ≡ ss ++ a ∷ []
       → IsFree contents m 0 a × IsFree contents m 1 b × IsFree contents m 2 c
@@ -56,74 +45,32 @@ module _ {L G : Type 0} (contents : L → Option Pages) (m : Manager L G) where
         nonempty = omega arith;
         counted = sym (ap (λ (v : View). v.next) first ∙ x.is.next refl);
         joined = ap (λ (v : View). v.joined) first ∙ x.is.joined;
-        spent = ((z.is.belongs.table, z.spent, ((x.is.belongs.table, x.spent, ((y.is.belongs.table, y.spent, tt))))));
-        fronts = (z.is.belongs.front, (x.is.belongs.front, (y.is.belongs.front, tt)));
-        queues = (z.is.belongs.queue, (x.is.belongs.queue, (y.is.belongs.queue, tt)));
+        spent = ((z.idle.belongs.table, z.idle.spent, ((x.idle.belongs.table, x.idle.spent, ((y.idle.belongs.table, y.idle.spent, tt))))));
+        fronts = (z.idle.belongs.front, (x.idle.belongs.front, (y.idle.belongs.front, tt)));
+        queues = (z.idle.belongs.queue, (x.idle.belongs.queue, (y.idle.belongs.queue, tt)));
         parts = all_parts_of a b c (x.is.rest refl) (y.is.part (λ none. absurd (omega arith))) (z.is.part (λ none. absurd (omega arith)));
       }
 
-  -- a call that keeps what a pass keeps
-  number_kept : (i : ℕ) (p q : PassState) → IsNumber contents m i p → Belongs contents m q → KeepsPass p q → IsNumber contents m i q
-  number_kept i p q is b k = record {
-    belongs = b;
-    number = k.number ∙ is.number;
-    joined = k.joined ∙ is.joined;
-    next = λ first. k.next ∙ is.next first;
-    rest = λ first. ap (λ (x : PassOwn). x.queue.known.parts + 3) k.own ∙ is.rest first;
-    part = λ other. ap (λ (x : PassOwn). x.queue.known.parts) k.own ∙ is.part other;
-  }
-
   -- a call that leaves tokens and locks as they were
   pub free_kept : (i : ℕ) (p q : PassState) → IsFree contents m i p → Belongs contents m q → SamePass p q → q.tokens ≡ p.tokens → KeepsLocks p q → IsFree contents m i q
-  free_kept i p q free b s tokens locks = record { is = number_kept i p q free.is b s.keeps; spent = tokens ∙ free.spent; unlocked = λ f. locks f ∙ free.unlocked f }
-
-  -- a pin
-  pub only_pinned : (pinned : Pinned) (i : ℕ) (p q : PassState) → IsFree contents m i p → Belongs contents m q → SamePass p q → KeepsLocks p q → IsPinnedFor pinned.tag pinned.frame q.tokens → tokens_less pinned.frame q.tokens ≡ p.tokens → HasOnly contents Unlocked pinned m i q
-  only_pinned pinned i p q free b s locks token back = record {
-    is = number_kept i p q free.is b s.keeps;
-    token = token;
-    last = back ∙ free.spent;
-    locked = locks pinned.frame ∙ free.unlocked pinned.frame;
-    others = λ f n. locks f ∙ free.unlocked f;
-  }
-
-  -- a call that keeps tokens and locks
-  only_kept : (lock : Content) (pinned : Pinned) (i : ℕ) (p q : PassState) → HasOnly contents lock pinned m i p → Belongs contents m q → KeepsPass p q → q.tokens ≡ p.tokens → KeepsLocks p q → HasOnly contents lock pinned m i q
-  only_kept lock pinned i p q o b k tokens locks = record {
-    is = number_kept i p q o.is b k;
-    token = subst (IsPinnedFor pinned.tag pinned.frame) (sym tokens) o.token;
-    last = ap (tokens_less pinned.frame) tokens ∙ o.last;
-    locked = locks pinned.frame ∙ o.locked;
-    others = λ f n. locks f ∙ o.others f n;
-  }
-
-  pub only_on : (lock : Content) (pinned : Pinned) (i : ℕ) (p q : PassState) → HasOnly contents lock pinned m i p → Belongs contents m q → SamePass p q → q.tokens ≡ p.tokens → KeepsLocks p q → HasOnly contents lock pinned m i q
-  only_on lock pinned i p q o b s tokens locks = only_kept lock pinned i p q o b s.keeps tokens locks
-
-  -- a put
-  pub only_put : (lock : Content) (pinned : Pinned) (i : ℕ) (p q : PassState) → HasOnly contents lock pinned m i p → Belongs contents m q → SameButTorn p q → q.tokens ≡ p.tokens → KeepsLocks p q → HasOnly contents lock pinned m i q
-  only_put lock pinned i p q o b s tokens locks = only_kept lock pinned i p q o b s.keeps tokens locks
-
-  -- a call that changes the lock of the frame alone
-  pub only_relocked : (lock : Content) (pinned given : Pinned) (i : ℕ) (p q : PassState) {before : Content} → HasOnly contents before pinned m i p → given ≡ pinned → Belongs contents m q → SamePass p q → q.tokens ≡ p.tokens → ChangesLock lock pinned.frame p q → HasOnly contents lock given m i q
-  only_relocked lock pinned given i p q o e b s tokens changes = subst (λ (x : Pinned). HasOnly contents lock x m i q) (sym e) record {
-    is = number_kept i p q o.is b s.keeps;
-    token = subst (IsPinnedFor pinned.tag pinned.frame) (sym tokens) o.token;
-    last = ap (tokens_less pinned.frame) tokens ∙ o.last;
-    locked = changes.here;
-    others = λ f n. ap (λ (l : Link). l.content) (changes.others f n) ∙ o.others f n;
-  }
-
-  -- a release
-  pub free_released : (pinned : Pinned) (i : ℕ) (p q : PassState) → HasOnly contents Unlocked pinned m i p → Belongs contents m q → SamePass p q → q.tokens ≡ tokens_less pinned.frame p.tokens → KeepsLocks p q → IsFree contents m i q
-  free_released pinned i p q o b s tokens locks = record {
-    is = number_kept i p q o.is b s.keeps;
-    spent = tokens ∙ o.last;
-    unlocked = λ f. locks f ∙ dite (ℕ_discrete f pinned.frame)
-        (λ same. subst (λ (x : ℕ). HasLock Unlocked x p) (sym same) o.locked)
-        (λ n. o.others f n);
-  }
+  free_kept i p q free b s tokens locks = record { is = number_kept 3 i p q free.is s.keeps; idle = idle_kept contents m p q free.idle b tokens locks }
 
   -- a call that keeps what callers have of the pass
   pub free_on : (i : ℕ) (p q : PassState) → IsFree contents m i p → Belongs contents m q → KeepsCallers p q → IsFree contents m i q
-  free_on i p q free b k = record { is = number_kept i p q free.is b k.keeps; spent = k.tokens ∙ free.spent; unlocked = λ f. k.locks f ∙ free.unlocked f }
+  free_on i p q free b k = record { is = number_kept 3 i p q free.is k.keeps; idle = idle_kept contents m p q free.idle b k.tokens k.locks }
+
+  -- a call that keeps tokens and locks
+  holds_kept : (lock : Content) (pinned : Pinned) (i : ℕ) (p q : PassState) → HoldsOnly contents lock pinned m i p → Belongs contents m q → KeepsPass p q → q.tokens ≡ p.tokens → KeepsLocks p q → HoldsOnly contents lock pinned m i q
+  holds_kept lock pinned i p q o b k tokens locks = record { is = number_kept 3 i p q o.is k; only = only_kept contents m lock pinned p q o.only b tokens locks }
+
+  pub holds_on : (lock : Content) (pinned : Pinned) (i : ℕ) (p q : PassState) → HoldsOnly contents lock pinned m i p → Belongs contents m q → SamePass p q → q.tokens ≡ p.tokens → KeepsLocks p q → HoldsOnly contents lock pinned m i q
+  holds_on lock pinned i p q o b s tokens locks = holds_kept lock pinned i p q o b s.keeps tokens locks
+
+  -- a put
+  pub holds_put : (lock : Content) (pinned : Pinned) (i : ℕ) (p q : PassState) → HoldsOnly contents lock pinned m i p → Belongs contents m q → SameButTorn p q → q.tokens ≡ p.tokens → KeepsLocks p q → HoldsOnly contents lock pinned m i q
+  holds_put lock pinned i p q o b s tokens locks = holds_kept lock pinned i p q o b s.keeps tokens locks
+
+  -- a call that changes the lock of the frame alone
+  pub holds_relocked : (lock : Content) (pinned given : Pinned) (i : ℕ) (p q : PassState) {before : Content}
+      → HoldsOnly contents before pinned m i p → given ≡ pinned → Belongs contents m q → KeepsPass p q → q.tokens ≡ p.tokens → ChangesLock lock pinned.frame p q → HoldsOnly contents lock given m i q
+  holds_relocked lock pinned given i p q o e b s tokens changes = record { is = number_kept 3 i p q o.is s; only = only_relocked contents m lock pinned given p q o.only e b tokens changes }

@@ -1,5 +1,6 @@
 //! A small manager.
-ghost use Rattle.std.specs.Prelude.{◌≡◌, ◌≤◌, ◌%◌, ◌^◌, [], IfOk, vec_capacity};
+ghost use Rattle.std.specs.Prelude.{◌≡◌, ◌≤◌, ◌%◌, [], IfOk, vec_capacity};
+ghost use Rattle.history_core.specs.State.{last_position};
 ghost use Rattle.table_rule.specs.Shows.{AreLanes, IsNewLog, devices};
 ghost use Rattle.manager_bench.specs.Bench.{IsFree, IsFreeIn};
 
@@ -50,7 +51,7 @@ pub fn start_over<L: BlockLane + Drop, G: LogDevice + Drop>(
     log: G,
     base: u64,
 ) -> Result<Bench<L, G>, AllocError>
-    requires base { (base % 8 ≡ 0) × (base ≤ 2 ^ 62) }
+    requires base { (base % 8 ≡ 0) × (base ≤ last_position) }
     requires devices { AreLanes (devices L.BlockLane G.LogDevice) catalog lanes.items }
     requires log { IsNewLog (devices L.BlockLane G.LogDevice) base log }
     ensures first { IfOk result (λ b. IsFree L.contents b.manager 0 b.first) }
@@ -97,7 +98,7 @@ pub fn start(
     log: TestLog,
     base: u64,
 ) -> Result<Bench<TestLane, TestLog>, AllocError>
-    requires base { (base % 8 ≡ 0) × (base ≤ 2 ^ 62) }
+    requires base { (base % 8 ≡ 0) × (base ≤ last_position) }
     ensures first { IfOk result (λ b. IsFreeIn b.manager 0 b.first) }
     ensures second { IfOk result (λ b. IsFreeIn b.manager 1 b.second) }
     ensures third { IfOk result (λ b. IsFreeIn b.manager 2 b.third) }

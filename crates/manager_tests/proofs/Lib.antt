@@ -1,3 +1,2 @@
-pub mod Returning
 pub mod Crossing
 pub mod Fresh

@@ -1,5 +1,6 @@
 //! What the three passes of a manager do one after another, and what comes of it.
-ghost use Rattle.std.specs.Prelude.{◌≡◌, ◌≤◌, ◌%◌, ◌^◌};
+ghost use Rattle.std.specs.Prelude.{◌≡◌, ◌≤◌, ◌%◌};
+ghost use Rattle.history_core.specs.State.{last_position};
 ghost use Rattle.manager_bench.specs.Bench.{IsFreeIn};
 
 use crate::choosing::read_in_order;
@@ -320,7 +321,7 @@ pub fn play<R: Threads + Wait + Sync>(
     base: Lsn,
     acts: &[Act],
 ) -> Result<Box<Played>, AllocError>
-    requires base { (base % 8 ≡ 0) × (base ≤ 2 ^ 62) }
+    requires base { (base % 8 ≡ 0) × (base ≤ last_position) }
 {
     let mut pages = Pages::new(alloc)?;
     let Bench {

@@ -6,7 +6,7 @@ ghost use Rattle.buffer_frames.specs.Tokens.{IsPinnedFor};
 ghost use Rattle.backend_pass.specs.Locks.{HasLock};
 ghost use Rattle.backend_pass.specs.Managers.{Belongs};
 ghost use Rattle.manager_bench.specs.Bench.{IsFree, IsFreeIn};
-ghost use Rattle.manager_tests.specs.Tokens.{IsUnlocked, Returns};
+ghost use Rattle.backend_pass.specs.Between.{IsUnlocked, KeepsHeld};
 
 use crate::copying::copy_all;
 use backend_pass::{CleanupError, Manager, Pass, Pinned, Refused, TryCleanup};
@@ -36,7 +36,7 @@ fn try_clean<L: BlockLane, G: LogDevice>(
     requires pinned { IsPinnedFor pinned.tag pinned.frame pass.old.tokens }
     requires unlocked { HasLock Unlocked pinned.frame pass.old }
     ensures token { result.0 ≡ pinned }
-    ensures pass { Returns L.contents manager.now pass.old pass.new }
+    ensures pass { KeepsHeld L.contents manager.now pass.old pass.new }
 {
     match pass.try_cleanup(manager, pinned) {
         Ok(exclusive) => (pass.unexclusive(manager, exclusive), None),
@@ -55,7 +55,7 @@ pub fn clean<L: BlockLane, G: LogDevice, R: Wait>(
     requires pinned { IsPinnedFor pinned.tag pinned.frame pass.old.tokens }
     requires unlocked { HasLock Unlocked pinned.frame pass.old }
     ensures token { result.0 ≡ pinned }
-    ensures pass { Returns L.contents manager.now pass.old pass.new }
+    ensures pass { KeepsHeld L.contents manager.now pass.old pass.new }
 {
     match pass.lock_cleanup(manager, rt, pinned) {
         Ok(exclusive) => (pass.unexclusive(manager, exclusive), None),
@@ -82,7 +82,7 @@ pub fn look_for<L: BlockLane, G: LogDevice>(
     requires pinned { IsPinnedFor pinned.tag pinned.frame pass.old.tokens }
     requires unlocked { HasLock Unlocked pinned.frame pass.old }
     ensures token { result ≡ pinned }
-    ensures pass { Returns L.contents manager.now pass.old pass.new }
+    ensures pass { KeepsHeld L.contents manager.now pass.old pass.new }
 {
     for _ in 0..TRIES {
         let (back, refused) = try_clean(manager, pass, pinned);
@@ -245,7 +245,7 @@ fn try_with_another<L: BlockLane, G: LogDevice, R: Wait>(
     tag: Tag,
 ) -> Option<TryCleanup>
     requires { IsUnlocked L.contents manager.now pass.old }
-    ensures { Returns L.contents manager.now pass.old pass.new }
+    ensures { KeepsHeld L.contents manager.now pass.old pass.new }
 {
     let Ok(pinned) = pass.read_buffer(manager, rt, tag, &mut None) else {
         return None;
@@ -264,7 +264,7 @@ pub fn try_twice<L: BlockLane, G: LogDevice, R: Wait>(
     tag: Tag,
 ) -> Option<OwnPins>
     requires { IsUnlocked L.contents manager.now pass.old }
-    ensures { Returns L.contents manager.now pass.old pass.new }
+    ensures { KeepsHeld L.contents manager.now pass.old pass.new }
 {
     let Ok(pinned) = pass.read_buffer(manager, rt, tag, &mut None) else {
         return None;
@@ -285,7 +285,7 @@ pub fn try_twice_beside<L: BlockLane, G: LogDevice, R: Wait>(
 ) -> Option<OwnPins>
     requires first { IsUnlocked L.contents manager.now first.old }
     requires second { IsFree L.contents manager.now 1 second.old }
-    ensures first { Returns L.contents manager.now first.old first.new }
+    ensures first { KeepsHeld L.contents manager.now first.old first.new }
     ensures second { IsFree L.contents manager.now 1 second.new }
 {
     let Ok(token) = pin(manager, rt, second, 1, tag, &mut None) else {

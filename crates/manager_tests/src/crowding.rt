@@ -1,7 +1,7 @@
 //! Blocks that are pinned until no frame is left.
 ghost use Rattle.backend_pass.specs.Managers.{Belongs};
 ghost use Rattle.manager_bench.specs.Bench.{IsFree};
-ghost use Rattle.manager_tests.specs.Tokens.{HasToken, IsUnlocked, Returns, ReturnsWithout};
+ghost use Rattle.backend_pass.specs.Between.{GivesOneBack, HasToken, IsUnlocked, KeepsHeld};
 
 use crate::hinting::refusal;
 use backend_pass::{HintSeen, Manager, Pass, Pinned, ReadError};
@@ -38,7 +38,7 @@ fn crowd<L: BlockLane, G: LogDevice, R: Wait>(
     requires first { Belongs L.contents manager.now first.old }
     requires held { HasToken held first.old }
     requires third { IsFree L.contents manager.now 2 third.old }
-    ensures first { ReturnsWithout L.contents manager.now held.frame first.old first.new }
+    ensures first { GivesOneBack L.contents manager.now held.frame first.old first.new }
     ensures third { IsFree L.contents manager.now 2 third.new }
 {
     let refused = read_once(manager, rt, third, 2, block(16), &mut None);
@@ -70,8 +70,8 @@ fn hold_second<L: BlockLane, G: LogDevice, R: Wait>(
     requires held { HasToken held first.old }
     requires second { Belongs L.contents manager.now second.old }
     requires third { IsFree L.contents manager.now 2 third.old }
-    ensures first { ReturnsWithout L.contents manager.now held.frame first.old first.new }
-    ensures second { Returns L.contents manager.now second.old second.new }
+    ensures first { GivesOneBack L.contents manager.now held.frame first.old first.new }
+    ensures second { KeepsHeld L.contents manager.now second.old second.new }
     ensures third { IsFree L.contents manager.now 2 third.new }
 {
     if number > 15 {
@@ -101,8 +101,8 @@ fn hold_first<L: BlockLane, G: LogDevice, R: Wait>(
     requires held { HasToken held first.old }
     requires second { Belongs L.contents manager.now second.old }
     requires third { IsFree L.contents manager.now 2 third.old }
-    ensures first { ReturnsWithout L.contents manager.now held.frame first.old first.new }
-    ensures second { Returns L.contents manager.now second.old second.new }
+    ensures first { GivesOneBack L.contents manager.now held.frame first.old first.new }
+    ensures second { KeepsHeld L.contents manager.now second.old second.new }
     ensures third { IsFree L.contents manager.now 2 third.new }
 {
     if number > 7 {
@@ -134,8 +134,8 @@ pub fn crowd_frames<L: BlockLane, G: LogDevice, R: Wait>(
     requires first { IsUnlocked L.contents manager.now first.old }
     requires second { Belongs L.contents manager.now second.old }
     requires third { IsFree L.contents manager.now 2 third.old }
-    ensures first { Returns L.contents manager.now first.old first.new }
-    ensures second { Returns L.contents manager.now second.old second.new }
+    ensures first { KeepsHeld L.contents manager.now first.old first.new }
+    ensures second { KeepsHeld L.contents manager.now second.old second.new }
     ensures third { IsFree L.contents manager.now 2 third.new }
 {
     let Ok(held) = first.read_buffer(manager, rt, block(0), &mut None) else {

@@ -1,7 +1,7 @@
 //! What reads see of the hints of their blocks.
 ghost use Rattle.backend_pass.specs.Managers.{Belongs};
 ghost use Rattle.manager_bench.specs.Bench.{IsFree};
-ghost use Rattle.manager_tests.specs.Tokens.{Returns};
+ghost use Rattle.backend_pass.specs.Between.{KeepsHeld};
 
 use backend_pass::{HintSeen, Manager, Pass, ReadError};
 use block_tag::Tag;
@@ -47,7 +47,7 @@ pub fn refusal<L: BlockLane, G: LogDevice, R: Wait>(
     tag: Tag,
 ) -> Option<ReadError>
     requires { Belongs L.contents manager.now pass.old }
-    ensures { Returns L.contents manager.now pass.old pass.new }
+    ensures { KeepsHeld L.contents manager.now pass.old pass.new }
 {
     match pass.read_buffer(manager, rt, tag, &mut None) {
         Ok(pinned) => {
@@ -66,7 +66,7 @@ fn hint_of<L: BlockLane, G: LogDevice, R: Wait>(
     tag: Tag,
 ) -> HintSeen
     requires { Belongs L.contents manager.now pass.old }
-    ensures { Returns L.contents manager.now pass.old pass.new }
+    ensures { KeepsHeld L.contents manager.now pass.old pass.new }
 {
     let _refused = refusal(manager, rt, pass, tag);
     pass.hint_seen()
@@ -80,7 +80,7 @@ pub fn hints_beside_own<L: BlockLane, G: LogDevice, R: Wait>(
     pass: &mut Pass,
 ) -> Option<[HintSeen; 3]>
     requires { Belongs L.contents manager.now pass.old }
-    ensures { Returns L.contents manager.now pass.old pass.new }
+    ensures { KeepsHeld L.contents manager.now pass.old pass.new }
 {
     let Ok(pinned) = pass.read_buffer(manager, rt, block(0), &mut None) else {
         return None;

@@ -1,7 +1,7 @@
 //! Two passes that wait for cleanup locks at a time, each on a block of its own.
 ghost use Rattle.std.specs.Thread.{IsSync};
 ghost use Rattle.manager_bench.specs.Bench.{IsFree, IsFreeIn};
-ghost use Rattle.manager_tests.specs.Tokens.{IsUnlocked, Returns};
+ghost use Rattle.backend_pass.specs.Between.{IsUnlocked, KeepsHeld};
 
 use crate::cleaning::{clean, look_for, wait_beside};
 use backend_pass::{CleanupError, Manager, Pass};
@@ -27,7 +27,7 @@ fn ask_once<L: BlockLane, G: LogDevice, R: Wait>(
     tag: Tag,
 ) -> Option<Option<CleanupError>>
     requires { IsUnlocked L.contents manager.now pass.old }
-    ensures { Returns L.contents manager.now pass.old pass.new }
+    ensures { KeepsHeld L.contents manager.now pass.old pass.new }
 {
     let Ok(pinned) = pass.read_buffer(manager, rt, tag, &mut None) else {
         return None;
@@ -45,7 +45,7 @@ fn ask_twice<L: BlockLane, G: LogDevice, R: Wait>(
     pass: &mut Pass,
 ) -> Waited
     requires { IsUnlocked L.contents manager.now pass.old }
-    ensures { Returns L.contents manager.now pass.old pass.new }
+    ensures { KeepsHeld L.contents manager.now pass.old pass.new }
 {
     let Ok(pinned) = pass.read_buffer(manager, rt, block(0), &mut None) else {
         return (None, None);

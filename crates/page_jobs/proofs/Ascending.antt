@@ -10,7 +10,7 @@ use Rattle.chunk_claims.specs.Claims.{past_weight, sum_below}
 use Rattle.page_jobs.specs.Chunks.{Ascend}
 use Rattle.chunk_claims.proofs.Weights.{weighs_one}
 use Rattle.page_jobs.proofs.ClaimedChunks.{past_low}
-use Rattle.page_jobs.proofs.Standing.{all_at}
+use Rattle.backend_pass.proofs.Standing.{all_at}
 
 -- none, and the first of several
 pub ascend_none : (cs : List ℕ) → cs ≡ [] → Ascend cs

@@ -1,5 +1,5 @@
 -- Backends that only read, once their job is over.
-use Rattle.std.proofs.Common.{◌≡◌, ℕ, zero, suc, ◌+◌, ◌-◌, ◌<◌, ◌≤◌, ◌⊎◌, nat_eq, false, List, [], ◌∷◌, length, Option, Some, refl, sym, ap, ◌∙◌, subst, inl, inr, ⊎_elim, arith, ◌≢◌}
+use Rattle.std.proofs.Common.{◌≡◌, ℕ, zero, suc, ◌-◌, ◌<◌, ◌≤◌, ◌⊎◌, false, List, [], ◌∷◌, length, Option, Some, refl, sym, ap, ◌∙◌, subst, inl, inr, ⊎_elim, arith}
 use mathlib.Core.Logic.{dite}
 use mathlib.Core.Option.{some, some-injective, some-ne-none}
 use native.Mathlib.Decide.{dec_le}
@@ -10,24 +10,19 @@ use Rattle.block_tag.specs.declared.tag.Tag.{Tag}
 use Rattle.segment_store.specs.Contents.{Pages}
 use Rattle.pin_core.specs.declared.view.FailedCalls.{FailedCalls}
 use Rattle.pin_core.specs.declared.view.View.{View}
-use Rattle.history_core.specs.Log.{IsFront, writes_in}
-use Rattle.frame_table.specs.Seats.{base_of}
-use Rattle.buffer_frames.specs.Tokens.{no_tokens}
+use Rattle.history_core.specs.Log.{writes_in}
 use Rattle.backend_pass.specs.declared.errors.FlushError.{FlushError}
 use Rattle.backend_pass.specs.declared.errors.FlushError.TheVariants as flush
 use Rattle.backend_pass.specs.declared.errors.ReadError.{ReadError}
 use Rattle.backend_pass.specs.declared.errors.ReadError.TheVariants as read
 use Rattle.backend_pass.specs.declared.manager.Manager.{Manager}
-use Rattle.backend_pass.specs.Managers.{AreAll, AreNewPasses, IsNewPass, first_in}
-use Rattle.clock_sweep.specs.FreeLists.{IsFreeList}
-use Rattle.clock_sweep.proofs.FreeLists.{list_same}
-use Rattle.backend_pass.specs.Passes.{PassOwn, PassState, SameButTorn}
-use Rattle.backend_pass.proofs.Listed.{listed_each, parts_each}
+use Rattle.backend_pass.specs.Managers.{AreAll, AreNewPasses}
+use Rattle.backend_pass.specs.Passes.{PassState}
+use Rattle.backend_pass.specs.Between.{CanGoBack, HasNoTokens}
+use Rattle.backend_pass.proofs.Between.{all_go_back, goes_back, new_goes_back}
 use Rattle.backend_pass.specs.Closing.{EachPass, HasNoMark, PutNothing, met_by_passes}
 use Rattle.backend_pass.specs.Reading.{met_read_refused}
-use Rattle.backend_pass.proofs.Joining.{first_here, fronted_each, spent_each}
 use Rattle.backend_pass.proofs.Ended.{writes-both}
-use Rattle.backend_pass.proofs.Seated.{but_torn}
 use Rattle.page_jobs.specs.declared.ending.JobError.TheVariants.{OutFault, ReadFault}
 use Rattle.page_jobs.specs.Printed.{BlockRead, copied, unsound}
 use Rattle.page_jobs.specs.Chunks.{Claimed, blocks_in_all}
@@ -36,7 +31,8 @@ use Rattle.page_jobs.specs.Reads.{calls_of_reads, fault_of_refusal}
 use Rattle.page_jobs.specs.Beside.{StaysBeside, WorksBeside, fault_of_flush}
 use Rattle.page_jobs.specs.Jobs.{AllAtBase, AnyMeets, HaveNoTokens, ReadParts, ReadsChunks, workers_in}
 use Rattle.page_jobs.specs.Relations.{MeetNothing}
-use Rattle.page_jobs.proofs.Standing.{inside, length_front, taken, taken_from, there}
+use Rattle.table_rule.proofs.Opens.{length_low, there_at}
+use Rattle.backend_pass.proofs.Standing.{length_front, taken, taken_from}
 
 pub at_base_each : (base : ℕ) (ps : List PassState) → ((i : ℕ) (p : PassState) → get_elem? ps i ≡ some p → p.view.front ≡ base) → AllAtBase base ps
 at_base_each base [] each = tt
@@ -100,6 +96,10 @@ work_meets_no_output (flush.LogDown at) e = cc
 work_meets_no_output (flush.LogShort lsn end) e = cc
 
 module _ {L G : Type 0} (contents : L → Option Pages) (m : Manager L G) where
+  pub free_each : (ps : List PassState) → ((i : ℕ) (p : PassState) → get_elem? ps i ≡ some p → HasNoTokens contents m p) → HaveNoTokens contents m ps
+  free_each [] each = tt
+  free_each (p ∷ ps) each = (each 0 p refl, free_each ps (λ i. each (suc i)))
+
   -- What a pass was before a job, in which it worked beside the workers, or was one of them
   pub record CameFrom (ps qs : List PassState) (i : ℕ) (q : PassState) : Type 0 where
     pub before : PassState
@@ -110,12 +110,12 @@ module _ {L G : Type 0} (contents : L → Option Pages) (m : Manager L G) where
   came_back ps qs stays i q at = dite (dec_le (suc i) (length ps - 1)) worker beside
     where
       within : i < length ps
-      within = let k = inside qs i q at in let e = stays.counted in omega arith
+      within = let k = length_low qs i q at in let e = stays.counted in omega arith
 
       worker : suc i ≤ length ps - 1 → CameFrom ps qs i q
       worker below =
           let e = stays.counted in let f = length_front ps in
-          let p = there (workers_in ps) i (omega arith) in
+          let p = there_at (workers_in ps) i (omega arith) in
           record {
             before = p.0;
             at = sym (taken (length ps - 1) i ps (omega arith)) ∙ p.1;
@@ -126,7 +126,7 @@ module _ {L G : Type 0} (contents : L → Option Pages) (m : Manager L G) where
       beside above =
           let w = within in
           let last : length ps - 1 ≡ i = omega arith in
-          let p = there ps i w in
+          let p = there_at ps i w in
           record {
             before = p.0;
             at = p.1;
@@ -134,13 +134,9 @@ module _ {L G : Type 0} (contents : L → Option Pages) (m : Manager L G) where
           }
 
 module _ {L G : Type 0} (contents : L → Option Pages) (m : Manager L G) (fork : Fork) where
-  free_each : (ps : List PassState) → ((i : ℕ) (p : PassState) → get_elem? ps i ≡ some p → HaveNoTokens contents m (p ∷ [])) → HaveNoTokens contents m ps
-  free_each [] each = tt
-  free_each (p ∷ ps) each = ((each 0 p refl).0, free_each ps (λ i. each (suc i)))
-
   -- new passes have no token
   pub new_are_free : (n : ℕ) (ps : List PassState) → AreNewPasses contents m n ps → HaveNoTokens contents m ps
-  new_are_free n ps new = free_each ps (λ i p at. let h = new.each i p at in (record { belongs = h.belongs; spent = h.tokens }, tt))
+  new_are_free n ps new = free_each contents m ps (λ i p at. (new_goes_back contents m n i p (new.each i p at)).free)
 
   -- no pass meets a fault of the output
   pub none_meets_output : (ps qs : List PassState) → AnyMeets contents m 0 fork ps qs OutFault → ⊥
@@ -156,32 +152,6 @@ module _ {L G : Type 0} (contents : L → Option Pages) (m : Manager L G) (fork 
       (λ later. let f = read_fault_met ps qs tag later in (suc f.0, f.1, f.2, f.3))
       any
 
-  -- The pass number i of n, which can be given back
-  pub record IsGiven (n i : ℕ) (q : PassState) : Type 0 where
-    pub table : q.table ≡ m.table.table.shared.table_id
-    pub spent : q.tokens ≡ no_tokens
-    pub front : IsFront (base_of m.table) q.view.calls q.view.front
-    pub number : q.view.number ≡ i
-    pub next : i ≡ 0 → q.view.next ≡ n
-    pub joined : q.view.joined ≡ 0
-    pub queue : IsFreeList m.table m.sweep q.queue
-    pub rest : i ≡ 0 → q.queue.known.parts + n ≡ 65
-    pub part : i ≢ 0 → q.queue.known.parts ≡ 1
-
-  -- a pass as it was started
-  pub new_is_given : (n i : ℕ) (p : PassState) → IsNewPass contents m n i p → IsGiven n i p
-  new_is_given n i p h = record {
-    table = h.belongs.table;
-    spent = h.tokens;
-    front = h.belongs.front;
-    number = ap (λ (v : View). v.number) h.view;
-    next = h.next;
-    joined = ap (λ (v : View). v.joined) h.view;
-    queue = h.belongs.queue;
-    rest = h.rest;
-    part = h.part;
-  }
-
   -- new passes have put nothing
   pub new_put_nothing : (n : ℕ) (ps : List PassState) → AreNewPasses contents m n ps → EachPass PutNothing ps
   new_put_nothing n ps new i p at = ap (λ (v : View). writes_in v.calls) (new.each i p at).view ∙ puts_nothing
@@ -191,38 +161,9 @@ module _ {L G : Type 0} (contents : L → Option Pages) (m : Manager L G) (fork 
 
   -- The pass number i of n, which has done nothing but reads
   record HasOnlyRead (n i : ℕ) (q : PassState) : Type 0 where
-    given : IsGiven n i q
+    given : CanGoBack contents m n i q
     mark : q.view.dirtied_or_synced ≡ false
     puts : writes_in q.view.calls ≡ 0
-
-  -- and after it worked
-  pub worked_given : (n i : ℕ) (p q : PassState) → IsGiven n i p → SameButTorn p q → IsFront (base_of m.table) q.view.calls q.view.front → q.tokens ≡ no_tokens → IsGiven n i q
-  worked_given n i p q h same front spent = record {
-    table = same.keeps.table ∙ h.table;
-    spent = spent;
-    front = front;
-    number = same.keeps.number ∙ h.number;
-    next = λ first. same.keeps.next ∙ h.next first;
-    joined = same.keeps.joined ∙ h.joined;
-    queue = list_same m.table m.sweep p.queue q.queue h.queue (ap (λ (x : PassOwn). x.queue) same.keeps.own);
-    rest = λ first. ap (λ (x : PassOwn). x.queue.known.parts + n) same.keeps.own ∙ h.rest first;
-    part = λ other. ap (λ (x : PassOwn). x.queue.known.parts) same.keeps.own ∙ h.part other;
-  }
-
-  pub all_of : (n : ℕ) (qs : List PassState) → 0 < n → length qs ≡ n → ((i : ℕ) (q : PassState) → get_elem? qs i ≡ some q → IsGiven n i q) → AreAll m qs
-  all_of n [] more counted each = absurd (omega arith)
-  all_of n (q ∷ qs) more counted each =
-      let h = each 0 q refl in
-      let first : first_in (q ∷ qs) ≡ q.view = first_here q qs (ap (λ (k : ℕ). nat_eq k 0) h.number) in
-      record {
-        nonempty = omega arith;
-        counted = counted ∙ sym (ap (λ (v : View). v.next) first ∙ h.next refl);
-        joined = ap (λ (v : View). v.joined) first ∙ h.joined;
-        spent = spent_each m.table.table.shared.table_id (q ∷ qs) (λ i x at. let k = each i x at in (k.table, k.spent));
-        fronts = fronted_each (base_of m.table) (q ∷ qs) (λ i x at. (each i x at).front);
-        queues = listed_each m (q ∷ qs) (λ i x at. (each i x at).queue);
-        parts = parts_each n (q ∷ qs) more counted (λ i x at. let k = each i x at in (k.rest, k.part));
-      }
 
   module _ (n : ℕ) (ps qs : List PassState) (new : AreNewPasses contents m n ps) (several : 1 < n) (parts : ReadParts contents m 0 fork (workers_in ps) (workers_in qs)) (last : StaysBeside contents m ps qs) where
     as_many : length qs ≡ n
@@ -233,14 +174,14 @@ module _ {L G : Type 0} (contents : L → Option Pages) (m : Manager L G) (fork 
 
     fresh : (i : ℕ) (p : PassState) → get_elem? ps i ≡ some p → HasOnlyRead n i p
     fresh i p at = let h = new.each i p at in record {
-      given = new_is_given n i p h;
+      given = new_goes_back contents m n i p h;
       mark = ap (λ (v : View). v.dirtied_or_synced) h.view;
       puts = new_put_nothing n ps new i p at;
     }
 
     worked : (i : ℕ) (c : Claimed BlockRead) (p q : PassState) → HasOnlyRead n i p → ReadsChunks contents m 0 fork c p q → HasOnlyRead n i q
     worked i c p q h r = record {
-      given = worked_given n i p q h.given (but_torn p q r.stays.same) r.stays.belongs.front r.spent;
+      given = goes_back contents m n i p q h.given r.stays.same.keeps r.stays.belongs r.spent;
       mark = r.stays.mark ∙ h.mark;
       puts = let blocks = blocks_in_all (blocks_in m 0 fork) c.chunks in
           let both = writes-both p.view.calls (calls_of_reads p.view.number 0 fork blocks c.items) in
@@ -251,7 +192,7 @@ module _ {L G : Type 0} (contents : L → Option Pages) (m : Manager L G) (fork 
 
     stood_by : (i : ℕ) (p q : PassState) → HasOnlyRead n i p → WorksBeside contents m p q → HasOnlyRead n i q
     stood_by i p q h w = record {
-      given = worked_given n i p q h.given (but_torn p q w.same) w.belongs.front (w.callers.tokens ∙ h.given.spent);
+      given = goes_back contents m n i p q h.given w.same.keeps w.belongs (w.callers.tokens ∙ h.given.free.spent);
       mark = w.mark ∙ h.mark;
       puts = ap writes_in w.callers.calls.calls ∙ h.puts;
     }
@@ -261,13 +202,13 @@ module _ {L G : Type 0} (contents : L → Option Pages) (m : Manager L G) (fork 
         (λ (w : WorksBeside contents m c.before q). stood_by i c.before q (fresh i c.before c.at) w)
         (λ (t : (get_elem? (workers_in ps) i ≡ some c.before) × (get_elem? (workers_in qs) i ≡ some q)).
         let long = parts.listed in
-        let below = inside (workers_in ps) i c.before t.0 in
-        let claimed = there parts.claimed i (omega (arith, long, below)) in
+        let below = length_low (workers_in ps) i c.before t.0 in
+        let claimed = there_at parts.claimed i (omega (arith, long, below)) in
         worked i claimed.0 c.before q (fresh i c.before c.at) (parts.each i c.before q claimed.0 t.0 t.1 claimed.1))
         c.either
 
     pub all_given : AreAll m qs
-    all_given = all_of n qs (omega arith) as_many (λ i q at. (each i q at).given)
+    all_given = all_go_back contents m n qs (omega arith) as_many (λ i q at. (each i q at).given)
 
     pub none_marked : EachPass HasNoMark qs
     none_marked i q at = (each i q at).mark

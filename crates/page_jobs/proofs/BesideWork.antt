@@ -20,12 +20,12 @@ use Rattle.page_jobs.specs.declared.ending.JobError.TheVariants.{LogDown, Memory
 use Rattle.page_jobs.specs.declared.ending.Totals.{Totals}
 use Rattle.page_jobs.specs.Beside.{LastDid, LastIsRefused, StaysBeside, WorkIsRefused, WorksBeside, fault_of_flush}
 use Rattle.page_jobs.specs.Jobs.{AnyMeets, EndsJob, HaveNoTokens, ReadsAll, workers_in}
-use Rattle.page_jobs.specs.Reads.{HasNoTokens}
+use Rattle.backend_pass.specs.Between.{HasNoTokens}
 use Rattle.page_jobs.specs.Relations.{MeetNothing}
 use Rattle.page_jobs.specs.RewriteJobs.{EndsRewrite, FailsFirst, RewritesFork}
 use Rattle.page_jobs.proofs.Deals.{less_one, workers_before}
 use Rattle.page_jobs.proofs.Staying.{same_none}
-use Rattle.page_jobs.proofs.Standing.{inside, there}
+use Rattle.table_rule.proofs.Opens.{length_low, there_at}
 
 -- each pass of them
 pub free_at : {L G : Type 0} (contents : L → Option Pages) (m : Manager L G) (ps : List PassState) (w : ℕ) (p : PassState) → HaveNoTokens contents m ps → get_elem? ps w ≡ some p → HasNoTokens contents m p
@@ -54,14 +54,14 @@ done_met (Ok a) end F ok met = subst (λ (e : Result Unit JobError). OnOk e F) o
 done_met (Err e) end F ok met = tt
 
 module _ {L G : Type 0} (contents : L → Option Pages) (m : Manager L G) where
-  pub works_none : (p : PassState) → Belongs contents m p → WorksBeside contents m p p
-  works_none p b = record { belongs = b; same = same_none p; callers = callers_none p; mark = refl }
+  beside_none : (p : PassState) → Belongs contents m p → WorksBeside contents m p p
+  beside_none p b = record { belongs = b; same = same_none p; callers = callers_none p; mark = refl }
 
   -- where no work began
   pub stays_none : (ps : List PassState) → HaveNoTokens contents m ps → StaysBeside contents m ps ps
   stays_none ps free = record {
     counted = refl;
-    last = λ p q at there. subst (WorksBeside contents m p) (some-injective p q (sym at ∙ there)) (works_none p (free_at contents m ps (length ps - 1) p free at).belongs);
+    last = λ p q at there. subst (WorksBeside contents m p) (some-injective p q (sym at ∙ there)) (beside_none p (free_at contents m ps (length ps - 1) p free at).belongs);
   }
 
   shows_down : (why : FlushError) (at : ℕ) (p q : PassState) → RefusesFrame contents m.table p q why → fault_of_flush why ≡ LogDown at → q.view.saw_down ≡ true
@@ -75,17 +75,17 @@ module _ {L G : Type 0} (contents : L → Option Pages) (m : Manager L G) where
 
   pub reads_met : (rel : ℕ) (fork : Fork) (ps qs : List PassState) (r : Result Totals JobError) → IfOk r (ReadsAll contents m rel fork ps qs) → OnOk r (MeetNothing ps qs)
   reads_met rel fork ps qs (Ok totals) reads = λ w x y at after.
-      let below = inside ps w x at in
+      let below = length_low ps w x at in
       let long = reads.listed in
-      let c = there reads.claimed w (omega arith) in
+      let c = there_at reads.claimed w (omega arith) in
       (reads.each w x y c.0 at after c.1).met
   reads_met rel fork ps qs (Err e) reads = tt
 
   pub rewrites_met : (rel : ℕ) (fork : Fork) (ps qs : List PassState) (r : Result Totals JobError) → IfOk r (RewritesFork contents m rel fork ps qs) → OnOk r (MeetNothing ps qs)
   rewrites_met rel fork ps qs (Ok totals) whole = λ w x y at after.
-      let below = inside ps w x at in
+      let below = length_low ps w x at in
       let long = whole.listed in
-      let claimed = there whole.claimed w (omega arith) in
+      let claimed = there_at whole.claimed w (omega arith) in
       (whole.each w x y claimed.0 at after claimed.1).met
   rewrites_met rel fork ps qs (Err e) whole = tt
 

@@ -39,9 +39,9 @@ use Rattle.backend_pass.specs.declared.pinned.Pinned.{Pinned}
 use Rattle.backend_pass.specs.declared.tokens.Exclusive.{Exclusive}
 use Rattle.backend_pass.specs.Locks.{ChangesLock, HasLock, IsTagged}
 use Rattle.backend_pass.specs.Managers.{Belongs}
-use Rattle.backend_pass.specs.Passes.{KeepsCalls, KeepsLocks, KeepsMark, PassState, SameButTorn, SamePass}
+use Rattle.backend_pass.specs.Passes.{KeepsCalls, KeepsLocks, KeepsMark, PassState, SameButTorn, SameButUnentered, SamePass}
 use Rattle.backend_pass.specs.Reading.{met_read_refused}
-use Rattle.backend_pass.proofs.Seated.{but_torn, same_on, torn_on}
+use Rattle.backend_pass.proofs.Seated.{but_torn, but_torn_unentered, same_on, torn_on}
 use Rattle.backend_pass.proofs.Keeping.{calls_on}
 use Rattle.page_jobs.specs.declared.ending.JobError.{JobError}
 use Rattle.page_jobs.specs.Parts.{blocks_in}
@@ -103,6 +103,14 @@ module _ {L G : Type 0} (contents : L → Option Pages) (m : Manager L G) where
   pub record Quiet (p q : PassState) : Type 0 where
     pub belongs : Belongs contents m q
     pub same : SamePass p q
+    pub calls : KeepsCalls p q
+    pub met : q.view.met ≡ p.view.met
+
+  -- The pass gave up a lock and a pin: it read and put nothing, met no fault, and may have noted
+  -- the block as unentered
+  pub record LeavesBlock (p q : PassState) : Type 0 where
+    pub belongs : Belongs contents m q
+    pub same : SameButUnentered p q
     pub calls : KeepsCalls p q
     pub met : q.view.met ≡ p.view.met
 
@@ -244,7 +252,7 @@ module _ {L G : Type 0} (contents : L → Option Pages) (m : Manager L G) where
     };
   }
 
-  fails_later : (tag : Tag) (p q r : PassState) (why : InsertError) → Quiet q r → r.view.saw_down ≡ q.view.saw_down → r.view.device_calls ≡ q.view.device_calls → PutFails contents m tag p q why → PutFails contents m tag p r why
+  fails_later : (tag : Tag) (p q r : PassState) (why : InsertError) → LeavesBlock q r → r.view.saw_down ≡ q.view.saw_down → r.view.device_calls ≡ q.view.device_calls → PutFails contents m tag p q why → PutFails contents m tag p r why
   fails_later tag p q r why k down devices f = record {
     frame = f.frame;
     page = f.page;
@@ -261,9 +269,9 @@ module _ {L G : Type 0} (contents : L → Option Pages) (m : Manager L G) where
   }
 
   -- and then the lock of this frame and the pin were given up
-  pub held : (tag : Tag) (frame : ℕ) (p q r : PassState) (answer : Result PageRewrite InsertError) → RewritesLocked contents m tag p q answer → HasLock content.Exclusive frame p → Quiet q r → KeepsMark q r → HasLock content.Unlocked frame r → KeepsOtherLocks frame q r → r.tokens ≡ no_tokens → r.view.saw_down ≡ q.view.saw_down → r.view.device_calls ≡ q.view.device_calls → RewritesHeld contents m tag frame p r answer
+  pub held : (tag : Tag) (frame : ℕ) (p q r : PassState) (answer : Result PageRewrite InsertError) → RewritesLocked contents m tag p q answer → HasLock content.Exclusive frame p → LeavesBlock q r → KeepsMark q r → HasLock content.Unlocked frame r → KeepsOtherLocks frame q r → r.tokens ≡ no_tokens → r.view.saw_down ≡ q.view.saw_down → r.view.device_calls ≡ q.view.device_calls → RewritesHeld contents m tag frame p r answer
   held tag frame p q r answer x locked k mark unlocked others spent down devices = record {
-    goes = record { belongs = k.belongs; same = torn_on p q r x.goes.same (but_torn q r k.same); front = let a = x.goes.front in let b = k.calls.front in omega arith };
+    goes = record { belongs = k.belongs; same = torn_on p q r x.goes.same (but_torn_unentered q r k.same); front = let a = x.goes.front in let b = k.calls.front in omega arith };
     tokens = spent;
     unlocked = unlocked;
     others = λ g other. others g other ∙ x.locks g;

@@ -25,7 +25,8 @@ use Rattle.page_jobs.specs.declared.printing.Lines.{Lines}
 use Rattle.page_jobs.specs.declared.reading.PageRead.{PageRead}
 use Rattle.page_jobs.specs.declared.reading.PageRead.TheVariants.{Sound, Unsound}
 use Rattle.page_jobs.specs.Printed.{BlockRead, copied, unsound, found_lines, found_summary, read_lines, read_summary, reads_lines, reads_totals}
-use Rattle.page_jobs.specs.Reads.{CopiesOrFindsUnsound, HasNoTokens, IsKnown, IsWithinFront, Stays, StopsAt, calls_of_reads}
+use Rattle.backend_pass.specs.Between.{HasNoTokens}
+use Rattle.page_jobs.specs.Reads.{CopiesOrFindsUnsound, IsKnown, IsWithinFront, Stays, StopsAt, calls_of_reads}
 use Rattle.page_jobs.specs.Parts.{AllReads, AreKnown, EndsFor, ListsBlocks, blocks_in}
 use Rattle.page_jobs.proofs.Staying.{stays_none, stays_on}
 use Rattle.page_jobs.proofs.Sums.{none_sum, reads_totals-append, sum_assoc}

@@ -31,7 +31,7 @@ use Rattle.page_jobs.specs.Jobs.{AnyMeets, EndsJob, workers_in}
 use Rattle.page_jobs.specs.Reads.{fault_of_refusal}
 use Rattle.page_jobs.specs.RewriteJobs.{EndsRewrite, FailsFirst}
 use Rattle.page_jobs.specs.Rewriting.{fault_of_put}
-use Rattle.page_jobs.proofs.Standing.{taken_from}
+use Rattle.backend_pass.proofs.Standing.{taken_from}
 
 -- a log isn't seen down, and not
 not_up : (v : View) → v.saw_down ≡ true → v.saw_down ≡ false → ⊥

@@ -10,7 +10,8 @@ use Rattle.table_rule.specs.declared.opening.Opening.{Opening}
 use Rattle.table_rule.specs.Shows.{Devices}
 use Rattle.backend_pass.specs.Passes.{PassState}
 use Rattle.backend_pass.specs.Closing.{ClosesAll, NothingWritten, met_by_passes}
-use Rattle.page_jobs.proofs.Standing.{inside, none_at, none_in_sum, some_in_sum, there}
+use Rattle.table_rule.proofs.Opens.{length_low, there_at}
+use Rattle.backend_pass.proofs.Standing.{none_at, none_in_sum, some_in_sum}
 
 module _ {L : Type 0} (lanes : List L) (n : ℕ) (faults : L → ℕ) (start now : ℕ → ℕ) (many : length lanes ≡ n)
     (is : (q : ℕ) (l : L) → get_elem? lanes q ≡ some l → now q ≡ faults l) (none : (q : ℕ) → q < n → start q ≡ 0) where
@@ -20,11 +21,11 @@ module _ {L : Type 0} (lanes : List L) (n : ℕ) (faults : L → ℕ) (start now
       (λ more. absurd (same q (within q l at) (let a = is q l at in let b = none q (within q l at) in omega arith))))
     where
       within : (q : ℕ) (l : L) → get_elem? lanes q ≡ some l → q < n
-      within q l at = let i = inside lanes q l at in omega arith
+      within q l at = let i = length_low lanes q l at in omega arith
 
   some_counted : (q : ℕ) → q < n → HasRisen (start q) (now q) → 0 < sum_by faults lanes
   some_counted q below risen =
-      let l = there lanes q (omega arith) in
+      let l = there_at lanes q (omega arith) in
       let a = is q l.0 l.1 in
       let b = none q below in
       some_in_sum faults lanes q l.0 l.1 (dite (ℕ_discrete (faults l.0) 0)
@@ -37,7 +38,7 @@ module _ {L G : Type 0} (d : Devices L G) (o : Opening L G) (ps : List PassState
   many = c.counted ∙ sym c.opened.lanes
 
   opened_at : (q : ℕ) → q < c.state.lanes → (l : L) × (get_elem? o.lanes.value.items q ≡ some l)
-  opened_at q below = there o.lanes.value.items q (let e = c.opened.lanes in omega arith)
+  opened_at q below = there_at o.lanes.value.items q (let e = c.opened.lanes in omega arith)
 
   module _ (none : sum_by d.read_faults o.lanes.value.items ≡ 0) where
     reads_start : (q : ℕ) → q < c.state.lanes → (c.state.lane q).read_faults_at_start ≡ 0

@@ -15,7 +15,7 @@ use Rattle.chunk_claims.specs.declared.claimant.Claimant.{Claimant}
 use Rattle.chunk_claims.specs.Claims.{joined_claimants, less_a_part, with_one_part}
 use Rattle.page_jobs.specs.Dealt.{AreDealt, IsDealing, IsDealt, IsReady, total_drawn}
 use Rattle.page_jobs.specs.Jobs.{HaveNoTokens, workers_in}
-use Rattle.page_jobs.specs.Reads.{HasNoTokens}
+use Rattle.backend_pass.specs.Between.{HasNoTokens}
 use Rattle.page_jobs.specs.Working.{CanBegin, ClaimsNothing}
 
 reverse_snoc : {A : Type 0} (l : List A) (a : A) → reverse (l ++ a ∷ []) ≡ a ∷ reverse l

@@ -22,7 +22,7 @@ use Rattle.page_jobs.specs.Parts.{blocks_in}
 use Rattle.page_jobs.specs.Printed.{BlockRead}
 use Rattle.page_jobs.proofs.ClaimedChunks.{total_ones}
 use Rattle.page_jobs.proofs.ListedChunks.{DoLists}
-use Rattle.page_jobs.proofs.Standing.{there}
+use Rattle.table_rule.proofs.Opens.{there_at}
 
 module _ {L G N A : Type 0} (contents : L → Option Pages) (m : Manager L G) (rel : ℕ) (fork : Fork) (base : ℕ) (lines : Lines) where
   -- All shares are back
@@ -84,7 +84,7 @@ first_at_base contents m rel fork [] qs base many free parts first at = absurd (
 first_at_base contents m rel fork (p ∷ ps) [] base many free parts first at = let counted = parts.counted in absurd (omega (arith, counted))
 first_at_base contents m rel fork (p ∷ ps) (q ∷ qs) base many free parts first at =
     let listed = parts.listed in
-    let claimed = there parts.claimed 0 (omega (arith, listed)) in
+    let claimed = there_at parts.claimed 0 (omega (arith, listed)) in
     let rose = (parts.each 0 p q claimed.0 refl refl claimed.1).stays.front in
     let low = free.0.belongs.front.from_base in
     let here = at.0 in

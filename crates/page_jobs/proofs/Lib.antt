@@ -10,9 +10,8 @@ mod RewriteSums
 mod Measures
 mod ListedChunks
 mod Delivered
-pub mod Standing
 mod Ascending
-mod BesideWork
+pub mod BesideWork
 mod Texts
 mod Whole
 pub mod Origin

@@ -27,7 +27,8 @@ use Rattle.page_jobs.specs.Dealt.{HaveDone}
 use Rattle.page_jobs.specs.Jobs.{HaveNoTokens, ReadsChunks}
 use Rattle.page_jobs.specs.Parts.{AllReads, AreKnown, EndsFor, ListsBlocks, blocks_in}
 use Rattle.page_jobs.specs.Printed.{BlockRead, reads_lines, reads_totals}
-use Rattle.page_jobs.specs.Reads.{HasNoTokens, IsKnown, IsWithinFront}
+use Rattle.backend_pass.specs.Between.{HasNoTokens}
+use Rattle.page_jobs.specs.Reads.{IsKnown, IsWithinFront}
 use Rattle.page_jobs.specs.Working.{DoesBlocks, DoesChunk, DoesChunks, EndsAfter, FailsAtBlock, IsAtEnd, WorksChunk, WorksChunks}
 use Rattle.page_jobs.proofs.Ascending.{ascend_front}
 use Rattle.page_jobs.proofs.BlockWork.{HasListed, all_short, listed, listed_none, listed_on, listed_short, listed_whole, lists_none, lists_on, lists_wider, totals_long}

@@ -46,7 +46,7 @@ use Rattle.page_jobs.proofs.BlockWork.{all_weaker, within_front}
 use Rattle.page_jobs.proofs.ClaimedChunks.{length_chunk}
 use Rattle.page_jobs.proofs.ListedChunks.{DoLists}
 use Rattle.page_jobs.proofs.Measures.{AddsUp, page_weight, pages_by, reads_all_by, totals_by}
-use Rattle.page_jobs.proofs.Standing.{there}
+use Rattle.table_rule.proofs.Opens.{there_at}
 use Rattle.page_jobs.proofs.Texts.{PutsSome, stopped_in}
 use Rattle.page_jobs.proofs.Whole.{DrewOnce, all_claimed, claimed_at, covers_at, passes_of, totals_read}
 
@@ -309,7 +309,7 @@ module _ {L G : Type 0} (contents : L → Option Pages) (m : Manager L G) (rel :
     -- what a block that was read weighs
     weigh : (f : ScanTotals → ℕ) (block : ℕ) (r : BlockRead) → (block < blocks) × IsAtBase contents m (tag_of_parts rel fork block) r → f (reads_totals (r ∷ [])) ≡ page_weight f pages block
     weigh f block r h =
-        let p = there pages block (let c = origin.counted in let b = h.0 in omega (arith, c, b)) in
+        let p = there_at pages block (let c = origin.counted in let b = h.0 in omega (arith, c, b)) in
         let had = had_page block 0 block pages p.0 (are_origins lines named pages origin) (omega arith) p.1 in
         let one = read_is contents m lines block (tag_of_parts rel fork block) p.0 r had.block_of h.1 had.known in
         ap (λ (s : PageSummary). f (totals_of_summaries (s ∷ []))) one.1 ∙ sym (weight_at f pages block p.0 p.1)

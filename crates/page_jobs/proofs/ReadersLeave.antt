@@ -25,7 +25,8 @@ use Rattle.table_rule.proofs.Tags.{packed_is}
 use Rattle.backend_pass.specs.Passes.{PassState}
 use Rattle.backend_pass.specs.Closing.{ClosesAll, NothingPut, NothingWritten}
 use Rattle.page_jobs.specs.Relations.{IsCatalogOf}
-use Rattle.page_jobs.proofs.Standing.{found, found_there, inside, mapped_or, there}
+use Rattle.table_rule.proofs.Opens.{length_low, there_at}
+use Rattle.backend_pass.proofs.Standing.{found, found_there, mapped_or}
 
 pub some_of : (x : Option Pages) → is_some x ≡ true → (p : Pages) × (x ≡ Some p)
 some_of None e = absurd (let no : false ≡ true = e in cc)
@@ -84,9 +85,9 @@ module _ {L G : Type 0} (d : Devices L G) (o : Opening L G) (ps : List PassState
         let has : IsSomeAnd (get_or (map d.contents o.lanes.value.items) q None) (λ known. known tag ≡ Some page) =
         subst (λ (k : ℕ). IsSomeAnd (get_or (map d.contents o.lanes.value.items) (lane_number tag k) None) (λ known. known tag ≡ Some page)) wide (held block below) in
         let f = found d.contents (λ known. known tag ≡ Some page) o.lanes.value.items q has in
-        let i = inside o.lanes.value.items q f.0 f.1 in
+        let i = length_low o.lanes.value.items q f.0 f.1 in
         let same = c.counted in
-        let l = there lanes q (omega arith) in
+        let l = there_at lanes q (omega arith) in
         let of : IsBlockOf o.catalog.value o.config.lanes q tag = record {
           named = named block (omega arith);
           listed = ap (nat_lt block) one.counted ∙ listed block blocks (omega arith);

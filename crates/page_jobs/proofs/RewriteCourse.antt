@@ -20,7 +20,8 @@ use Rattle.page_jobs.specs.Rewriting.{FollowsRule, RewritesBlocks}
 use Rattle.page_jobs.specs.RewriteCloses.{PutsNoMore, RewritesAlone, ToreNothing}
 use Rattle.page_jobs.specs.RewriteEnds.{WroteNothing, BackendCalls, all_done}
 use Rattle.page_jobs.proofs.RewriteOrder.{HaveParts}
-use Rattle.page_jobs.proofs.Standing.{inside, length_front, taken}
+use Rattle.table_rule.proofs.Opens.{length_low}
+use Rattle.backend_pass.proofs.Standing.{length_front, taken}
 use Rattle.page_jobs.proofs.TornBlocks.{torn_first, torn_other}
 
 each_at : (P : Outcome → Type 0) (os : List Outcome) (k : ℕ) (o : Outcome) → EachOutcome P os → get_elem? os k ≡ some o → P o
@@ -126,6 +127,6 @@ module _ {L G : Type 0} (contents : L → Option Pages) (m : Manager L G) (rel :
       let end : length cs ≡ length ps - 1 = omega arith in
       parted ps qs zs cs (omega arith) same x.counted
       (λ i p q c at after of.
-      let below = inside cs i c of in
+      let below = length_low cs i c of in
       did i p q c (taken (length ps - 1) i ps (omega arith) ∙ at) (taken (length qs - 1) i qs (omega arith) ∙ after) of)
       (λ p q at after. let w = (x.beside.last p q (ap (λ (n : ℕ). get_elem? ps n) (sym end) ∙ at) (ap (λ (n : ℕ). get_elem? qs n) (sym end) ∙ after)).callers in (w.calls.calls, w.torn)) x.before x.untorn x.after

@@ -55,7 +55,7 @@ use Rattle.page_jobs.proofs.RewriteCounts.{Each}
 use Rattle.page_jobs.proofs.RewriteCourse.{Parted, all_parted}
 use Rattle.page_jobs.proofs.RewriteLanes.{finishes, lanes_hold_either}
 use Rattle.page_jobs.proofs.RewriteOrder.{InOrder, calls_ordered, in_order}
-use Rattle.page_jobs.proofs.Standing.{inside, there}
+use Rattle.table_rule.proofs.Opens.{length_low, there_at}
 use Rattle.page_jobs.proofs.ReadersLeave.{placed_there, some_of}
 
 told_invalid : (page : Page) → is_sound_page page ≡ false → page_rewrite_of page ≡ Invalid
@@ -182,11 +182,11 @@ module _ {L G : Type 0} (d : Devices L G) (o : Opening L G) (zs : List PassState
 pub claimed_weigh : {L G : Type 0} (contents : L → Option Pages) (m : Manager L G) (rel : ℕ) (fork : Fork) (ps qs : List PassState) (x : RewriteParts contents m rel fork ps qs) (g : ℕ → ℕ)
     → total (λ (u : Outcome). g (outcome_block u)) (items_in_all x.claimed) ≤ sum_below (blocks_in m rel fork) g
 claimed_weigh contents m rel fork ps qs x g = outcomes_once (blocks_in m rel fork) x.claimed x.once (λ w c of.
-    let below = inside x.claimed w c of in
+    let below = length_low x.claimed w c of in
     let listed = x.listed in
     let counted = x.counted in
-    let p = there ps w (omega (arith, below, listed)) in
-    let q = there qs w (omega (arith, below, listed, counted)) in
+    let p = there_at ps w (omega (arith, below, listed)) in
+    let q = there_at qs w (omega (arith, below, listed, counted)) in
     (x.each w p.0 q.0 c p.1 q.1 of).blocks.order) g
 
 module _ {L G : Type 0} (d : Devices L G) (m : Manager L G) (rel : ℕ) (fork : Fork) (ps qs zs : List PassState) (lanes : List L) (log : G) (c : ClosesAll d m.table.table.shared.key zs lanes log) (x : RewritesAlone d.contents m rel fork ps qs zs) where
@@ -195,7 +195,7 @@ module _ {L G : Type 0} (d : Devices L G) (m : Manager L G) (rel : ℕ) (fork : 
 
   -- the lane of a block, as the manager was opened
   opened_at : (word : ℕ) → (tag : Tag) → (l : L) × (get_elem? (opened_of m.table) (lane_number tag (lanes_in m.table)) ≡ some l)
-  opened_at word tag = let wide = x.lanes in let low : lane_number tag (lanes_in m.table) < lanes_in m.table = lane_below _ (lanes_in m.table) x.some_lanes in there (opened_of m.table) (lane_number tag (lanes_in m.table)) (omega arith)
+  opened_at word tag = let wide = x.lanes in let low : lane_number tag (lanes_in m.table) < lanes_in m.table = lane_below _ (lanes_in m.table) x.some_lanes in there_at (opened_of m.table) (lane_number tag (lanes_in m.table)) (omega arith)
 
   lane_of : (b : ℕ) → b < blocks_in m rel fork → tag_lane (lanes_in m.table) (rule.tag b) ≡ lane_number (tag_of_parts rel fork b) (lanes_in m.table)
   lane_of b low = ap (lane_of_tag (lanes_in m.table)) (packed_is (tag_of_parts rel fork b) (x.parts.named b low))
@@ -317,11 +317,11 @@ module _ {L G : Type 0} (d : Devices L G) (m : Manager L G) (rel : ℕ) (fork : 
 
   each_of : (w : ℕ) (e : Claimed Outcome) → get_elem? claimed w ≡ some e → AreOf (blocks_in_all (blocks_in m rel fork) e.chunks) e.items × CoversAll (blocks_in m rel fork) e
   each_of w e of =
-      let below = inside claimed w e of in
+      let below = length_low claimed w e of in
       let listed = y.all.listed in
       let counted = y.alone.parts.counted in
-      let p = there (workers_in ps) w (omega (arith, below, listed)) in
-      let q = there (workers_in qs) w (omega (arith, below, listed, counted)) in
+      let p = there_at (workers_in ps) w (omega (arith, below, listed)) in
+      let q = there_at (workers_in qs) w (omega (arith, below, listed, counted)) in
       let z = y.all.each w p.0 q.0 e p.1 q.1 of in
       (z.course.order, z.whole)
 
@@ -378,7 +378,7 @@ module _ {L G : Type 0} (d : Devices L G) (m : Manager L G) (rel : ℕ) (fork : 
   origin_is pages origin b page at =
       let w = origin.each b page at in
       let tag = tag_of_parts rel fork b in
-      let low : b < blocks_in m rel fork = let i = inside pages b page at in let e = origin.counted in omega arith in
+      let low : b < blocks_in m rel fork = let i = length_low pages b page at in let e = origin.counted in omega arith in
       let placed : IsPlaced (relations_of m.table) (lanes_in m.table) (lane_number tag (lanes_in m.table)) ((rule_of rel fork).tag b) tag = record { named = packed_is tag (y.alone.parts.named b low); listed = lt-ltb b (blocks_in m rel fork) low; placed = refl } in
       ap (λ (o : Option Page). unwrap_or o []) (sym w.is ∙ c.opened.origin (lane_number tag (lanes_in m.table)) w.lane w.pages ((rule_of rel fork).tag b) tag w.opened w.known placed)
 
@@ -388,7 +388,7 @@ module _ {L G : Type 0} (d : Devices L G) (m : Manager L G) (rel : ℕ) (fork : 
       let done : get_elem? (all_done whole_parts_of.parts) k ≡ some o = ap (λ (os : List Outcome). get_elem? os k) whole_parts_of.dones ∙ at in
       let low = done_below d m rel fork ps qs zs lanes log c y.alone (Unit {0}) claimed whole_parts_of weigh_once k o done in
       let counted = origin.counted in
-      let page = there pages (outcome_block o) (omega (arith, low, counted)) in
+      let page = there_at pages (outcome_block o) (omega (arith, low, counted)) in
       ap (λ (r : PageRewrite). f (totals_of_outcomes (r ∷ []))) (told_at k o done ∙ ap page_rewrite_of (sym (origin_is pages origin (outcome_block o) page.0 page.1)))
       ∙ sym (page_weight_at f pages (outcome_block o) page.0 page.1)
 

@@ -32,7 +32,7 @@ use Rattle.page_jobs.specs.Jobs.{workers_in}
 use Rattle.page_jobs.specs.Reads.{fault_of_refusal}
 use Rattle.page_jobs.specs.RewriteJobs.{EndsRewrite, FailsFirst}
 use Rattle.page_jobs.specs.Rewriting.{fault_of_put}
-use Rattle.page_jobs.proofs.Standing.{taken_from}
+use Rattle.backend_pass.proofs.Standing.{taken_from}
 
 -- whether the log failed, in the job or before
 abbrev pub is_of_log : JobError → Bool

@@ -45,7 +45,8 @@ use Rattle.page_jobs.proofs.RewriteCounts.{outcome_weight, writes_are}
 use Rattle.page_jobs.proofs.RewriteCourse.{Parted, all_parted}
 use Rattle.page_jobs.proofs.RewriteDevices.{claimed_weigh}
 use Rattle.page_jobs.proofs.RewriteOrder.{all_calls}
-use Rattle.page_jobs.proofs.Standing.{inside, length_front, taken, there}
+use Rattle.table_rule.proofs.Opens.{length_low, there_at}
+use Rattle.backend_pass.proofs.Standing.{length_front, taken}
 
 -- an outcome makes one write at most
 weight_few : (o : Outcome) → outcome_weight o ≤ 1
@@ -186,9 +187,9 @@ module _ {L G : Type 0} (d : Devices L G) (m : Manager L G) (rel : ℕ) (fork : 
   less_than_all : total outcome_weight (items_in_all claimed) < length (items_in_all claimed)
   less_than_all =
       let r = refusal in
-      let below = inside (workers_in ps) r.place r.before r.was in
+      let below = length_low (workers_in ps) r.place r.before r.was in
       let listed = x.alone.parts.listed in
-      let done = there claimed r.place (omega (arith, below, listed)) in
+      let done = there_at claimed r.place (omega (arith, below, listed)) in
       all_less claimed r.place done.0 done.1 (last_read d.contents m rel fork _ done.0.items r.before r.after (LogFull end) (x.alone.parts.each r.place r.before r.after done.0 r.was r.is done.1).blocks r.unput)
 
   all_below : length (items_in_all claimed) ≤ blocks_in m rel fork
@@ -198,12 +199,12 @@ module _ {L G : Type 0} (d : Devices L G) (m : Manager L G) (rel : ℕ) (fork : 
   full_below =
       let r = refusal in
       let seen = shows_full r.unput.why end r.after.view r.unput.fault r.unput.fails.shows in
-      let low = inside (workers_in qs) r.place r.after r.is in
+      let low = length_low (workers_in qs) r.place r.after r.is in
       let front = length_front qs in
       let at : get_elem? qs r.place ≡ some r.after = sym (taken (length qs - 1) r.place qs (omega (arith, low, front))) ∙ r.is in
-      let within = inside qs r.place r.after at in
+      let within = length_low qs r.place r.after at in
       let same = x.alone.counted in
-      let z = there zs r.place (omega (arith, within, same)) in (
+      let z = there_at zs r.place (omega (arith, within, same)) in (
         seen.0,
         below_all end r.after.view.end_seen z.0.view.end_seen c.state.end c.state.log.base (base_of m.table) (length c.state.log.entries) (writes_in (calls_in_order zs)) (length (items_in_all claimed)) (blocks_in m rel fork)
             seen.1 (x.rises r.place r.after z.0 at z.1).end_seen (c.each r.place z.0 z.1).seen (c.laws.invariant.ends ∙ images_end c.state.log.base c.state.log.entries c.laws.invariant.log.chained (images_alone c.state c.laws c.opened.ranges)) c.opened.base c.history.counted (let w = writes_all in let l = less_than_all in omega (arith, w, l)) all_below,

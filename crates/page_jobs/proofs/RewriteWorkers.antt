@@ -24,7 +24,7 @@ use Rattle.page_jobs.specs.Dealt.{AllDone, EndsFirst, total_drawn}
 use Rattle.page_jobs.specs.Ending.{totals_of_rewrite}
 use Rattle.page_jobs.specs.Jobs.{HaveNoTokens}
 use Rattle.page_jobs.specs.Parts.{MeetsFault, blocks_in}
-use Rattle.page_jobs.specs.Reads.{HasNoTokens}
+use Rattle.backend_pass.specs.Between.{HasNoTokens}
 use Rattle.page_jobs.specs.Rewrites.{Outcome, outcome_totals}
 use Rattle.page_jobs.specs.Rewriting.{EndsRewriteFor, PutIsRefused, RewritesBlocks, RewritesWhole}
 use Rattle.page_jobs.specs.Rewriters.{AreRewritesCounted, rewritten_totals}
@@ -34,7 +34,7 @@ use Rattle.page_jobs.proofs.ClaimedChunks.{AllDrewPast, AreOfDrawn, claimed_all,
 use Rattle.page_jobs.proofs.RewriteSums.{outcome_totals-append}
 use Rattle.page_jobs.proofs.RewrittenBlocks.{blocks_none}
 use Rattle.page_jobs.proofs.RewrittenChunks.{DoRewrites, RewritesClaims}
-use Rattle.page_jobs.proofs.Standing.{inside, there}
+use Rattle.table_rule.proofs.Opens.{length_low, there_at}
 
 -- what each worker drew
 abbrev drawn_by : List (Worker Rewriter) → List (List ℕ)
@@ -192,9 +192,9 @@ module _ {L G : Type 0} (contents : L → Option Pages) (m : Manager L G) (rel :
       listed = claims_long blocks ps xs cs d;
       each = λ w p q c at there of. let did = claim_at blocks w ps xs cs p q c d at there of in record { blocks = did.0; covers = did.1 };
       ended = λ w p q at after.
-          let below = inside ps w p at in
+          let below = length_low ps w p at in
           let listed = claims_long blocks ps xs cs d in
-          let c = there cs w (omega (arith, below, listed)) in
+          let c = there_at cs w (omega (arith, below, listed)) in
           (claim_at blocks w ps xs cs p q c.0 d at after c.1).2;
       once = claimed_once blocks word cs (drawn_by xs) (of_drawn blocks ps xs cs d) drawn_once;
       named = named;

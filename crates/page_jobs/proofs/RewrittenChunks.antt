@@ -19,7 +19,7 @@ use Rattle.page_jobs.specs.Blocks.{blocks_from}
 use Rattle.page_jobs.specs.Chunks.{Ascend, Claimed, CoversChunks, blocks_in_all, blocks_of, chunk_count, chunk_size, chunk_start}
 use Rattle.page_jobs.specs.Dealt.{HaveDone}
 use Rattle.page_jobs.specs.Jobs.{HaveNoTokens}
-use Rattle.page_jobs.specs.Reads.{HasNoTokens}
+use Rattle.backend_pass.specs.Between.{HasNoTokens}
 use Rattle.page_jobs.specs.Rewrites.{AreOf, Outcome, outcome_totals}
 use Rattle.page_jobs.specs.Rewriting.{CountsRewrites, EndsRewriteFor, RewritesBlocks, RewritesWhole}
 use Rattle.page_jobs.specs.Working.{DoesBlocks, DoesChunk, DoesChunks, EndsAfter, FailsAtBlock, WorksChunk, WorksChunks}

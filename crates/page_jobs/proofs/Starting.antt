@@ -17,7 +17,8 @@ use Rattle.frame_table.specs.Seats.{lanes_in, opened_of, relations_of}
 use Rattle.backend_pass.specs.declared.manager.Manager.{Manager}
 use Rattle.page_jobs.specs.Jobs.{IsOrigin}
 use Rattle.page_jobs.specs.Relations.{IsCatalogOf}
-use Rattle.page_jobs.proofs.Standing.{found, mapped_or, standing_or, inside, all_at}
+use Rattle.table_rule.proofs.Opens.{length_low}
+use Rattle.backend_pass.proofs.Standing.{found, mapped_or, standing_or, all_at}
 
 module _ {L G : Type 0} (d : Devices L G) (fork : Fork) (blocks : ℕ) (catalog : List RelEntry) (one : IsCatalogOf fork blocks catalog) (lanes : List L)
     (unmarked : All (λ lane. d.failed_writes lane ≡ no_marks) lanes) (has : HasBlocks fork blocks (map d.contents lanes)) where
@@ -46,7 +47,7 @@ module _ {L G : Type 0} (contents : L → Option Pages) (m : Manager L G) (fork 
         let wide : length (map contents (opened_of m.table)) ≡ lanes_in m.table = length-map (opened_of m.table) contents ∙ counted in
         let has : IsSomeAnd (get_or (map contents (opened_of m.table)) q None) (λ known. known tag ≡ Some page) =
         subst (λ (p : Page). IsSomeAnd (get_or (map contents (opened_of m.table)) q None) (λ known. known tag ≡ Some p)) (standing_or pages block page [] at)
-        (subst (λ (k : ℕ). IsSomeAnd (get_or (map contents (opened_of m.table)) (lane_number tag k) None) (λ known. known tag ≡ Some (get_or pages block []))) wide (held block (inside pages block page at))) in
+        (subst (λ (k : ℕ). IsSomeAnd (get_or (map contents (opened_of m.table)) (lane_number tag k) None) (λ known. known tag ≡ Some (get_or pages block []))) wide (held block (length_low pages block page at))) in
         let f = found contents (λ known. known tag ≡ Some page) (opened_of m.table) q has in
         record { lane = f.0; opened = f.1; pages = f.2.0; known = f.2.1; is = f.2.2 };
   }

@@ -15,7 +15,7 @@ use Rattle.page_jobs.specs.declared.listing.Lister.{Lister}
 use Rattle.page_jobs.specs.declared.working.Worker.{Worker}
 use Rattle.page_jobs.specs.Dealt.{AllDone, AnyEnds, EndsAsStopper, EndsFirst, PutsAll, PutsEnd, TotalsAreInRange, job_totals}
 use Rattle.page_jobs.specs.Printed.{totals_line}
-use Rattle.page_jobs.proofs.Standing.{inside}
+use Rattle.table_rule.proofs.Opens.{length_low}
 
 -- two texts put one after the other
 pub put_twice : (a b : List ℕ) (old mid new : Option (List ℕ)) → mid ≡ option_map (λ bytes. bytes ++ a) old → new ≡ option_map (λ bytes. bytes ++ b) mid → new ≡ option_map (λ bytes. bytes ++ (a ++ b)) old
@@ -251,7 +251,7 @@ pub stopper_none : {K : Type 0} (ws : List (Worker K)) (stopped_by : Option ℕ)
 stopper_none ws stopped_by i end is past n w e by at failed =
     let both : Some i ≡ Some n = sym is ∙ by in
     let same : i ≡ n = cc in
-    let below = inside ws n w at in
+    let below = length_low ws n w at in
     absurd (omega (arith, same, below, past))
 
 -- where the rest is done all are, of any workers

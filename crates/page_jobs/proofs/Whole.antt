@@ -25,7 +25,7 @@ use Rattle.page_jobs.specs.Chunks.{AreAllClaimed, Claimed, CoversAll, chunk_coun
 use Rattle.page_jobs.specs.ChunkTexts.{IsChunkText}
 use Rattle.page_jobs.specs.Ending.{as_done, totals_of_scan}
 use Rattle.page_jobs.specs.Printed.{BlockRead, reads_totals, totals_line}
-use Rattle.page_jobs.specs.Reads.{HasNoTokens}
+use Rattle.backend_pass.specs.Between.{HasNoTokens}
 use Rattle.page_jobs.specs.Relations.{MeetNothing}
 use Rattle.page_jobs.specs.Parts.{EndsFor, MeetsFault, blocks_in}
 use Rattle.page_jobs.specs.Dealt.{AllDone, AnyEnds, PutsAll, TotalsAreInRange, job_totals, total_drawn}

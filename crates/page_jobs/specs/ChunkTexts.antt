@@ -19,7 +19,13 @@ use Rattle.page_jobs.specs.Reads.{IsWithinFront}
 -- the job of a window for this many blocks and workers, over a log that begins at this base, and a
 -- sink as it is before the job
 abbrev pub job_of : ℕ → ℕ → ℕ → Option (List ℕ) → ℕ → Job
-job_of blocks workers base before faults = record { chunks = chunk_count blocks; width = 2 * workers; base = base; before = before; faults = faults }
+job_of blocks workers base before faults = record {
+  chunks = chunk_count blocks;
+  width = 2 * workers;
+  base = base;
+  before = before;
+  faults = faults;
+}
 
 module _ {L G : Type 0} (contents : L → Option Pages) (m : Manager L G) (rel : ℕ)
     (fork : Fork) where

@@ -27,7 +27,7 @@ use Rattle.page_jobs.specs.Beside.{EndsBeside}
 use Rattle.page_jobs.specs.Chunks.{chunk_count}
 use Rattle.page_jobs.specs.Parts.{blocks_in}
 use Rattle.page_jobs.specs.Printed.{totals_line}
-use Rattle.page_jobs.specs.Reads.{HasNoTokens}
+use Rattle.backend_pass.specs.Between.{HasNoTokens}
 use Rattle.page_jobs.specs.Working.{CanBegin, ClaimsNothing, WorksChunks}
 
 -- The claims of the first seat, with this many parts left to give

@@ -26,7 +26,8 @@ use Rattle.page_jobs.specs.ChunkTexts.{IsChunkText}
 use Rattle.page_jobs.specs.Ending.{as_done, totals_of_scan}
 use Rattle.page_jobs.specs.Printed.{BlockRead, reads_totals, totals_line}
 use Rattle.page_jobs.specs.Relations.{MeetNothing}
-use Rattle.page_jobs.specs.Reads.{HasNoTokens, IsWithinFront, Stays, calls_of_reads}
+use Rattle.backend_pass.specs.Between.{HasNoTokens}
+use Rattle.page_jobs.specs.Reads.{IsWithinFront, Stays, calls_of_reads}
 use Rattle.page_jobs.specs.Parts.{AllReads, AreKnown, MeetsFault, blocks_in}
 
 -- the passes that work: all but the last

@@ -69,11 +69,6 @@ calls_of_reads backend rel fork (b ∷ blocks) (unsound ∷ rs) =
     calls_of_reads backend rel fork blocks rs
 
 module _ {L G : Type 0} (contents : L → Option Pages) (m : Manager L G) where
-  -- The pass is the manager's, and has no token
-  pub record HasNoTokens (p : PassState) : Type 0 where
-    pub belongs : Belongs contents m p
-    pub spent : p.tokens ≡ no_tokens
-
   -- What reads leave of a pass: it is the same one, its mark and its content locks are as they
   -- were, and its front isn't before the old one
   pub record Stays (p q : PassState) : Type 0 where

@@ -7,7 +7,7 @@ ghost use Rattle.backend_pass.specs.Managers.{Belongs};
 ghost use Rattle.backend_pass.specs.Passes.{KeepsCallers, KeepsMark, PassState, SamePass};
 ghost use Rattle.backend_pass.specs.Reading.{NothingFails};
 ghost use Rattle.page_jobs.specs.Beside.{EndsBeside, fault_of_flush};
-ghost use Rattle.page_jobs.specs.Reads.{HasNoTokens};
+ghost use Rattle.backend_pass.specs.Between.{HasNoTokens};
 
 use crate::ending::JobError;
 use backend_pass::{FlushError, Manager, Pass};
@@ -21,7 +21,8 @@ pub trait Beside<L: BlockLane, G: LogDevice> {
     // What its work did, between two states of it and of the pass, and how that ended.
     // A refusal because the log is down, or a page is past its end, raises no count of faults; so
     // if no call failed there may be one still. A job that is Ok says that this work was Ok.
-    ghost works: { Manager L G → Self → Self → PassState → PassState → Result Unit FlushError → Type 0 };
+    ghost works: { Manager L G → Self → Self → PassState → PassState → Result Unit FlushError
+        → Type 0 };
 
     /// Works with the pass, once for a job. It may write pages that are dirty; it reads and puts
     /// none.
@@ -42,7 +43,8 @@ pub trait Beside<L: BlockLane, G: LogDevice> {
 
         // It ends if the log isn't down, no call fails, and no page has a position past the log's
         // end.
-        ensures complete { NothingFails L.contents manager.now.table pass.old pass.new → IsOk result };
+        ensures complete { NothingFails L.contents manager.now.table pass.old pass.new
+            → IsOk result };
 }
 
 /// No work.

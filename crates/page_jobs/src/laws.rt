@@ -32,7 +32,8 @@ pub fn rewrite_ends()
 
     // After one of all blocks, and a checkpoint after it, the log has exactly the entries of the
     // changed blocks, and the lanes hold the rewritten relation.
-    ensures all { (r : Rule) (n : ℕ) (s : State) (calls : List Call) (ps : List BackendCalls) (upto : ℕ)
+    ensures all { (r : Rule) (n : ℕ) (s : State) (calls : List Call) (ps : List BackendCalls)
+        (upto : ℕ)
         → Finishes r n s calls ps upto → IsResult r n s }
 {}
 

@@ -28,7 +28,8 @@ impl<'a, T, F: FnMut(T) -> (T, R), R> Change<T> for Lent<'a, F> {
 
     ghost can_run = { λ s x. F.pre s.f.now x };
 
-    ghost run_gives = { λ s x r. (r.1.0.ghost_name ≡ s.f.ghost_name) × F.step s.f.now x (r.0, r.1.1) r.1.0.now };
+    ghost run_gives = { λ s x r. (r.1.0.ghost_name ≡ s.f.ghost_name)
+        × F.step s.f.now x (r.0, r.1.1) r.1.0.now };
 
     fn run(self, value: T) -> (T, (&'a mut F, R)) {
         let Lent { f } = self;

@@ -97,7 +97,8 @@ fn deliver_text<N: Naming, A: Ledger, O: Sink, R: Wait>(
 }
 
 impl<N: Naming, A: Ledger> JobTask for Lister<N, A> {
-    ghost begins = { λ k l. (l.lines ≡ k.lines) × (l.printed.text.items ≡ []) × (l.printed.totals ≡ no_totals) × HoldsParts 1 l.shares };
+    ghost begins = { λ k l. (l.lines ≡ k.lines) × (l.printed.text.items ≡ [])
+        × (l.printed.totals ≡ no_totals) × HoldsParts 1 l.shares };
 
     ghost deals = { λ n k. HoldsParts n k.shares };
 
@@ -129,7 +130,8 @@ impl<L: BlockLane, G: LogDevice, N: Naming, A: Ledger, O: Sink> BlockTask<
 
     ghost opens = { λ m rel fork k. OpensText L.contents m rel fork N.texts N.job k };
 
-    ghost fits = { λ k n. IsWithin k.printed.totals k.printed.totals.blocks × (k.printed.totals.blocks + n ≤ 2 ^ 32) };
+    ghost fits = { λ k n. IsWithin k.printed.totals k.printed.totals.blocks
+        × (k.printed.totals.blocks + n ≤ 2 ^ 32) };
 
     fn ring(&self, alloc: Global, blocks: u32, frames: u32) -> Result<Option<Ring>, AllocError> {
         ring_for(alloc, blocks, frames)

@@ -2,7 +2,8 @@
 ghost use Rattle.std.specs.Prelude.{◌≡◌, ◌<◌, IfErr, IfOk, OnOk, true, false};
 ghost use Rattle.block_tag.specs.Catalogue.{blocks_at};
 ghost use Rattle.frame_table.specs.Seats.{relations_of};
-ghost use Rattle.page_jobs.specs.Reads.{CopiesBlock, CopiesOrFindsUnsound, HasNoTokens, PinsOne};
+ghost use Rattle.backend_pass.specs.Between.{HasNoTokens};
+ghost use Rattle.page_jobs.specs.Reads.{CopiesBlock, CopiesOrFindsUnsound, PinsOne};
 ghost use Rattle.page_jobs.specs.Reads.{RefusesBlock, StopsAt, fault_of_refusal, is_crowding};
 ghost use Rattle.page_jobs.specs.Reads.{is_tried_once};
 

@@ -15,7 +15,8 @@ ghost use Rattle.backend_pass.specs.Locks.{HasLock};
 ghost use Rattle.backend_pass.specs.Managers.{Belongs};
 ghost use Rattle.page_layout.specs.Outcomes.{IsRewriteWithin, no_rewrite_totals};
 ghost use Rattle.frame_table.specs.Seats.{relations_of};
-ghost use Rattle.page_jobs.specs.Reads.{HasNoTokens, RefusesBlock};
+ghost use Rattle.backend_pass.specs.Between.{HasNoTokens};
+ghost use Rattle.page_jobs.specs.Reads.{RefusesBlock};
 ghost use Rattle.page_jobs.specs.Rewriting.{CountsRewrites, LocksOne, RewritesBlock, RewritesHeld};
 ghost use Rattle.page_jobs.specs.Rewriting.{RewritesLocked, fault_of_put};
 
@@ -183,13 +184,15 @@ impl JobTask for Rewriter {
 }
 
 impl<L: BlockLane, G: LogDevice> BlockTask<L, G, ()> for Rewriter {
-    ghost does = { λ m rel fork block p q k l end. CountsRewrites L.contents m rel fork (block ∷ []) p q k.totals l.totals end };
+    ghost does = { λ m rel fork block p q k l end. CountsRewrites L.contents m rel fork (block ∷ [])
+        p q k.totals l.totals end };
 
     ghost closes = { λ _ _ k l end. (l ≡ k) × (end ≡ Ok tt) };
 
     ghost opens = { λ _ _ _ _. Unit {0} };
 
-    ghost fits = { λ k n. IsRewriteWithin k.totals k.totals.blocks × (k.totals.blocks + n ≤ 2 ^ 32) };
+    ghost fits = { λ k n. IsRewriteWithin k.totals k.totals.blocks
+        × (k.totals.blocks + n ≤ 2 ^ 32) };
 
     fn ring(&self, alloc: Global, _blocks: u32, frames: u32) -> Result<Option<Ring>, AllocError> {
         let ring = Ring::build(alloc, RingKind::Vacuum, frames)?;

@@ -10,7 +10,7 @@ ghost use Rattle.page_jobs.specs.Dealt.{HasRun, HasWorkedSeat, HaveJoined, IsDea
 ghost use Rattle.page_jobs.specs.Dealt.{IsReady, total_drawn};
 ghost use Rattle.page_jobs.specs.Jobs.{HaveNoTokens};
 ghost use Rattle.page_jobs.specs.Parts.{blocks_in};
-ghost use Rattle.page_jobs.specs.Reads.{HasNoTokens};
+ghost use Rattle.backend_pass.specs.Between.{HasNoTokens};
 ghost use Rattle.page_jobs.specs.Working.{CanBegin, HaveWorked};
 
 use crate::beside::{Beside, work_last};

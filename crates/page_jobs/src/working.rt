@@ -13,7 +13,7 @@ ghost use Rattle.backend_pass.specs.declared.manager.Manager.{Manager};
 ghost use Rattle.backend_pass.specs.Passes.{PassState};
 ghost use Rattle.page_jobs.specs.declared.ending.JobError.{JobError};
 ghost use Rattle.page_jobs.specs.Parts.{blocks_in};
-ghost use Rattle.page_jobs.specs.Reads.{HasNoTokens};
+ghost use Rattle.backend_pass.specs.Between.{HasNoTokens};
 ghost use Rattle.chunk_claims.specs.Claims.{SitsAt};
 ghost use Rattle.page_jobs.specs.Chunks.{chunk_count, chunk_size};
 ghost use Rattle.page_jobs.specs.Working.{CanBegin, CanCount, ClaimsNothing, DoesUpTo, IsAtEnd};
@@ -70,7 +70,8 @@ pub(crate) trait JobTask {
 pub(crate) trait BlockTask<L: BlockLane, G: LogDevice, W> {
     // What was done with a block of the fork, between two states of the pass and of the task, and
     // how that ended.
-    ghost does: { Manager L G → ℕ → Fork → ℕ → PassState → PassState → Self → Self → Result Unit JobError → Type 0 };
+    ghost does: { Manager L G → ℕ → Fork → ℕ → PassState → PassState → Self → Self
+        → Result Unit JobError → Type 0 };
 
     // What was done at the end of a chunk, whose blocks left the pass so, between two states of the
     // task, and how that ended.

@@ -22,9 +22,6 @@ module _ (old more new : ℕ) (added : Added old more new) where
   pub added_later : old < 2 ^ 64 → old ≤ new
   added_later fits = omega arith
 
-pub rose_before : (a b c : ℕ) → Rose a b → b ≤ c → Rose a c
-rose_before a b c rose later = omega arith
-
 pub rose_after : (a b c : ℕ) → a ≤ b → Rose b c → Rose a c
 rose_after a b c later rose = omega arith
 

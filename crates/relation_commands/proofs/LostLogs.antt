@@ -16,6 +16,7 @@ use Rattle.grid.proofs.Lists.{at_longer}
 use Rattle.table_rule.specs.Blocks.{log_name}
 use Rattle.log_recovery.specs.Laws.{AreWritten, LeftRead, one_beyond, some_left, without_backends}
 use Rattle.log_recovery.specs.Records.{HasBadHead, IsLogOf, from_head, too_short}
+use Rattle.log_recovery.proofs.Crash.{no_entries, without_at}
 use Rattle.log_recovery.proofs.LeftLogs.{entries_left, logs_left}
 
 -- an entry of those without backends is such an entry without its own
@@ -24,16 +25,6 @@ unfolding without_backends
 with_backend [] k d at = absurd (some-ne-none d (sym at))
 with_backend (e ∷ es) zero d at = (e, refl, sym (some-injective (record e { backend = 0 }) d at))
 with_backend (e ∷ es) (suc k) d at = with_backend es k d at
-
-backend_lost : (es : List Entry) (k : ℕ) (e : Entry) → get_elem? es k ≡ some e → get_elem? (without_backends es) k ≡ some (record e { backend = 0 })
-unfolding without_backends
-backend_lost [] k e at = absurd (some-ne-none e (sym at))
-backend_lost (d ∷ es) zero e at = ap (λ (x : Entry). some (record x { backend = 0 })) (some-injective d e at)
-backend_lost (d ∷ es) (suc k) e at = backend_lost es k e at
-
-none_kept : [] ≡ without_backends []
-unfolding without_backends
-none_kept = refl
 
 -- a block has this page after entries that have no other of it, and one at least
 pub settled_on : (word : ℕ) (page : Page) (es : List Entry) (x : Option Page) → AreOfPages es → ((k : ℕ) (e : Entry) → IsEntryOf es word k e → e.change ≡ image word page) → IsEntered es word → page_after word es x ≡ Some page
@@ -89,7 +80,7 @@ module _ (relations : List RelEntry) (catalogue : IsCatalogue relations) (bytes 
 
   -- so they are read
   pub first_read : (read : Log) → IsLogOf relations bytes read → AreFirst read.entries
-  first_read _ (too_short short) = record { kept = []; later = log.entries; all = refl; read = none_kept; high = λ k e at. let above = ends_above k e at in let less = length-drop 16 bytes in omega (arith, above, less, short) }
+  first_read _ (too_short short) = record { kept = []; later = log.entries; all = refl; read = no_entries; high = λ k e at. let above = ends_above k e at in let less = length-drop 16 bytes in omega (arith, above, less, short) }
   first_read _ (from_head base es head reads) = none_beyond es (entries_left relations catalogue log left.rest bytes left.lost left.low left.is left.law.chained left.written few base es head reads)
 
   module _ (ds : List Entry) (first : AreFirst ds) where
@@ -106,6 +97,6 @@ module _ (relations : List RelEntry) (catalogue : IsCatalogue relations) (bytes 
     -- an entry of a block whose record is among the bytes is read
     pub whole_read : (word k : ℕ) (e : Entry) → IsEntryOf log.entries word k e → head_size + end_of e ≤ log.base + length bytes → IsEntered ds word
     whole_read word k e of within = ⊎_elim
-        (λ (t : get_elem? first.kept k ≡ some e). (k, record e { backend = 0 }, record { there = subst (λ (l : List Entry). get_elem? l k ≡ some (record e { backend = 0 })) (sym first.read) (backend_lost first.kept k e t); of = of.of }))
+        (λ (t : get_elem? first.kept k ≡ some e). (k, record e { backend = 0 }, record { there = subst (λ (l : List Entry). get_elem? l k ≡ some (record e { backend = 0 })) (sym first.read) (without_at first.kept k e t); of = of.of }))
         (λ (t : (n : ℕ) × (get_elem? first.later n ≡ some e)). absurd (let far = first.high t.0 e t.1 in let above = ends_above k e of.there in let less = length-drop 16 bytes in omega (arith, far, above, less, within)))
         (at_both first.kept first.later k e (subst (λ (l : List Entry). get_elem? l k ≡ some e) first.all of.there))

@@ -17,7 +17,7 @@ use Rattle.page_layout.specs.Rewritten.{is_skipped, new_byte, rewrite_of, rewrit
 use Rattle.page_layout.specs.Soundness.{IsUsedPage, is_new_page, is_sound_header, is_sound_page}
 use Rattle.page_layout.proofs.Positions.{header_used, same_header, sound_used}
 use Rattle.pin_core.specs.State.{Page}
-use Rattle.page_jobs.proofs.Standing.{all_at}
+use Rattle.backend_pass.proofs.Standing.{all_at}
 use Rattle.relation_commands.specs.RewriteResults.{AreFull, after_rewrite}
 
 -- a page that is used with one position is used with its own

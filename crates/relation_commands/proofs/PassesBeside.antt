@@ -1,5 +1,5 @@
 -- What rounds beside a job leave of their pass.
-use Rattle.std.proofs.Common.{◌≡◌, Option, refl, ap, ◌∙◌}
+use Rattle.std.proofs.Common.{◌≡◌, Option, ap, ◌∙◌}
 use Rattle.segment_store.specs.Contents.{Pages}
 use Rattle.pin_core.specs.declared.view.FailedCalls.{FailedCalls}
 use Rattle.frame_table.specs.declared.table.FrameTable.{FrameTable}
@@ -12,13 +12,10 @@ use Rattle.backend_pass.specs.FrameFlushes.{RefusesFrame, frame_refusal}
 use Rattle.backend_pass.specs.Managers.{Belongs}
 use Rattle.backend_pass.specs.Passes.{KeepsCallers, KeepsMark, PassState, SamePass}
 use Rattle.backend_pass.proofs.Seated.{same_on}
-use Rattle.backend_pass.proofs.Keeping.{callers_none, callers_on, pass_none}
+use Rattle.backend_pass.proofs.Keeping.{callers_on}
 use Rattle.page_jobs.specs.Beside.{WorksBeside}
 
 module _ {L G : Type 0} (contents : L → Option Pages) (m : Manager L G) where
-  pub works_none : (p : PassState) → Belongs contents m p → WorksBeside contents m p p
-  works_none p belongs = record { belongs = belongs; same = record { keeps = pass_none p; upto = refl; torn = refl }; callers = callers_none p; mark = refl }
-
   pub works_on : (p q r : PassState) → WorksBeside contents m p q → Belongs contents m r → SamePass q r → KeepsCallers q r → KeepsMark q r → WorksBeside contents m p r
   works_on p q r w belongs same callers mark = record {
     belongs = belongs;

@@ -23,7 +23,9 @@ use Rattle.log_recovery.specs.Records.{HasBadHead, IsLogOf, Reads, from_head, to
 use Rattle.log_recovery.proofs.Back.{bytes_long}
 use Rattle.log_recovery.proofs.Prefix.{image_size}
 use Rattle.log_recovery.proofs.ReadLogs.{is_log}
-use Rattle.page_jobs.proofs.Standing.{all_at, inside, there}
+use Rattle.log_recovery.proofs.Twice.{either_way}
+use Rattle.table_rule.proofs.Opens.{length_low, there_at}
+use Rattle.backend_pass.proofs.Standing.{all_at}
 use Rattle.relation_commands.specs.RecoverFiles.{catalog_of, word_at}
 use Rattle.relation_commands.specs.RecoverRewrite.{BegunLogsAreEmpty, IsLostFrom, IsRecoveredBlock, RecoversRewrite, as_before, by_the_next, by_the_rule, torn_before}
 use Rattle.relation_commands.specs.RewriteFiles.{IsHeadBegun, main_rule}
@@ -34,14 +36,10 @@ use Rattle.relation_commands.proofs.PagesAfter.{StaysUsed}
 use Rattle.relation_commands.proofs.RecoverNames.{names_by_number, one_catalogue, word_once}
 use Rattle.relation_commands.proofs.WrittenImages.{image_made, images_written}
 
-either_way : (b : Bool) {A : Type 0} → (b ≡ true → A) → (b ≡ false → A) → A
-either_way true x y = x refl
-either_way false x y = y refl
-
 -- the first entries are all, if the last one is among them
 all_kept : (es kept later : List Entry) (e x : Entry) (k : ℕ) → es ++ e ∷ [] ≡ kept ++ later → get_elem? kept k ≡ some x → k ≡ length es → kept ≡ es ++ e ∷ []
 all_kept es kept later e x k all at last =
-    let below = inside kept k x at in
+    let below = length_low kept k x at in
     let long : length (es ++ e ∷ []) ≡ length (kept ++ later) = ap (λ (l : List Entry). length l) all in
     let none : later ≡ [] = nil_from_length later (omega (arith, below, long, last, length-append es (e ∷ []), length-append kept later)) in
     sym (all ∙ ap (λ (l : List Entry). kept ++ l) none ∙ append-nil kept)
@@ -271,9 +269,9 @@ module _ (rewritten : StaysUsed) (path : List ℕ) (blocks base : ℕ) (before a
       -- with no entry that is read it is as it was left
       unchanged : (IsEntered read.entries (word_at block) → ⊥) → failed block ≡ false → page ≡ old
       unchanged none done =
-          let below = inside before block old was in
+          let below = length_low before block old was in
           let counted = leaves.counted in
-          let new = there after block (omega arith) in
+          let new = there_at after block (omega arith) in
           loss.stays block new.0 page new.1 at done (λ k e of synced. none (durable block k e of synced))
           ∙ ⊎_elim
           (λ (same : new.0 ≡ old). same)

@@ -1,5 +1,5 @@
 -- What a recovery leaves of the pages, and that it changes nothing where they are so already.
-use Rattle.std.proofs.Common.{◌≡◌, ℕ, suc, ◌+◌, ◌%◌, ◌<◌, ◌≤◌, ◌^◌, ◌-◌, Bool, true, false, List, [], ◌∷◌, ◌++◌, append-nil, length, length-append, take, drop, Option, Some, sym, refl, ap, ap₂, ◌∙◌, subst, inl, inr, ⊎_elim, arith}
+use Rattle.std.proofs.Common.{◌≡◌, ℕ, suc, ◌+◌, ◌%◌, ◌<◌, ◌≤◌, ◌^◌, ◌-◌, true, false, List, [], ◌∷◌, ◌++◌, append-nil, length, length-append, take, drop, Option, Some, sym, refl, ap, ap₂, ◌∙◌, subst, inl, inr, ⊎_elim, arith}
 use Rattle.std.specs.Prelude.{IsSomeAnd, replicate}
 use Rattle.std.specs.Str.{bytes_eq}
 use Rattle.std.specs.Cmp.Lexicographic.{same_text}
@@ -19,15 +19,15 @@ use Rattle.segment_store.proofs.PutBlocks.{take_prefix}
 use Rattle.segment_store.proofs.ReadBack.{reads_back}
 use Rattle.segment_store.proofs.Segments.{restored_same}
 use Rattle.pin_core.specs.State.{Page}
-use Rattle.history_core.specs.Log.{AreImages, AreValid, Entry, IsEntryOf, Log, page_after}
+use Rattle.history_core.specs.Log.{AreImages, Entry, Log, page_after}
 use Rattle.history_core.specs.Unentered.{IsEntered}
-use Rattle.history_core.proofs.Crashes.{entry_or_none}
 use Rattle.history_core.proofs.Logs.{after_absent, images_of_pages}
 use Rattle.grid.proofs.Lists.{at_longer}
 use Rattle.log_recovery.specs.Records.{HasBadHead, IsLogOf}
 use Rattle.log_recovery.proofs.ReadLogs.{is_log, one_log}
-use Rattle.log_recovery.proofs.Twice.{settled}
-use Rattle.page_jobs.proofs.Standing.{inside, taken, there}
+use Rattle.log_recovery.proofs.Twice.{after_agree, after_twice, either_way}
+use Rattle.table_rule.proofs.Opens.{length_low, there_at}
+use Rattle.backend_pass.proofs.Standing.{taken}
 use Rattle.relation_commands.specs.Limits.{log_base}
 use Rattle.command_line.specs.Request.{LoggedAsked}
 use Rattle.relation_commands.specs.RecoverFiles.{AreFirstIn, IsEnteredIn, IsRecoveredAt, RecoverLeaves, RecoversTo, left_alone, redone_upto, catalog_of, longer_pages, with_more, word_at}
@@ -109,7 +109,7 @@ module _ (r : LoggedAsked) where
 
     first_kept : (block : ℕ) (page : Page) → get_elem? (pages_at r paths) block ≡ some page → get_elem? (longer_pages r n paths) block ≡ some page
     first_kept block page at =
-        let below = inside (pages_at r paths) block page at in
+        let below = length_low (pages_at r paths) block page at in
         sym (taken (length (pages_at r paths) + n) block (longer_pages r n paths) (omega arith))
         ∙ ap (λ (l : List Page). get_elem? l block) begins_with
         ∙ at_longer (pages_at r paths) (replicate n (replicate 8192 0)) block page at
@@ -154,21 +154,6 @@ module _ (r : LoggedAsked) where
           (ap (λ (n : ℕ). with_more (relation_at r) n old.paths) none_more ∙ no_more old.paths)
           ∙ own_blocks old.paths
 
-either_way : (b : Bool) {A : Type 0} → (b ≡ true → A) → (b ≡ false → A) → A
-either_way true x y = x refl
-either_way false x y = y refl
-
--- pages that differ only where a block has an entry
-after_agree : (es : List Entry) (word : ℕ) (x y : Option Page) → AreImages es → ((IsEntered es word → ⊥) → x ≡ y) → page_after word es x ≡ page_after word es y
-after_agree es word x y images agree = ⊎_elim
-    (λ (t : IsEntered es word). settled es images word t x y)
-    (λ (none : (k : ℕ) (e : Entry) → IsEntryOf es word k e → ⊥). ap (page_after word es) (agree (λ t. none t.0 t.1 t.2)))
-    (entry_or_none es word)
-
--- redo after redo
-after_twice : (es : List Entry) (word : ℕ) (x : Option Page) → AreValid es → AreImages es → page_after word es (page_after word es x) ≡ page_after word es x
-after_twice es word x valid images = after_agree es word (page_after word es x) x images (λ none. after_absent word es x (images_of_pages es images) (λ k e of. none (k, e, of)))
-
 module _ (r : LoggedAsked) (lanes : ℕ) (some_blocks : 1 ≤ r.options.seg_blocks) (old done next new : HostFiles) (first : IsRecoveredAt r old done)
     (paths_are : next.paths ≡ done.paths) (logs_are : next.logs ≡ done.logs) (second : IsRecoveredAt (recovery_of r lanes) next new) where
   -- it is the same log
@@ -194,11 +179,11 @@ module _ (r : LoggedAsked) (lanes : ℕ) (some_blocks : 1 ≤ r.options.seg_bloc
       let to = first.redone in
       let law = is_log (catalog_of r.path) first.file.bytes first.log first.is in
       let at_after : get_elem? to.after block ≡ some was = sym (ap (λ (l : List Page). get_elem? l block) (pages_now r first.log.entries some_blocks old done to)) ∙ sym (ap (λ (p : Paths). get_elem? (pages_at r p) block) paths_are) ∙ at in
-      let below = inside to.after block was at_after in
+      let below = length_low to.after block was at_after in
       let counted = to.counted in
-      let first_page = there (longer_pages r to.more old.paths) block (omega arith) in
+      let first_page = there_at (longer_pages r to.more old.paths) block (omega arith) in
       let is = to.each block first_page.0 was first_page.1 at_after (first.unfailed block) in
-      ap (page_after (word_at block) first.log.entries) is ∙ after_twice first.log.entries (word_at block) (Some first_page.0) law.0.valid law.1 ∙ sym is
+      ap (page_after (word_at block) first.log.entries) is ∙ after_twice first.log.entries (word_at block) (Some first_page.0) law.1 ∙ sym is
 
   again_same : new.paths ≡ done.paths
   again_same = paths_same (recovery_of r lanes) first.log.entries some_blocks next new to_again second.unfailed reached redone_once ∙ paths_are
@@ -226,9 +211,9 @@ module _ (r : LoggedAsked) (lanes : ℕ) (some_blocks : 1 ≤ r.options.seg_bloc
 
     redone_elsewhere : (block : ℕ) → (IsEntered second.log.entries (word_at block) → ⊥) → IsAsOld block
     redone_elsewhere block none was page at left_at =
-        let below = inside (pages_at r old.paths) block was at in
+        let below = length_low (pages_at r old.paths) block was at in
         let grown = grown_to r es some_blocks old done to in
-        let new = there (pages_at r done.paths) block (omega arith) in
+        let new = there_at (pages_at r done.paths) block (omega arith) in
         let unfailed : done.failed r.path block ≡ false = either_way (done.failed r.path block) (λ failed. absurd (none (marked_entered block failed))) (λ is. is) in
         let kept = page_redone r es some_blocks old done to block was new.0 at new.1 unfailed
         ∙ after_absent (word_at block) es (Some was) (images_of_pages es images) (λ k e of. none (k, e, record { there = subst (λ (l : List Entry). get_elem? l k ≡ some e) (sym first_of.1) (at_longer es first_of.0 k e of.there); of = of.of })) in
@@ -241,7 +226,7 @@ module _ (r : LoggedAsked) (lanes : ℕ) (some_blocks : 1 ≤ r.options.seg_bloc
   completed_at : RecoverLeaves r old done → (block : ℕ) (was now : Page) → get_elem? (pages_at r old.paths) block ≡ some was → block < length (pages_at r left.paths) → get_elem? (pages_at r new.paths) block ≡ some now
       → Some now ≡ page_after (word_at block) second.log.entries (Some was)
   completed_at leaves block was now at below now_at =
-      let page = there (pages_at r left.paths) block below in
+      let page = there_at (pages_at r left.paths) block below in
       page_redone (recovery_of r lanes) second.log.entries some_blocks left new second.redone block page.0 now page.1 now_at (second.unfailed block)
       ∙ after_agree second.log.entries (word_at block) (Some page.0) (Some was) (is_log (catalog_of r.path) second.file.bytes second.log second.is).1
       (λ none. ap (λ (p : Page). Some p) (as_old leaves block none was page.0 at page.1))
@@ -256,7 +241,7 @@ base_aligned pages = omega arith
 pub files_recovered : StaysUsed → RecoversFilesLeft
 files_recovered rewritten r lanes some_blocks old done left new after file leaves loses recovered block was now at below now_at =
     let before = pages_at r old.paths in
-    let page = there (pages_at r left.paths) block below in
+    let page = there_at (pages_at r left.paths) block below in
     let found = recovers_rewrite rewritten r.path (length before) (log_base before) before after (pages_at r left.paths) (done.failed r.path) file (base_aligned before) (few_pages r.options.seg_blocks (old.paths r.path)) leaves loses.kept.bytes loses.loss in
     let same : recovered.file ≡ loses.kept = same_Some recovered.file loses.kept (sym recovered.there ∙ loses.there) in
     let is = subst (λ (f : StoredLog). IsLogOf (catalog_of r.path) f.bytes recovered.log) same recovered.is in

@@ -1,5 +1,5 @@
 -- What lanes hold after the redo of entries, and what the relation is once they are given back.
-use Rattle.std.proofs.Common.{◌≡◌, ◌⊎◌, inl, inr, ⊎_elim, ℕ, zero, suc, ◌+◌, ◌-◌, ◌<◌, ◌≤◌, ◌^◌, Bool, true, false, List, [], ◌∷◌, ◌++◌, length, map, get_or, max, nat_eq, replicate, Option, Some, None, refl, sym, ap, ◌∙◌, subst, is_some, slice_get, unwrap_or, arith}
+use Rattle.std.proofs.Common.{◌≡◌, ◌⊎◌, inl, inr, ⊎_elim, ℕ, zero, suc, ◌+◌, ◌-◌, ◌<◌, ◌≤◌, ◌^◌, true, false, List, [], ◌∷◌, length, map, get_or, max, nat_eq, replicate, Option, Some, None, refl, sym, ap, ◌∙◌, subst, is_some, slice_get, unwrap_or, arith}
 use Rattle.std.specs.Prelude.{All, IfSome}
 use Rattle.std.specs.Option.{option_and_then}
 use Rattle.std.proofs.lemmas.Bool.{both_ways, cases_eq, cases_lt, cond_both}
@@ -24,14 +24,11 @@ use Rattle.history_core.specs.Unentered.{IsEntered}
 use Rattle.history_core.proofs.Crashes.{entry_or_none}
 use Rattle.history_core.proofs.Logs.{after_absent, images_of_pages}
 use Rattle.log_recovery.specs.Redo.{AreRedone, AreRedoneBut, IsEnteredBlock, IsRedone}
-use Rattle.log_recovery.proofs.Twice.{settled}
-use Rattle.page_jobs.proofs.Standing.{inside, taken}
+use Rattle.log_recovery.proofs.Twice.{either_way, same_tag, settled}
+use Rattle.table_rule.proofs.Opens.{left_at, length_low}
+use Rattle.backend_pass.proofs.Standing.{taken}
 use Rattle.relation_commands.specs.RecoverFiles.{word_at}
 use Rattle.relation_commands.proofs.RewriteLeaves.{block_named, page_at}
-
-either_way : (b : Bool) {A : Type 0} → (b ≡ true → A) → (b ≡ false → A) → A
-either_way true x y = x refl
-either_way false x y = y refl
 
 -- ---- the blocks that lanes have
 
@@ -76,11 +73,6 @@ shown None was page is held = absurd (cc)
 shown (Some p) was page is held = ap (λ (q : Page). Some q) is
 
 module _ {A : Type 0} where
-  at_front : (l m : List A) (i : ℕ) → i < length l → get_elem? (l ++ m) i ≡ get_elem? l i
-  at_front [] m i below = absurd (omega arith)
-  at_front (x ∷ l) m zero below = refl
-  at_front (x ∷ l) m (suc i) below = at_front l m i (omega arith)
-
   slice_there : (xs : List A) (i : ℕ) (x : A) → get_elem? xs i ≡ some x → slice_get xs i ≡ Some x
   slice_there [] i x at = absurd (some-ne-none x (sym at))
   slice_there (y ∷ xs) zero x at = ap (λ (z : A). Some z) (some-injective y x at)
@@ -144,7 +136,7 @@ module _ (seg_blocks : ℕ) (segments : List (List ℕ)) (some_blocks : 1 ≤ se
   longer_at block low =
       sym (taken (blocks + more) block longer (omega arith))
       ∙ ap (λ (l : List Page). get_elem? l block) (has_new_pages seg_blocks more segments some_blocks fits)
-      ∙ at_front pages (replicate more (replicate 8192 0)) block low
+      ∙ left_at pages (replicate more (replicate 8192 0)) block low
 
   -- a page that its lane has
   each_held : (block : ℕ) (was page : Page) (x : Option Page) → page ≡ unwrap_or (page_in lanes (tag_at Main block)) was → page_in lanes (tag_at Main block) ≡ x
@@ -177,7 +169,7 @@ module _ (seg_blocks : ℕ) (segments : List (List ℕ)) (some_blocks : 1 ≤ se
   each block was page at now unmarked =
       let x = page_at Main lanes 0 longer block page now in
       let here : 0 + block ≡ block = omega arith in
-      let in_longer = inside longer block was at in
+      let in_longer = length_low longer block was at in
       let most = few (extended seg_blocks (length (relation_of seg_blocks segments)) more segments) in
       each_at block was page (omega arith) at
       (x.2 ∙ ap (λ (n : ℕ). unwrap_or (page_in lanes (tag_at Main n)) x.0) here ∙ ap (λ (p : Page). unwrap_or (page_in lanes (tag_at Main block)) p) (some-injective x.0 was (sym x.1 ∙ at)))
@@ -221,9 +213,6 @@ module _ (seg_blocks : ℕ) (segments : List (List ℕ)) (some_blocks : 1 ≤ se
 
 none_entered : (es : List Entry) (tag : Tag) → ((k : ℕ) (e : Entry) → IsEntryOf es (packed_tag tag) k e → ⊥) → IsEnteredBlock es tag → ⊥
 none_entered es tag none (named, (k, e, of)) = none k e of
-
-same_tag : (a b : Tag) → tag_eq a b ≡ true → a ≡ b
-same_tag a b same = grind arith
 
 unnamed : (block : ℕ) → 2 ^ 32 - 1 ≤ block → names_block (tag_at Main block) ≡ false
 unnamed block high = grind arith

@@ -48,7 +48,8 @@ use Rattle.page_jobs.specs.Reads.{fault_of_refusal}
 use Rattle.page_jobs.specs.RewriteJobs.{EndsRewrite, FailsFirst}
 use Rattle.page_jobs.specs.Rewriting.{fault_of_put}
 use Rattle.page_jobs.proofs.Counted.{no_read_failed, no_write_counted, some_read_failed, some_write_failed}
-use Rattle.page_jobs.proofs.Standing.{taken_from, there}
+use Rattle.table_rule.proofs.Opens.{there_at}
+use Rattle.backend_pass.proofs.Standing.{taken_from}
 use Rattle.relation_commands.specs.declared.limits.PositionLimit.TheVariants.{OfPages, OfPage, OfLog}
 use Rattle.relation_commands.specs.declared.rewriting.RewriteError.{RewriteError}
 use Rattle.relation_commands.specs.declared.rewriting.RewriteError.TheVariants.{ReadFault, WriteFault, LogFault, OutFault, Memory, OverLimit}
@@ -168,8 +169,8 @@ module _ {L G : Type 0} (contents : L → Option Pages) (m : Manager L G) where
 
     last_meets : (qs zs : List PassState) (e : RewriteError) → 0 < length qs → length zs ≡ length qs → AllSeen qs → LastMeets contents m.table qs zs e → SomePassMeets zs e
     last_meets qs zs e some_ long seen meets =
-        let q = there qs (length qs - 1) (omega arith) in
-        let z = there zs (length qs - 1) (omega arith) in
+        let q = there_at qs (length qs - 1) (omega arith) in
+        let z = there_at zs (length qs - 1) (omega arith) in
         record { place = length qs - 1; before = q.0.view; pass = z.0; at = z.1; meets = meets q.0 z.0 q.1 z.1; seen = seen (length qs - 1) q.0 q.1 }
 
     pub any_meets : (ps qs zs : List PassState) (e : RewriteError) → 0 < length qs → length zs ≡ length qs → AllSeen ps → AllSeen qs → EndsEarly contents m fork ps qs zs e → (e ≡ Memory) ⊎ SomePassMeets zs e
@@ -199,7 +200,7 @@ module _ {L G : Type 0} (d : Devices L G) (m : Manager L G) (r : RelationFork) (
   none_past v lsn end seen x pages are =
       let tag_is = started.catalog.alone x.tag x.listed in
       let low : x.tag.block < r.blocks = below x.tag.block (blocks_at (relations_of m.table) x.tag.rel.0 x.tag.fork) x.listed (ap (λ (t : Tag). blocks_at (relations_of m.table) t.rel.0 t.fork) tag_is ∙ started.catalog.counted) in
-      let p = there pages x.tag.block (let e = are.have.counted in omega arith) in
+      let p = there_at pages x.tag.block (let e = are.have.counted in omega arith) in
       let l = was_there d m r base ps zs started few lanes log c pages are x.tag.block p.0 p.1 in
       let is : l.2.0 x.tag ≡ Some x.page = x.was (lane_number x.tag (lanes_in m.table)) l.0 l.2.0 record { named = x.named; listed = x.listed; placed = refl }
       (subst (λ (t : Tag). get_elem? (opened_of m.table) (lane_number t (lanes_in m.table)) ≡ some l.0) (sym tag_is) l.1) l.2.1 in

@@ -11,7 +11,7 @@ use Rattle.backend_pass.specs.Managers.{Belongs}
 use Rattle.backend_pass.specs.Passes.{KeepsCallers, PassState}
 use Rattle.checkpointer.specs.declared.ending.CheckpointError.{CheckpointError}
 use Rattle.page_jobs.specs.Jobs.{HaveNoTokens}
-use Rattle.page_jobs.specs.Reads.{HasNoTokens}
+use Rattle.backend_pass.specs.Between.{HasNoTokens}
 use Rattle.grid.proofs.Lists.{at_last}
 use Rattle.relation_commands.specs.Checkpointing.{ChecksByLast, LastMeets, PassMeets, StoresAll, SweepsPast}
 use Rattle.relation_commands.specs.Rewriting.{checkpoint_error}

@@ -30,7 +30,8 @@ use Rattle.page_jobs.specs.Parts.{blocks_in}
 use Rattle.page_jobs.specs.RewriteCloses.{HasEntryPage, HoldEither, IsInLanes}
 use Rattle.page_jobs.specs.RewriteEnds.{BeginsRewrite, HasRewrites, IsRewrite, page_at_start}
 use Rattle.page_jobs.specs.Rewrites.{Rule, rule_of}
-use Rattle.page_jobs.proofs.Standing.{found, inside, mapped_or, standing_or, there}
+use Rattle.table_rule.proofs.Opens.{length_low, there_at}
+use Rattle.backend_pass.proofs.Standing.{found, mapped_or, standing_or}
 use Rattle.page_jobs.proofs.ReadersLeave.{some_of}
 use Rattle.relation_commands.specs.declared.starting.RelationFork.{RelationFork}
 use Rattle.relation_commands.specs.Limits.{largest_lsn, sound_lsn}
@@ -78,7 +79,7 @@ abbrev pub file_at : {G : Type 0} → (G → ℕ) → G → List ℕ → StoredL
 file_at synced log known = record { bytes = known; synced = synced log }
 
 pub each_full : (pages : List Page) → ((i : ℕ) (page : Page) → get_elem? pages i ≡ some page → length page ≡ 8192) → AreFull pages
-each_full pages each i page low = let x = there pages i low in ap length (standing_or pages i x.0 page x.1) ∙ each i x.0 x.1
+each_full pages each i page low = let x = there_at pages i low in ap length (standing_or pages i x.0 page x.1) ∙ each i x.0 x.1
 
 -- a page that a lane has
 has_page : (x : Option Pages) (tag : Tag) (page : Page) → option_and_then (λ (pages : Pages). pages tag) x ≡ Some page → IsSomeAnd x (λ pages. pages tag ≡ Some page)
@@ -118,7 +119,7 @@ module _ {L G : Type 0} (d : Devices L G) (m : Manager L G) (r : RelationFork) (
 
   module _ (pages : List Page) (are : ArePages d.contents r base (opened_of m.table) pages) where
     low : (block : ℕ) (page : Page) → get_elem? pages block ≡ some page → block < r.blocks
-    low block page at = let i = inside pages block page at in let e = are.have.counted in omega arith
+    low block page at = let i = length_low pages block page at in let e = are.have.counted in omega arith
 
     -- the lane that has a block's page, as the manager was started
     pub was_there : (block : ℕ) (page : Page) → get_elem? pages block ≡ some page
@@ -128,7 +129,7 @@ module _ {L G : Type 0} (d : Devices L G) (m : Manager L G) (r : RelationFork) (
         let wide : length (map d.contents (opened_of m.table)) ≡ lanes_in m.table = length-map (opened_of m.table) d.contents ∙ started.counted in
         found d.contents (λ before. before tag ≡ Some page) (opened_of m.table) (lane_number tag (lanes_in m.table))
         (subst (λ (p : Page). IsSomeAnd (get_or (map d.contents (opened_of m.table)) (lane_number tag (lanes_in m.table)) None) (λ before. before tag ≡ Some p)) (standing_or pages block page [] at)
-        (subst (λ (k : ℕ). IsSomeAnd (get_or (map d.contents (opened_of m.table)) (lane_number tag k) None) (λ before. before tag ≡ Some (get_or pages block []))) wide (are.have.held block (inside pages block page at))))
+        (subst (λ (k : ℕ). IsSomeAnd (get_or (map d.contents (opened_of m.table)) (lane_number tag k) None) (λ before. before tag ≡ Some (get_or pages block []))) wide (are.have.held block (length_low pages block page at))))
 
     lane_is : (block : ℕ) → block < r.blocks → tag_lane (lanes_in m.table) ((rule_at r).tag block) ≡ lane_number (tag_at r.fork block) (lanes_in m.table)
     lane_is block below = ap (lane_of_tag (lanes_in m.table)) (placed block below).named
@@ -156,10 +157,10 @@ module _ {L G : Type 0} (d : Devices L G) (m : Manager L G) (r : RelationFork) (
         let tag = tag_at r.fork block in
         let q = lane_number tag (lanes_in m.table) in
         let x = was_there block page at in
-        let i = inside (opened_of m.table) q x.0 x.1 in
+        let i = length_low (opened_of m.table) q x.0 x.1 in
         let many = c.counted in
         let wide = started.counted in
-        let l = there lanes q (omega arith) in
+        let l = there_at lanes q (omega arith) in
         let of_word : c.state.lane_of ((rule_at r).tag block) ≡ q = ap (λ (f : ℕ → ℕ). f ((rule_at r).tag block)) c.opened.lane_of ∙ lane_is block (low block page at) in
         let after = some_of (d.contents l.0) (sym (c.lane q l.0 l.1).known ∙ ap (λ (p : ℕ). (c.state.lane p).known) (sym of_word) ∙ c.laws.invariant.known ((rule_at r).tag block) ∙ known_at block page at) in
         record {
@@ -202,7 +203,7 @@ module _ {L G : Type 0} (d : Devices L G) (m : Manager L G) (r : RelationFork) (
     pub pages_held : HoldPages r.fork (pages_after d.contents r lanes pages) (map d.contents lanes)
     pages_held block below =
         let tag = tag_at r.fork block in
-        let x = there (pages_after d.contents r lanes pages) block below in
+        let x = there_at (pages_after d.contents r lanes pages) block below in
         let b = both_at block x.0 x.1 in
         has_page (lane_at (map d.contents lanes) tag) tag (get_or (pages_after d.contents r lanes pages) block [])
         (b.of.now ∙ lane_has block x.0 b ∙ ap (λ (p : Page). Some p) (sym (standing_or (pages_after d.contents r lanes pages) block x.0 [] x.1)))
@@ -223,7 +224,7 @@ module _ {L G : Type 0} (d : Devices L G) (m : Manager L G) (r : RelationFork) (
           let short = x.below in
           let same = blocks_are in
           let e_count = are.have.counted in
-          let p = there pages x.block (omega arith) in
+          let p = there_at pages x.block (omega arith) in
           let told = known_at x.block p.0 p.1 in
           let is = origin_at x.block p.0 p.1 in
           record {

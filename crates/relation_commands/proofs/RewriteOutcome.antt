@@ -21,7 +21,8 @@ use Rattle.page_jobs.specs.declared.ending.JobError.{JobError}
 use Rattle.page_jobs.specs.declared.ending.JobError.TheVariants as job
 use Rattle.page_jobs.specs.RewriteCloses.{ClosesEither, ClosesFull, ClosesRewritten, RewritesAndStores}
 use Rattle.page_jobs.specs.RewriteJobs.{EndsRewrite}
-use Rattle.page_jobs.proofs.Standing.{all_at, inside, there}
+use Rattle.table_rule.proofs.Opens.{length_low, there_at}
+use Rattle.backend_pass.proofs.Standing.{all_at}
 use Rattle.page_jobs.proofs.Starting.{is_origin}
 use Rattle.relation_commands.specs.declared.limits.PositionLimit.TheVariants.{OfLog}
 use Rattle.relation_commands.specs.declared.rewriting.RewriteError.{RewriteError}
@@ -64,8 +65,8 @@ module _ {L G : Type 0} {rounds : ℕ} (d : Devices L G) (m : Manager L G) (r : 
   nothing totals s = met_by_none zs (λ i z at.
       let long = s.alone.counted in
       let counted = s.alone.beside.counted in
-      let low = inside zs i z at in
-      let p = there ps i (omega arith) in
+      let low = length_low zs i z at in
+      let p = there_at ps i (omega arith) in
       s.whole.met i p.0 z p.1 at ∙ ap (λ (v : View). v.met) (started.passes.each i p.0 p.1).view)
 
   why_early : (e : RewriteError) (s : StoresRewrite d.contents m r.fork rounds ps zs (Err e)) → (e ≡ Memory) ⊎ SomePassMeets d.contents m zs e
@@ -89,8 +90,8 @@ module _ {L G : Type 0} {rounds : ℕ} (d : Devices L G) (m : Manager L G) (r : 
         let several = started.several.0 in
         let counted = s.alone.beside.counted in
         let long = s.alone.counted in
-        let q = there s.qs (length s.qs - 1) (omega arith) in
-        let z = there zs (length s.qs - 1) (omega arith) in
+        let q = there_at s.qs (length s.qs - 1) (omega arith) in
+        let z = there_at zs (length s.qs - 1) (omega arith) in
         record {
           alone = s.alone;
           all = s.whole.all;

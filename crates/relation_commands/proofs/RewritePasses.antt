@@ -1,30 +1,27 @@
 -- The passes of a rewrite, from their start to the close.
-use Rattle.std.proofs.Common.{◌≡◌, ℕ, zero, suc, ◌+◌, ◌-◌, ◌<◌, ◌≤◌, ◌⊎◌, List, [], ◌∷◌, append-nil, length, Option, refl, sym, ap, ◌∙◌, subst, inl, inr, ⊎_elim, arith}
+use Rattle.std.proofs.Common.{◌≡◌, ℕ, suc, ◌-◌, ◌<◌, ◌≤◌, ◌⊎◌, List, [], append-nil, length, Option, refl, sym, ap, ◌∙◌, subst, inl, inr, ⊎_elim, arith}
 use mathlib.Core.Logic.{dite}
-use mathlib.Core.Option.{some, some-injective, some-ne-none}
+use mathlib.Core.Option.{some, some-injective}
 use native.Mathlib.Decide.{dec_le}
 use lib.ListN.{get_elem?}
 use Rattle.block_tag.specs.declared.tag.Fork.{Fork}
 use Rattle.segment_store.specs.Contents.{Pages}
-use Rattle.pin_core.specs.declared.view.View.{View}
-use Rattle.pin_core.specs.State.{link}
-use Rattle.frame_table.specs.Seats.{base_of, frames_of, lanes_in, opened_of}
-use Rattle.frame_table.proofs.Resting.{new_rests}
+use Rattle.frame_table.specs.Seats.{base_of, lanes_in, opened_of}
 use Rattle.backend_pass.specs.declared.manager.Manager.{Manager}
 use Rattle.backend_pass.specs.Managers.{AreAll, AreNewPasses, Belongs}
-use Rattle.backend_pass.specs.Passes.{KeepsCallers, PassState, PassOwn}
+use Rattle.backend_pass.specs.Passes.{KeepsCallers, PassState}
 use Rattle.backend_pass.proofs.Keeping.{callers_none}
-use Rattle.checkpointer.specs.Stages.{HasNoLock}
-use Rattle.checkpointer.proofs.Keeping.{no_lock_after}
+use Rattle.backend_pass.specs.Between.{CanGoBack, HasNoLock, HasNoTokens}
+use Rattle.backend_pass.proofs.Between.{all_go_back, goes_back, new_unlocked, no_lock_kept}
 use Rattle.page_jobs.specs.Beside.{StaysBeside, WorksBeside}
 use Rattle.page_jobs.specs.Jobs.{HaveNoTokens, workers_in}
-use Rattle.page_jobs.specs.Reads.{HasNoTokens}
 use Rattle.page_jobs.specs.Relations.{MeetNothing}
 use Rattle.page_jobs.specs.RewriteCloses.{PutsNoMore, RewritesAlone}
 use Rattle.page_jobs.specs.RewriteJobs.{RewriteParts}
-use Rattle.page_jobs.proofs.Backends.{IsGiven, all_of, came_back, new_put_nothing, new_tore_nothing, puts_nothing}
+use Rattle.page_jobs.proofs.BesideWork.{free_at}
+use Rattle.page_jobs.proofs.Backends.{came_back, free_each, new_put_nothing, new_tore_nothing, puts_nothing}
 use Rattle.page_jobs.proofs.RewriteBackends.{each_given}
-use Rattle.page_jobs.proofs.Standing.{inside, there}
+use Rattle.table_rule.proofs.Opens.{length_low, there_at}
 use Rattle.relation_commands.specs.Checkpointing.{ChecksByLast, StoresAll}
 
 -- a pass that kept its calls put nothing more
@@ -32,21 +29,12 @@ puts_no_more : (q z : PassState) → z.view.calls ≡ q.view.calls → z.view.to
 puts_no_more q z same torn = record { more = []; calls = same ∙ sym (append-nil q.view.calls); reads = puts_nothing; torn = torn }
 
 module _ {L G : Type 0} (contents : L → Option Pages) (m : Manager L G) where
-  free_each : (ps : List PassState) → ((i : ℕ) (p : PassState) → get_elem? ps i ≡ some p → HasNoTokens contents m p) → HaveNoTokens contents m ps
-  free_each [] each = tt
-  free_each (p ∷ ps) each = (each 0 p refl, free_each ps (λ i. each (suc i)))
-
-  free_at : (ps : List PassState) (i : ℕ) (p : PassState) → HaveNoTokens contents m ps → get_elem? ps i ≡ some p → HasNoTokens contents m p
-  free_at [] i p free at = absurd (some-ne-none p (sym at))
-  free_at (x ∷ ps) zero p free at = subst (HasNoTokens contents m) (some-injective x p at) free.0
-  free_at (x ∷ ps) (suc i) p free at = free_at ps i p free.1 at
-
   -- each pass after a checkpoint by the last one
   pub after_check : (qs zs : List PassState) → ChecksByLast contents m qs zs → (i : ℕ) (q z : PassState) → get_elem? qs i ≡ some q → get_elem? zs i ≡ some z
       → (z ≡ q) ⊎ ((i ≡ length qs - 1) × Belongs contents m z × KeepsCallers q z)
   after_check qs zs checked i q z at now = dite (dec_le (suc i) (length qs - 1))
       (λ (below : suc i ≤ length qs - 1). inl (some-injective z q (sym now ∙ checked.others i below ∙ at)))
-      (λ above. let low = inside qs i q at in let last : i ≡ length qs - 1 = omega arith in
+      (λ above. let low = length_low qs i q at in let last : i ≡ length qs - 1 = omega arith in
       let x = checked.last q z (ap (λ (k : ℕ). get_elem? qs k) (sym last) ∙ at) (ap (λ (k : ℕ). get_elem? zs k) (sym last) ∙ now) in
       inr (last, x.0, x.1))
 
@@ -58,7 +46,7 @@ module _ {L G : Type 0} (contents : L → Option Pages) (m : Manager L G) where
     last = λ q z at now.
         let long = stays.counted in
         let of_ps : length qs - 1 ≡ length ps - 1 = omega arith in
-        let p = there ps (length ps - 1) (omega arith) in
+        let p = there_at ps (length ps - 1) (omega arith) in
         let w = stays.last p.0 q p.1 (ap (λ (k : ℕ). get_elem? qs k) (sym of_ps) ∙ at) in
         let same : q ≡ z = some-injective q z (sym at ∙ now) in
         (subst (Belongs contents m) same w.belongs, subst (KeepsCallers q) same (callers_none q));
@@ -71,19 +59,18 @@ module _ {L G : Type 0} (contents : L → Option Pages) (m : Manager L G) where
     last_unlocked q at =
         let long = stays.counted in
         let of_ps : length qs - 1 ≡ length ps - 1 = omega arith in
-        let p = there ps (length ps - 1) (omega arith) in
+        let p = there_at ps (length ps - 1) (omega arith) in
         let w = stays.last p.0 q p.1 (ap (λ (k : ℕ). get_elem? qs k) (sym of_ps) ∙ at) in
-        no_lock_after p.0 q w.callers (λ f. ap (λ (v : View). (link v f).content) (new.each (length ps - 1) p.0 p.1).view
-        ∙ ((new_rests (length ps - 1) (base_of m.table) (frames_of m.table) 128 (lanes_in m.table)).frames f).no_content)
+        no_lock_kept p.0 q w.callers.locks (new_unlocked contents m (length ps) (length ps - 1) p.0 (new.each (length ps - 1) p.0 p.1))
 
     -- the passes have no tokens
     pub are_free : HaveNoTokens contents m qs
-    are_free = free_each qs (λ i q at. let c = came_back contents m ps qs stays i q at in ⊎_elim
+    are_free = free_each contents m qs (λ i q at. let c = came_back contents m ps qs stays i q at in ⊎_elim
         (λ (w : WorksBeside contents m c.before q). let free : HasNoTokens contents m q = record { belongs = w.belongs; spent = w.callers.tokens ∙ (new.each i c.before c.at).tokens } in free)
         (λ (t : (get_elem? (workers_in ps) i ≡ some c.before) × (get_elem? (workers_in qs) i ≡ some q)).
-        let below = inside (workers_in ps) i c.before t.0 in
+        let below = length_low (workers_in ps) i c.before t.0 in
         let listed = parts.listed in
-        let did = there parts.claimed i (omega arith) in
+        let did = there_at parts.claimed i (omega arith) in
         let x = parts.each i c.before q did.0 t.0 t.1 did.1 in
         let free : HasNoTokens contents m q = record { belongs = x.blocks.goes.belongs; spent = x.blocks.spent } in
         free)
@@ -91,7 +78,7 @@ module _ {L G : Type 0} (contents : L → Option Pages) (m : Manager L G) where
 
     -- and have seen the log's beginning
     pub all_seen_after : (i : ℕ) (q : PassState) → get_elem? qs i ≡ some q → base_of m.table ≤ q.view.end_seen
-    all_seen_after i q at = (free_at qs i q are_free at).belongs.seen
+    all_seen_after i q at = (free_at contents m qs i q are_free at).belongs.seen
 
     pub all_seen : (i : ℕ) (p : PassState) → get_elem? ps i ≡ some p → base_of m.table ≤ p.view.end_seen
     all_seen i p at = (new.each i p at).belongs.seen
@@ -101,32 +88,19 @@ module _ {L G : Type 0} (contents : L → Option Pages) (m : Manager L G) where
       as_many = checked.counted ∙ stays.counted
 
       before_check : (i : ℕ) (z : PassState) → get_elem? zs i ≡ some z → (q : PassState) × (get_elem? qs i ≡ some q)
-      before_check i z at = there qs i (let low = inside zs i z at in let long = checked.counted in omega arith)
+      before_check i z at = there_at qs i (let low = length_low zs i z at in let long = checked.counted in omega arith)
 
-      checked_given : (i : ℕ) (q z : PassState) → IsGiven contents m fork (length ps) i q → Belongs contents m z → KeepsCallers q z → IsGiven contents m fork (length ps) i z
-      checked_given i q z h belongs keeps = record {
-        table = keeps.keeps.table ∙ h.table;
-        spent = keeps.tokens ∙ h.spent;
-        front = belongs.front;
-        number = keeps.keeps.number ∙ h.number;
-        next = λ first. keeps.keeps.next ∙ h.next first;
-        joined = keeps.keeps.joined ∙ h.joined;
-        queue = belongs.queue;
-        rest = λ first. ap (λ (x : PassOwn). x.queue.known.parts + length ps) keeps.keeps.own ∙ h.rest first;
-        part = λ other. ap (λ (x : PassOwn). x.queue.known.parts) keeps.keeps.own ∙ h.part other;
-      }
-
-      given_at : (i : ℕ) (z : PassState) → get_elem? zs i ≡ some z → IsGiven contents m fork (length ps) i z
+      given_at : (i : ℕ) (z : PassState) → get_elem? zs i ≡ some z → CanGoBack contents m (length ps) i z
       given_at i z at =
           let q = before_check i z at in
           let h = each_given contents m fork (length ps) ps qs new several 0 parts stays i q.0 q.1 in ⊎_elim
-          (λ (same : z ≡ q.0). subst (IsGiven contents m fork (length ps) i) (sym same) h)
-          (λ (x : (i ≡ length qs - 1) × Belongs contents m z × KeepsCallers q.0 z). checked_given i q.0 z h x.1 x.2)
+          (λ (same : z ≡ q.0). subst (CanGoBack contents m (length ps) i) (sym same) h)
+          (λ (x : (i ≡ length qs - 1) × Belongs contents m z × KeepsCallers q.0 z). goes_back contents m (length ps) i q.0 z h x.2.keeps x.1 (x.2.tokens ∙ h.free.spent))
           (after_check qs zs checked i q.0 z q.1 at)
 
       -- all can be given back
       pub all_given : AreAll m zs
-      all_given = all_of contents m fork (length ps) zs (omega arith) as_many given_at
+      all_given = all_go_back contents m (length ps) zs (omega arith) as_many given_at
 
       -- and none put a page besides
       pub alone : length (opened_of m.table) ≡ lanes_in m.table → RewritesAlone contents m 0 fork ps qs zs

@@ -15,7 +15,8 @@ use Rattle.pin_core.specs.State.{Page}
 use Rattle.history_core.specs.Log.{AreChained, head_bytes, log_bytes, records}
 use Rattle.history_core.specs.State.{last_position}
 use Rattle.history_core.proofs.Logs.{end_none}
-use Rattle.page_jobs.proofs.Standing.{found, inside, standing_or, there}
+use Rattle.table_rule.proofs.Opens.{length_low, there_at}
+use Rattle.backend_pass.proofs.Standing.{found, standing_or}
 use Rattle.relation_commands.specs.declared.rewriting.RewriteError.TheVariants.{Memory}
 use Rattle.relation_commands.specs.declared.starting.RelationFork.{RelationFork}
 use Rattle.relation_commands.specs.RewriteResults.{LeavesEither}
@@ -44,25 +45,25 @@ module _ {L G : Type 0} (contents : L → Option Pages) (failed : L → Marks) (
         let here : 0 + block ≡ block = omega arith in
         let is : x.0 ≡ old = some-injective x.0 old (sym x.1 ∙ was) in
         let has : page_in (map contents lanes) (tag_at r.fork block) ≡ Some old =
-        page_of (lane_at (map contents lanes) (tag_at r.fork block)) (tag_at r.fork block) (get_or pages block []) (are.have.held block (inside pages block old was))
+        page_of (lane_at (map contents lanes) (tag_at r.fork block)) (tag_at r.fork block) (get_or pages block []) (are.have.held block (length_low pages block old was))
         ∙ ap (λ (p : Page). Some p) (standing_or pages block old [] was) in
         x.2 ∙ ap (λ (n : ℕ). unwrap_or (page_in (map contents lanes) (tag_at r.fork n)) x.0) here ∙ ap (λ (p : Option Page). unwrap_or p x.0) has
 
     still_held : HoldPages r.fork (pages_after contents r lanes pages) (map contents lanes)
     still_held block below =
         let after = pages_after contents r lanes pages in
-        let x = there after block below in
+        let x = there_at after block below in
         let old = page_at r.fork (map contents lanes) 0 pages block x.0 x.1 in
         let kept : get_or pages block [] ≡ get_or after block [] =
         standing_or pages block old.0 [] old.1
         ∙ sym (standing_or after block x.0 [] x.1 ∙ same block old.0 x.0 old.1 x.1) in
         subst (λ (page : Page). HasPage (tag_at r.fork block) page (map contents lanes)) kept
-        (are.have.held block (inside pages block old.0 old.1))
+        (are.have.held block (length_low pages block old.0 old.1))
 
     was_long : (block : ℕ) (old : Page) → get_elem? pages block ≡ some old → length old ≡ 8192
     was_long block old was =
         let tag = tag_at r.fork block in
-        let l = found contents (λ known. known tag ≡ Some (get_or pages block [])) lanes (lane_number tag (length (map contents lanes))) (are.have.held block (inside pages block old was)) in
+        let l = found contents (λ known. known tag ≡ Some (get_or pages block [])) lanes (lane_number tag (length (map contents lanes))) (are.have.held block (length_low pages block old was)) in
         let all : AreFullPages l.2.0 = subst (λ (p : Option Pages). IfSome p AreFullPages) l.2.1 (whole l.0) in
         let long : length (get_or pages block []) ≡ 8192 = subst (λ (p : Option Page). IfSome p (λ page. length page ≡ 8192)) l.2.2 (all tag) in
         ap length (sym (standing_or pages block old [] was)) ∙ long

@@ -33,7 +33,7 @@ use Rattle.page_jobs.specs.RewriteCloses.{HoldEither, HoldRewritten}
 use Rattle.page_jobs.specs.RewriteEnds.{HasEntry, change_weight}
 use Rattle.page_jobs.specs.RewriteEnds as ends
 use Rattle.page_jobs.proofs.Counted.{some_write_failed}
-use Rattle.page_jobs.proofs.Standing.{inside, there}
+use Rattle.table_rule.proofs.Opens.{length_low, there_at}
 use Rattle.relation_commands.specs.declared.starting.RelationFork.{RelationFork}
 use Rattle.relation_commands.specs.RewriteResults.{HasDurableEntry, IsRewrittenFile}
 use Rattle.relation_commands.specs.RewriteTexts.{changed_pages}
@@ -84,7 +84,7 @@ module _ {L G : Type 0} (d : Devices L G) (m : Manager L G) (r : RelationFork) (
     pub unfailed : (block : ℕ) → block < r.blocks → failed_after d.failed_writes r lanes block ≡ false
     unfailed block below =
         let count = are.have.counted in
-        let p = there pages block (omega arith) in
+        let p = there_at pages block (omega arith) in
         let x = in_lanes d m r base ps zs started few lanes log c pages are block p.0 p.1 in
         x.marked ∙ none x
       where
@@ -121,7 +121,7 @@ module _ {L G : Type 0} (d : Devices L G) (m : Manager L G) (r : RelationFork) (
       changed_at : (block : ℕ) (old new : Page) → get_elem? pages block ≡ some old → get_elem? (pages_after d.contents r lanes pages) block ≡ some new → (rule_at r).changes old ≡ true
           → HasDurableEntry (rule_at r) c.state.log (file_at d.synced log known) block old new
       changed_at block old new was at changes =
-          let low : block < r.blocks = let i = inside pages block old was in let e = are.have.counted in omega arith in
+          let low : block < r.blocks = let i = length_low pages block old was in let e = are.have.counted in omega arith in
           let ok = unfailed block low in
           let x = in_lanes d m r base ps zs started few lanes log c pages are block old was in
           let y = hold.changed block (tag_at r.fork block) x.before x.after x.closed old (let e = started.catalog.counted in omega arith) x.is x.was changes in
@@ -155,7 +155,7 @@ module _ {L G : Type 0} (d : Devices L G) (m : Manager L G) (r : RelationFork) (
       same_at : (block : ℕ) (old new : Page) → get_elem? pages block ≡ some old → get_elem? (pages_after d.contents r lanes pages) block ≡ some new → (rule_at r).changes old ≡ false
           → (HasEntry c.state.log ((rule_at r).tag block) → ⊥) × (new ≡ old)
       same_at block old new was at changes =
-          let low : block < r.blocks = let i = inside pages block old was in let e = are.have.counted in omega arith in
+          let low : block < r.blocks = let i = length_low pages block old was in let e = are.have.counted in omega arith in
           let x = in_lanes d m r base ps zs started few lanes log c pages are block old was in
           let no : HasEntry c.state.log ((rule_at r).tag block) → ⊥ = hold.same block (tag_at r.fork block) x.before x.after x.closed old (let e = started.catalog.counted in omega arith) x.is x.was changes in (
             no,

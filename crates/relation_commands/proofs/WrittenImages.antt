@@ -11,7 +11,7 @@ use Rattle.history_core.specs.Log.{IsImage, Log, LogLaw, end_of, log_end}
 use Rattle.history_core.specs.State.{last_position}
 use Rattle.history_core.proofs.Logs.{chain_below}
 use Rattle.log_recovery.specs.Laws.{AreWritten, IsListed}
-use Rattle.page_jobs.proofs.Standing.{inside}
+use Rattle.table_rule.proofs.Opens.{length_low}
 use Rattle.relation_commands.specs.RecoverFiles.{catalog_of, word_at}
 use Rattle.relation_commands.specs.RewriteFiles.{main_rule}
 use Rattle.relation_commands.specs.RewriteResults.{HasImages}
@@ -40,7 +40,7 @@ pub images_written : (path : List ℕ) (before : List Page) (log : Log) → LogL
     → AreWritten (catalog_of path) log.entries
 images_written path before log law images low few k e at =
     let i = images.each k e at in
-    let below = inside before i.block i.page i.there in
+    let below = length_low before i.block i.page i.there in
     record {
       word = word_at i.block;
       page = main_rule.rewritten i.page (end_of e);

@@ -22,7 +22,16 @@ listing_error job.Memory = Memory
 
 -- the totals of a scan among those of a job
 abbrev pub scan_totals_in : Totals → ScanTotals
-scan_totals_in t = record { blocks = t.blocks; used = t.used; new = t.new; invalid = t.invalid; normal = t.normal; redirect = t.redirect; dead = t.dead; unused = t.unused }
+scan_totals_in t = record {
+  blocks = t.blocks;
+  used = t.used;
+  new = t.new;
+  invalid = t.invalid;
+  normal = t.normal;
+  redirect = t.redirect;
+  dead = t.dead;
+  unused = t.unused;
+}
 
 abbrev pub listing_end : Result Totals JobError → Result ScanTotals ListingError
 listing_end (Ok totals) = Ok (scan_totals_in totals)

@@ -68,7 +68,11 @@ pages_at r paths = relation_of r.options.seg_blocks (paths r.path)
 
 -- the main fork of the relation, as the manager and the log name it
 abbrev pub fork_at : LoggedAsked → Paths → RelationFork
-fork_at r paths = record { number = unwrap_or (relation_number r.path) 0; fork = Main; blocks = length (pages_at r paths) }
+fork_at r paths = record {
+  number = unwrap_or (relation_number r.path) 0;
+  fork = Main;
+  blocks = length (pages_at r paths);
+}
 
 abbrev pub main_rule : Rule
 main_rule = rule_of 0 Main

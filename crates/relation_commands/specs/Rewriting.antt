@@ -49,7 +49,15 @@ checkpoint_error (checkpoint.SyncFault lane) = WriteFault
 
 -- the totals of a rewrite among those of a job
 abbrev pub rewrite_totals_in : Totals → RewriteTotals
-rewrite_totals_in t = record { blocks = t.blocks; changed = t.changed; same = t.same; skipped = t.skipped; new = t.new; invalid = t.invalid; dead = t.dead }
+rewrite_totals_in t = record {
+  blocks = t.blocks;
+  changed = t.changed;
+  same = t.same;
+  skipped = t.skipped;
+  new = t.new;
+  invalid = t.invalid;
+  dead = t.dead;
+}
 
 -- a fault is one of the lanes, which had none at first, or of the log; a position is past the log's
 -- end, or a record would pass the last position

@@ -13,7 +13,12 @@ use Rattle.relation_commands.specs.declared.starting.RelationFork.{RelationFork}
 
 -- the relation in the catalogue: no other fork of it has blocks
 abbrev pub relation_entry : RelationFork → RelEntry
-relation_entry r = record { tablespace = 0; database = 0; relation = r.number; blocks = slice_set (replicate 4 0) (fork_number r.fork) r.blocks }
+relation_entry r = record {
+  tablespace = 0;
+  database = 0;
+  relation = r.number;
+  blocks = slice_set (replicate 4 0) (fork_number r.fork) r.blocks;
+}
 
 -- how the log names its blocks
 abbrev pub names_of : RelationFork → ℕ → List ℕ

@@ -3,7 +3,7 @@
 //! A listing has a manager of its own. Its catalogue has one relation: tablespace and database 0,
 //! the number in PATH, and blocks in PATH's fork. It has a pass for each backend and one besides,
 //! and a log in memory that begins at 0 with room for its head alone.
-ghost use Rattle.std.specs.Prelude.{◌≡◌, ◌≤◌, ◌%◌, ◌^◌, List, Ok, IfOk, IfErr, OnOk, All, length};
+ghost use Rattle.std.specs.Prelude.{◌≡◌, ◌≤◌, ◌%◌, List, Ok, IfOk, IfErr, OnOk, All, length};
 ghost use Rattle.std.specs.Prelude.{map, sum_by, vec_len};
 ghost use Rattle.byte_devices.specs.Bytes.{Puts};
 ghost use Rattle.segment_store.specs.Contents.{no_marks};
@@ -17,6 +17,7 @@ ghost use Rattle.page_jobs.specs.Jobs.{AllAtBase, EndsJob, HaveNoTokens, IsOrigi
 ghost use Rattle.page_jobs.specs.Jobs.{workers_in};
 ghost use Rattle.page_jobs.specs.Relations.{IsCatalogOf, MeetNothing};
 ghost use Rattle.page_layout.specs.Scan.{totals_of};
+ghost use Rattle.history_core.specs.State.{last_position};
 ghost use Rattle.relation_commands.specs.Causes.{HasListingCause, listing_end, listing_error};
 ghost use Rattle.relation_commands.specs.Causes.{scan_totals_in};
 ghost use Rattle.relation_commands.specs.Listings.{LeavesLanes, text_of};
@@ -129,9 +130,11 @@ fn list_blocks<L: BlockLane + Send, R: Threads + Wait + Sync, O: Sink + Send, T:
     ensures beside { OnOk result.end (LastDid
         (λ p q. MakesRounds L.contents manager.now listed.rounds p q (Ok tt))
         passes.items result.passes.items) }
-    ensures text { (pages : List Page) → IsOrigin L.contents manager.now 0 listed.relation.fork pages → AllAtBase (base_of manager.now.table) (workers_in result.passes.items)
+    ensures text { (pages : List Page) → IsOrigin L.contents manager.now 0 listed.relation.fork
+        pages → AllAtBase (base_of manager.now.table) (workers_in result.passes.items)
         → Puts (text_of listed.listing pages) (O.bytes out.old) (O.bytes out.new) (as_done result.end) }
-    ensures totals { (pages : List Page) → IsOrigin L.contents manager.now 0 listed.relation.fork pages → AllAtBase (base_of manager.now.table) (workers_in result.passes.items)
+    ensures totals { (pages : List Page) → IsOrigin L.contents manager.now 0 listed.relation.fork
+        pages → AllAtBase (base_of manager.now.table) (workers_in result.passes.items)
         → IfOk result.end (λ totals. scan_totals_in totals ≡ totals_of pages) }
     ensures quiet { OnOk result.end (O.faults out.new ≡ O.faults out.old) }
     ensures later { O.faults out.old ≤ O.faults out.new }
@@ -165,9 +168,11 @@ fn list_and_close<L: BlockLane + Send, R: Threads + Wait + Sync, O: Sink + Send,
         listed.relation.blocks (opened_of manager.table) result.lanes.items }
     ensures cause { HasListingCause 0 (sum_by L.read_faults result.lanes.items) (O.faults out.old)
         (O.faults out.new) result.end }
-    ensures text { (pages : List Page) → HoldPages listed.relation.fork pages (map L.contents (opened_of manager.table)) → listed.relation.blocks ≡ length pages
+    ensures text { (pages : List Page) → HoldPages listed.relation.fork pages
+        (map L.contents (opened_of manager.table)) → listed.relation.blocks ≡ length pages
         → Puts (text_of listed.listing pages) (O.bytes out.old) (O.bytes out.new) (as_done result.end) }
-    ensures totals { (pages : List Page) → HoldPages listed.relation.fork pages (map L.contents (opened_of manager.table)) → listed.relation.blocks ≡ length pages
+    ensures totals { (pages : List Page) → HoldPages listed.relation.fork pages
+        (map L.contents (opened_of manager.table)) → listed.relation.blocks ≡ length pages
         → IfOk result.end (λ totals. totals ≡ totals_of pages) }
 {
     let JobEnd { passes, end } = list_blocks(&manager, rt, alloc, passes, listed, out, gate);
@@ -196,15 +201,17 @@ pub(crate) fn list<L: BlockLane + Send, R: Threads + Wait + Sync, O: Sink + Send
     requires unmarked { All (λ lane. L.failed_writes lane ≡ no_marks) lanes.items }
     requires has { HasBlocks listed.relation.fork listed.relation.blocks
         (map L.contents lanes.items) }
-    requires base { (listed.base % 8 ≡ 0) × (listed.base ≤ 2 ^ 62) }
+    requires base { (listed.base % 8 ≡ 0) × (listed.base ≤ last_position) }
     ensures count { length result.lanes.items ≡ length lanes.items }
     ensures leaves { LeavesLanes L.contents L.failed_writes L.write_faults listed.relation.fork
         listed.relation.blocks lanes.items result.lanes.items }
     ensures cause { HasListingCause 0 (sum_by L.read_faults result.lanes.items) (O.faults out.old)
         (O.faults out.new) result.end }
-    ensures text { (pages : List Page) → HoldPages listed.relation.fork pages (map L.contents lanes.items) → listed.relation.blocks ≡ length pages
+    ensures text { (pages : List Page) → HoldPages listed.relation.fork pages
+        (map L.contents lanes.items) → listed.relation.blocks ≡ length pages
         → Puts (text_of listed.listing pages) (O.bytes out.old) (O.bytes out.new) (as_done result.end) }
-    ensures totals { (pages : List Page) → HoldPages listed.relation.fork pages (map L.contents lanes.items) → listed.relation.blocks ≡ length pages
+    ensures totals { (pages : List Page) → HoldPages listed.relation.fork pages
+        (map L.contents lanes.items) → listed.relation.blocks ≡ length pages
         → IfOk result.end (λ totals. totals ≡ totals_of pages) }
 {
     // A listing appends no record.

@@ -26,6 +26,8 @@ ghost use Rattle.relation_commands.specs.RewriteFiles.{files_in, pages_at};
 ghost use Rattle.relation_commands.specs.RewriteTexts.{rewrite_lines, rewrite_text};
 ghost use Rattle.relation_commands.specs.Rewriting.{HavePages};
 ghost use Rattle.page_layout.specs.Outcomes.{rewrite_totals_of};
+ghost use Rattle.history_core.specs.Log.{record_size};
+ghost use Rattle.history_core.specs.State.{last_position};
 ghost use Rattle.relation_commands.specs.Status.{log_error, status_of, status_of_error};
 
 use crate::error::{ToolError, crowding_in};
@@ -88,7 +90,7 @@ pub(crate) fn survey_base<L: BlockLane>(
         lanes.old lanes.new }
     ensures quiet { OnOk result (sum_by L.read_faults lanes.new ≡ 0) }
     ensures within { IfOk result
-        (λ base. (base % 8 ≡ 0) × (base + 8224 * relation.blocks ≤ 2 ^ 62)) }
+        (λ base. (base % 8 ≡ 0) × (base + record_size * relation.blocks ≤ last_position)) }
     ensures base { IfOk result
         (λ base. (pages : List Page) → HavePages L.contents relation lanes.old pages
         → base ≡ log_base pages) }
@@ -187,7 +189,8 @@ fn rewrite_and_give_back<H: Host, R: Threads + Wait + Sync, T: Gate + Sync>(
     requires surveyed { AreSurveyed H.Lane.contents H.Lane.failed_writes H.Lane.read_faults
         H.Lane.write_faults (H.contents host.old) (rewrite_asked request.now) relation
         base lanes.items }
-    ensures cause { HasFaultOf (counts (H.read_faults host.old) (H.write_faults host.old) (H.log_faults host.old) 0)
+    ensures cause { HasFaultOf (counts (H.read_faults host.old) (H.write_faults host.old)
+        (H.log_faults host.old) 0)
         (counts (H.read_faults host.new) (H.write_faults host.new) (H.log_faults host.new) 0) result }
     ensures limit { IfErr result
         (MeetsLimit (option_map (pages_at (rewrite_asked request.now)) (H.contents host.old))) }
@@ -222,7 +225,7 @@ fn put_totals<O: Sink>(
     base: Lsn,
     out: &mut O,
 ) -> Result<(), RewriteError>
-    ensures text { base + 8224 * totals.now.changed < 2 ^ 64
+    ensures text { base + record_size * totals.now.changed < 2 ^ 64
         → Puts (rewrite_lines totals.now base (base + 8224 * totals.now.changed)) (O.bytes out.old)
         (O.bytes out.new) result }
     ensures later { O.faults out.old ≤ O.faults out.new }
@@ -257,7 +260,8 @@ fn rewrite_surveyed<H: Host, R: Threads + Wait + Sync, O: Sink, T: Gate + Sync>(
     requires surveyed { AreSurveyed H.Lane.contents H.Lane.failed_writes H.Lane.read_faults
         H.Lane.write_faults (H.contents host.old) (rewrite_asked request.now) relation
         base lanes.items }
-    ensures cause { HasFaultOf (counts (H.read_faults host.old) (H.write_faults host.old) (H.log_faults host.old) (O.faults out.old))
+    ensures cause { HasFaultOf (counts (H.read_faults host.old) (H.write_faults host.old)
+        (H.log_faults host.old) (O.faults out.old))
         (counts (H.read_faults host.new) (H.write_faults host.new) (H.log_faults host.new) (O.faults out.new)) result }
     ensures limit { StaysBelowLimit
         (option_map (pages_at (rewrite_asked request.now)) (H.contents host.old)) result }
@@ -296,7 +300,8 @@ fn rewrite_opened<H: Host, R: Threads + Wait + Sync, O: Sink, G: Gate + Sync>(
         (H.room host.old request.now.path.now request.now.options.seg_blocks) request.now.path.now
         (fork_of request.now.path.now) request.now.options.seg_blocks
         request.now.options.lanes opened }
-    ensures cause { HasFaultOf (counts (H.read_faults host.old) (H.write_faults host.old) (H.log_faults host.old) (O.faults out.old))
+    ensures cause { HasFaultOf (counts (H.read_faults host.old) (H.write_faults host.old)
+        (H.log_faults host.old) (O.faults out.old))
         (counts (H.read_faults host.new) (H.write_faults host.new) (H.log_faults host.new) (O.faults out.new)) result }
     ensures limit { StaysBelowLimit
         (option_map (pages_at (rewrite_asked request.now)) (H.contents host.old)) result }
@@ -335,9 +340,11 @@ pub fn rewrite_relation<'a, H: Host, R: Threads + Wait + Sync, O: Sink, G: Gate 
     gate: &G,
 ) -> Result<(), ToolError<'a>>
     requires range { HasOptionsInRange request.now.options }
-    ensures later { CountsLater (counts (H.read_faults host.old) (H.write_faults host.old) (H.log_faults host.old) (O.faults out.old))
+    ensures later { CountsLater (counts (H.read_faults host.old) (H.write_faults host.old)
+        (H.log_faults host.old) (O.faults out.old))
         (counts (H.read_faults host.new) (H.write_faults host.new) (H.log_faults host.new) (O.faults out.new)) }
-    ensures ends { EndsCommand (asked (Request.Rewrite request.now)) (H.contents host.old) (H.logs host.old)
+    ensures ends { EndsCommand (asked (Request.Rewrite request.now)) (H.contents host.old)
+        (H.logs host.old)
         (counts (H.read_faults host.old) (H.write_faults host.old) (H.log_faults host.old) (O.faults out.old))
         (counts (H.read_faults host.new) (H.write_faults host.new) (H.log_faults host.new) (O.faults out.new)) result }
     ensures files { let files = files_in H.contents H.failed_writes H.logs

@@ -1,17 +1,19 @@
 //! The blocks of a relation that is open are rewritten by the backends of a buffer manager.
-ghost use Rattle.std.specs.Prelude.{◌≡◌, ◌≤◌, ◌<◌, ◌*◌, ◌+◌, ◌-◌, ◌%◌, ◌^◌, All, IfErr, OnOk};
+ghost use Rattle.std.specs.Prelude.{◌≡◌, ◌≤◌, ◌<◌, ◌*◌, ◌+◌, ◌-◌, ◌%◌, All, IfErr, OnOk};
 ghost use Rattle.std.specs.Prelude.{length, map, sum_by, vec_len};
 ghost use mathlib.Core.Option.{some};
 ghost use lib.ListN.{get_elem?};
 ghost use Rattle.segment_store.specs.Contents.{no_marks};
 ghost use Rattle.segment_store.specs.Lanes.{HasBlocks};
+ghost use Rattle.history_core.specs.Log.{record_size};
+ghost use Rattle.history_core.specs.State.{last_position};
 ghost use Rattle.table_rule.specs.Shows.{IsNewLog, devices};
 ghost use Rattle.command_line.specs.Numbers.{HasOptionsInRange};
 ghost use Rattle.frame_table.specs.Seats.{base_of, lanes_in, opened_of};
 ghost use Rattle.backend_pass.specs.Closing.{EachPass};
 ghost use Rattle.backend_pass.specs.Managers.{Belongs};
 ghost use Rattle.backend_pass.specs.Passes.{KeepsCallers, PassState};
-ghost use Rattle.checkpointer.specs.Stages.{HasNoLock};
+ghost use Rattle.backend_pass.specs.Between.{HasNoLock};
 ghost use Rattle.page_jobs.specs.Jobs.{HaveNoTokens};
 ghost use Rattle.relation_commands.specs.Checkpointing.{ChecksByLast, LastMeets, PassMeets};
 ghost use Rattle.relation_commands.specs.Checkpointing.{StoresAll, StoresRewrite, SweepsPast};
@@ -251,7 +253,7 @@ fn rewrite_and_close<
     gate: &T,
 ) -> RewriteEnd<L, G>
     requires started { IsStarted L.contents relation (base_of manager.table) manager passes.items }
-    requires room { base_of manager.table + 8224 * relation.blocks ≤ 2 ^ 62 }
+    requires room { base_of manager.table + record_size * relation.blocks ≤ last_position }
     requires reads { sum_by L.read_faults (opened_of manager.table) ≡ 0 }
     requires writes { sum_by L.write_faults (opened_of manager.table) ≡ 0 }
     requires logs { G.faults (log_of manager) ≡ 0 }
@@ -295,7 +297,7 @@ pub(crate) fn rewrite_lanes<
     requires writes { sum_by L.write_faults lanes.items ≡ 0 }
     requires unmarked { All (λ lane. L.failed_writes lane ≡ no_marks) lanes.items }
     requires has { HasBlocks relation.fork relation.blocks (map L.contents lanes.items) }
-    requires base { (base % 8 ≡ 0) × (base + 8224 * relation.blocks ≤ 2 ^ 62) }
+    requires base { (base % 8 ≡ 0) × (base + record_size * relation.blocks ≤ last_position) }
     requires log { IsNewLog (devices L.BlockLane G.LogDevice) base log }
     requires log_faults { G.faults log ≡ 0 }
     ensures count { length result.lanes.items ≡ length lanes.items }

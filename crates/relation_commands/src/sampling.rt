@@ -4,12 +4,13 @@
 //! a rewrite with its checkpoint, and a second scan. Each has a log in memory with room for a
 //! record of each block in the rewrite. The plans of the lanes (`SampleLane`) name no call that
 //! fails, so a sample meets no fault but that of the output. Its lines are put at once.
-ghost use Rattle.std.specs.Prelude.{◌≡◌, ◌≢◌, ◌≤◌, ◌%◌, ◌^◌, List, IfErr, IfOk, OnOk, length};
+ghost use Rattle.std.specs.Prelude.{◌≡◌, ◌≢◌, ◌≤◌, ◌%◌, List, IfErr, IfOk, OnOk, length};
 ghost use Rattle.std.specs.Prelude.{sum_by};
 ghost use Rattle.command_line.specs.Numbers.{HasOptionsInRange};
 ghost use Rattle.byte_devices.specs.Bytes.{Puts};
 ghost use Rattle.page_layout.specs.Scan.{totals_of};
 ghost use Rattle.pin_core.specs.State.{Page};
+ghost use Rattle.history_core.specs.State.{last_position};
 ghost use Rattle.relation_commands.specs.Crowded.{IsCrowded};
 ghost use Rattle.relation_commands.specs.RewriteCommand.{IsPutRefusal};
 ghost use Rattle.relation_commands.specs.Rewriting.{HavePages};
@@ -88,7 +89,7 @@ fn scan_lanes<L: BlockLane + Send + Drop, R: Threads + Wait + Sync, G: Gate + Sy
     requires told { AreTold L.contents L.failed_writes L.read_faults }
     requires writes { sum_by L.write_faults lanes.items ≡ 0 }
     requires all { HaveAll L.contents relation lanes.items }
-    requires base { (base % 8 ≡ 0) × (base ≤ 2 ^ 62) }
+    requires base { (base % 8 ≡ 0) × (base ≤ last_position) }
     ensures count { IfOk result (λ scanned. length scanned.lanes.items ≡ length lanes.items) }
     ensures pages { IfOk result (λ scanned. (pages : List Page)
         → HavePages L.contents relation lanes.items pages
@@ -132,7 +133,7 @@ fn rewrite_sample<L: BlockLane + Send + Drop, R: Threads + Wait + Sync, G: Gate 
         → IsSampleRewritten L.contents relation pages rewritten) }
     ensures writes { IfOk result (λ rewritten. sum_by L.write_faults rewritten.lanes.items ≡ 0) }
     ensures end { IfOk result (λ rewritten. (rewritten.log.end % 8 ≡ 0)
-        × (rewritten.log.end ≤ 2 ^ 62)) }
+        × (rewritten.log.end ≤ last_position)) }
 {
     all_positions();
     let Ok(base) = survey_base(alloc, relation, &mut lanes) else {

@@ -1,5 +1,5 @@
 //! A buffer manager of the blocks of one relation's fork.
-ghost use Rattle.std.specs.Prelude.{◌≡◌, ◌≤◌, ◌+◌, ◌%◌, ◌^◌, [], ◌∷◌, All, IfErr, IfOk, length};
+ghost use Rattle.std.specs.Prelude.{◌≡◌, ◌≤◌, ◌+◌, ◌%◌, [], ◌∷◌, All, IfErr, IfOk, length};
 ghost use Rattle.std.specs.Prelude.{map};
 ghost use Rattle.segment_store.specs.Contents.{no_marks};
 ghost use Rattle.segment_store.specs.Lanes.{HasBlocks};
@@ -7,6 +7,7 @@ ghost use Rattle.table_rule.specs.Shows.{IsNewLog, devices};
 ghost use Rattle.command_line.specs.Numbers.{HasOptionsInRange};
 ghost use Rattle.frame_table.specs.Seats.{frames_of, opened_of};
 ghost use Rattle.history_core.specs.Log.{head_bytes};
+ghost use Rattle.history_core.specs.State.{last_position};
 ghost use Rattle.page_jobs.specs.Relations.{IsCatalogOf};
 ghost use Rattle.relation_commands.specs.Starting.{IsStarted, log_of, relation_entry};
 
@@ -81,7 +82,7 @@ pub(crate) fn start<L: BlockLane + Send, G: LogDevice>(
     requires count { length lanes.items ≡ options.now.lanes }
     requires unmarked { All (λ lane. L.failed_writes lane ≡ no_marks) lanes.items }
     requires has { HasBlocks relation.fork relation.blocks (map L.contents lanes.items) }
-    requires base { (base % 8 ≡ 0) × (base ≤ 2 ^ 62) }
+    requires base { (base % 8 ≡ 0) × (base ≤ last_position) }
     requires log { IsNewLog (devices L.BlockLane G.LogDevice) base log }
     ensures started { IfOk result (λ m. IsStarted L.contents relation base m.0 m.1.items) }
     ensures opened { IfOk result (λ m. (opened_of m.0.table ≡ lanes.items) × (log_of m.0 ≡ log)) }

@@ -1,19 +1,18 @@
 -- The passes of a manager of two, after a rewrite and a checkpoint.
-use Rattle.std.proofs.Common.{◌≡◌, ◌<◌, ◌+◌, ◌∙◌, ℕ, List, [], ◌∷◌, ◌++◌, length, Bool, true, false, if◌then◌else◌, nat_eq, Option, refl, sym, ap, subst, arith}
-use mathlib.Core.Option.{some}
+use Rattle.std.proofs.Common.{◌≡◌, ◌<◌, ◌∙◌, ℕ, zero, suc, List, [], ◌∷◌, ◌++◌, length, Option, refl, sym, ap, subst, arith}
+use mathlib.Core.Option.{some, some-injective, some-ne-none}
 use lib.ListN.{get_elem?}
+use Rattle.block_tag.specs.declared.tag.Fork.{Fork}
 use Rattle.segment_store.specs.Contents.{Pages}
-use Rattle.pin_core.specs.declared.view.Link.{Link}
-use Rattle.pin_core.specs.declared.view.View.{View}
-use Rattle.pin_core.specs.State.{link}
-use Rattle.pin_core.proofs.Views.{link_new}
-use Rattle.frame_table.specs.Seats.{base_of, frames_of, lanes_in}
 use Rattle.backend_pass.specs.declared.manager.Manager.{Manager}
-use Rattle.backend_pass.specs.Managers.{AreAll, AreNewPasses, Belongs, IsNewPass, first_in, is_first}
-use Rattle.grid.specs.Shape.{total}
-use Rattle.backend_pass.specs.Passes.{KeepsCallers, PassOwn, PassState}
-use Rattle.checkpointer.specs.Stages.{HasNoLock}
+use Rattle.backend_pass.specs.Managers.{AreAll, AreNewPasses, Belongs}
+use Rattle.backend_pass.specs.Passes.{KeepsCallers, PassState}
+use Rattle.backend_pass.specs.Between.{CanGoBack, HasNoLock}
+use Rattle.backend_pass.proofs.Between.{all_go_back, goes_back, new_unlocked}
 use Rattle.page_jobs.specs.Beside.{StaysBeside, WorksBeside}
+use Rattle.page_jobs.specs.Jobs.{workers_in}
+use Rattle.page_jobs.specs.RewriteJobs.{RewriteParts}
+use Rattle.page_jobs.proofs.RewriteBackends.{each_given}
 
 -- a list of two, from its end
 pub two : (qs xs : List PassState) (q : PassState) → qs ≡ xs ++ q ∷ [] → length qs ≡ 2 → (x : PassState) × (xs ≡ x ∷ [])
@@ -25,19 +24,7 @@ two qs (x ∷ y ∷ ys) q e n = absurd (let l = ap length e in let more = at_lea
     at_least [] q = omega arith
     at_least (y ∷ ys) q = omega arith
 
-chosen : (a b : Bool) (u v w none : View) → v.next ≡ w.next → v.joined ≡ w.joined → ((if a then u else if b then v else none).next ≡ (if a then u else if b then w else none).next) × ((if a then u else if b then v else none).joined ≡ (if a then u else if b then w else none).joined)
-chosen true b u v w none n j = (refl, refl)
-chosen false true u v w none n j = (n, j)
-chosen false false u v w none n j = (refl, refl)
-
-two_parts : (x z : PassState) → total (λ (p : PassState). p.queue.known.parts) (x ∷ z ∷ []) ≡ x.queue.known.parts + z.queue.known.parts
-unfolding total
-two_parts x z = omega arith
-
 module _ {L G : Type 0} (contents : L → Option Pages) (m : Manager L G) where
-  new_has_no_lock : (n i : ℕ) (p : PassState) → IsNewPass contents m n i p → HasNoLock p
-  new_has_no_lock n i p new f = ap (λ (v : View). (link v f).content) new.view ∙ ap (λ (l : Link). l.content) (link_new (frames_of m.table) 128 (lanes_in m.table) i (base_of m.table) f)
-
   -- the last pass may make a checkpoint after the job
   pub last_may : (ps qs xs : List PassState) (q : PassState) → AreNewPasses contents m 2 ps → StaysBeside contents m ps qs → qs ≡ xs ++ q ∷ [] → Belongs contents m q × HasNoLock q
   last_may [] qs xs q new stays e = absurd (let c = new.counted in omega arith)
@@ -46,26 +33,24 @@ module _ {L G : Type 0} (contents : L → Option Pages) (m : Manager L G) where
       let t = two qs xs q e stays.counted in
       let at : get_elem? qs 1 ≡ some q = ap (λ (l : List PassState). get_elem? l 1) (e ∙ ap (λ (l : List PassState). l ++ q ∷ []) t.1) in
       let w : WorksBeside contents m r q = stays.last r q refl at in
-      (w.belongs, λ f. w.callers.locks f ∙ new_has_no_lock 2 1 r (new.each 1 r refl) f)
+      (w.belongs, λ f. w.callers.locks f ∙ new_unlocked contents m 2 1 r (new.each 1 r refl) f)
   last_may (p ∷ r ∷ s ∷ ps) qs xs q new stays e = absurd (let c = new.counted in omega arith)
 
-  -- all can be given back after it
-  pub all_after : (ps qs xs : List PassState) (q z : PassState) → length ps ≡ 2 → StaysBeside contents m ps qs → qs ≡ xs ++ q ∷ [] → AreAll m qs → Belongs contents m z → KeepsCallers q z → AreAll m (xs ++ z ∷ [])
-  all_after ps qs xs q z counted stays e all b k =
-      let t = two qs xs q e (stays.counted ∙ counted) in
-      subst (λ (l : List PassState). AreAll m (l ++ z ∷ [])) (sym t.1) (changed t.0 (subst (AreAll m) (e ∙ ap (λ (l : List PassState). l ++ q ∷ []) t.1) all))
+  both_back : (x z : PassState) → CanGoBack contents m 2 0 x → CanGoBack contents m 2 1 z → AreAll m (x ∷ z ∷ [])
+  both_back x z a b = all_go_back contents m 2 (x ∷ z ∷ []) (omega arith) refl each
     where
-      changed : (x : PassState) → AreAll m (x ∷ q ∷ []) → AreAll m (x ∷ z ∷ [])
-      changed x a =
-          let first : is_first z ≡ is_first q = ap (λ (n : ℕ). nat_eq n 0) k.keeps.number in
-          let c = chosen (is_first x) (is_first z) x.view z.view q.view (first_in []) k.keeps.next k.keeps.joined in
-          let one : first_in (x ∷ q ∷ []) ≡ (if is_first x then x.view else if is_first z then q.view else first_in []) = ap (λ (b : Bool). if is_first x then x.view else if b then q.view else first_in []) (sym first) in
-          record {
-            nonempty = omega arith;
-            counted = a.counted ∙ ap (λ (v : View). v.next) one ∙ sym c.0;
-            joined = c.1 ∙ sym (ap (λ (v : View). v.joined) one) ∙ a.joined;
-            spent = (a.spent.0, a.spent.1, (b.table, k.tokens ∙ a.spent.2.1, tt));
-            fronts = (a.fronts.0, (b.front, tt));
-            queues = (a.queues.0, (b.queue, tt));
-            parts = (let whole = a.parts in let same = ap (λ (o : PassOwn). o.queue.known.parts) k.keeps.own in let both = two_parts x q in let now = two_parts x z in omega arith);
-          }
+      each : (i : ℕ) (y : PassState) → get_elem? (x ∷ z ∷ []) i ≡ some y → CanGoBack contents m 2 i y
+      each zero y at = subst (CanGoBack contents m 2 0) (some-injective x y at) a
+      each (suc zero) y at = subst (CanGoBack contents m 2 1) (some-injective z y at) b
+      each (suc (suc i)) y at = absurd (some-ne-none y (sym at))
+
+  -- all can be given back after it
+  pub all_after : (fork : Fork) (rel : ℕ) (ps qs xs : List PassState) (q z : PassState) → AreNewPasses contents m 2 ps → RewriteParts contents m rel fork (workers_in ps) (workers_in qs) → StaysBeside contents m ps qs → qs ≡ xs ++ q ∷ [] → Belongs contents m z → KeepsCallers q z → AreAll m (xs ++ z ∷ [])
+  all_after fork rel ps qs xs q z new parts stays e b k =
+      let t = two qs xs q e (stays.counted ∙ new.counted) in
+      let is : qs ≡ t.0 ∷ q ∷ [] = e ∙ ap (λ (l : List PassState). l ++ q ∷ []) t.1 in
+      let given = each_given contents m fork 2 ps qs new (omega arith) rel parts stays in
+      let first = given 0 t.0 (ap (λ (l : List PassState). get_elem? l 0) is) in
+      let last = given 1 q (ap (λ (l : List PassState). get_elem? l 1) is) in
+      subst (λ (l : List PassState). AreAll m (l ++ z ∷ [])) (sym t.1)
+      (both_back t.0 z first (goes_back contents m 2 1 q z last k.keeps b (k.tokens ∙ last.free.spent)))

@@ -1,10 +1,12 @@
+use Rattle.std.proofs.Common.{◌∙◌}
+use Rattle.std.proofs.lemmas.Result.{on_ok_weaker}
 use Rattle.pin_core.specs.declared.view.Content.TheVariants as lock
 use Rattle.backend_pass.proofs.Keeping.{pass_on}
-use Rattle.library_example.proofs.Returning.{relocked, released}
+use Rattle.backend_pass.proofs.Between.{idle_released, only_relocked}
 use Rattle.library_example.proofs.backends.change_block.Goals as goal
 
-pub returns : goal.returns
-returns g c =
+pub returns-clause-back : goal.returns-clause-back
+returns-clause-back g c =
     let m = c.args.manager.now in
     let ct = g.L.BlockLane.contents in
     let p = c.args.pass.now in
@@ -16,14 +18,20 @@ returns g c =
     let d = c.put_changed-done.ensures in
     let u = c.unexclusive-pinned.ensures in
     let v = c.release.ensures in
-    let unlocked = relocked ct m lock.Exclusive lock.Unlocked c.put_changed-done.new.locked.pinned c.unexclusive-pinned.result s t d.only u.token u.belongs u.tokens u.lock in
+    let unlocked = only_relocked ct m lock.Unlocked c.put_changed-done.new.locked.pinned c.unexclusive-pinned.result s t d.only u.token u.belongs u.tokens u.lock in
     record {
       same = pass_on p q z c.in_ok-pinned.ensures.same.keeps (pass_on q r z c.in_ok-locked.ensures.same (pass_on r s z d.same (pass_on s t z u.same.keeps v.same.keeps)));
-      idle = released ct m c.unexclusive-pinned.result t z unlocked v.belongs v.tokens v.locks;
+      idle = idle_released ct m c.unexclusive-pinned.result t z unlocked v.belongs v.tokens v.locks;
     }
 
-pub returns-in_err-locked : goal.returns-in_err-locked
-returns-in_err-locked g c = record {
+pub returns-in_err-locked-clause-back : goal.returns-in_err-locked-clause-back
+returns-in_err-locked-clause-back g c = record {
   same = pass_on c.args.pass.now c.read_buffer.new.self c.lock_for.new.pass c.in_ok-pinned.ensures.same.keeps c.in_err-locked.ensures.same;
   idle = c.in_err-locked.ensures.refused;
 }
+
+pub returns-clause-noted : goal.returns-clause-noted
+returns-clause-noted g c = on_ok_weaker c.put_changed-done.result
+    (λ d. c.release.ensures.same.unentered ∙ c.unexclusive-pinned.ensures.unnoted d.1 ∙ d.0
+    ∙ c.in_ok-locked.ensures.noted ∙ c.in_ok-pinned.ensures.same.unentered)
+    c.put_changed-done.ensures.entered

@@ -1,9 +1,11 @@
-use Rattle.std.proofs.Common.{subst, sym}
+use Rattle.std.proofs.Common.{◌∙◌, subst, sym}
 use Rattle.pin_core.specs.declared.view.Content.TheVariants as lock
+use Rattle.pin_core.specs.State.{link}
+use Rattle.frame_table.specs.Content.{HoldsNoUnentered}
 use Rattle.backend_pass.specs.declared.tokens.Exclusive.{Exclusive}
 use Rattle.backend_pass.proofs.Keeping.{pass_on}
-use Rattle.library_example.specs.Passes.{HasOnly}
-use Rattle.library_example.proofs.Returning.{kept_only}
+use Rattle.backend_pass.specs.Between.{HasOnly}
+use Rattle.backend_pass.proofs.Between.{only_kept}
 use Rattle.library_example.proofs.backends.put_changed.Goals as goal
 
 pub returns-in_err-put-clause-same : goal.returns-in_err-put-clause-same
@@ -15,8 +17,8 @@ returns-in_err-put-clause-only g c =
     let ct = g.L.BlockLane.contents in
     let r = c.read_exclusive.ensures in
     let p = c.put.ensures in
-    let read = kept_only ct m lock.Exclusive c.args.locked.now.pinned c.args.pass.now c.read_exclusive.new.self c.requires r.belongs r.tokens r.locks in
-    let put = kept_only ct m lock.Exclusive c.args.locked.now.pinned c.read_exclusive.new.self c.put.new.self read p.belongs p.tokens p.locks in
+    let read = only_kept ct m lock.Exclusive c.args.locked.now.pinned c.args.pass.now c.read_exclusive.new.self c.requires r.belongs r.tokens r.locks in
+    let put = only_kept ct m lock.Exclusive c.args.locked.now.pinned c.read_exclusive.new.self c.put.new.self read p.belongs p.tokens p.locks in
     subst (λ (x : Exclusive). HasOnly ct m lock.Exclusive x.pinned c.put.new.self) (sym p.token) put
 
 pub returns-clause-same : goal.returns-clause-same
@@ -28,6 +30,13 @@ returns-clause-only g c =
     let ct = g.L.BlockLane.contents in
     let r = c.read_exclusive.ensures in
     let p = c.put.ensures in
-    let read = kept_only ct m lock.Exclusive c.args.locked.now.pinned c.args.pass.now c.read_exclusive.new.self c.requires r.belongs r.tokens r.locks in
-    let put = kept_only ct m lock.Exclusive c.args.locked.now.pinned c.read_exclusive.new.self c.put.new.self read p.belongs p.tokens p.locks in
+    let read = only_kept ct m lock.Exclusive c.args.locked.now.pinned c.args.pass.now c.read_exclusive.new.self c.requires r.belongs r.tokens r.locks in
+    let put = only_kept ct m lock.Exclusive c.args.locked.now.pinned c.read_exclusive.new.self c.put.new.self read p.belongs p.tokens p.locks in
     subst (λ (x : Exclusive). HasOnly ct m lock.Exclusive x.pinned c.put.new.self) (sym p.token) put
+
+pub returns-clause-entered : goal.returns-clause-entered
+returns-clause-entered g c = (
+  c.put.ensures.unentered ∙ c.read_exclusive.ensures.same.unentered,
+  subst (λ (x : Exclusive). HoldsNoUnentered (link c.put.new.self.view x.pinned.frame))
+      (sym c.put.ensures.token) c.in_ok-put.ensures.entered,
+)

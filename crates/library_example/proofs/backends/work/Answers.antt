@@ -1,13 +1,20 @@
-use Rattle.library_example.proofs.Returning.{returns_on}
+use Rattle.std.proofs.Common.{◌∙◌}
+use Rattle.std.proofs.lemmas.Result.{on_ok_weaker}
+use Rattle.backend_pass.proofs.Between.{returns_on}
 use Rattle.library_example.proofs.backends.work.Goals as goal
 
-pub returns-in_err-count_blocks-2 : goal.returns-in_err-count_blocks-2
-returns-in_err-count_blocks-2 g c = returns_on g.L.BlockLane.contents c.args.manager.now c.args.pass.now c.count_blocks.new.pass c.count_blocks-2.new.pass c.count_blocks.ensures c.count_blocks-2.ensures
+pub returns-in_err-count_blocks-2-clause-back : goal.returns-in_err-count_blocks-2-clause-back
+returns-in_err-count_blocks-2-clause-back g c = returns_on g.L.BlockLane.contents c.args.manager.now c.args.pass.now c.count_blocks.new.pass c.count_blocks-2.new.pass c.count_blocks.ensures.back c.count_blocks-2.ensures.back
 
-pub returns : goal.returns
-returns g c =
+pub returns-clause-back : goal.returns-clause-back
+returns-clause-back g c =
     let ct = g.L.BlockLane.contents in
     let m = c.args.manager.now in
     let p = c.args.pass.now in
-    let counted = returns_on ct m p c.count_blocks.new.pass c.count_blocks-2.new.pass c.count_blocks.ensures c.count_blocks-2.ensures in
-    returns_on ct m p c.count_blocks-2.new.pass c.change_block.new.pass counted c.change_block.ensures
+    let counted = returns_on ct m p c.count_blocks.new.pass c.count_blocks-2.new.pass c.count_blocks.ensures.back c.count_blocks-2.ensures.back in
+    returns_on ct m p c.count_blocks-2.new.pass c.change_block.new.pass counted c.change_block.ensures.back
+
+pub returns-clause-noted : goal.returns-clause-noted
+returns-clause-noted g c = on_ok_weaker c.change_block.result
+    (λ d. d ∙ c.in_ok-count_blocks-2.ensures.noted ∙ c.in_ok-count_blocks.ensures.noted)
+    c.change_block.ensures.noted

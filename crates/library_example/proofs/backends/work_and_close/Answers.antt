@@ -1,7 +1,7 @@
 use Rattle.std.proofs.Common.{◌∙◌, ◌<◌, length, set, slice_index_or, subst, arith}
 use Rattle.std.proofs.lemmas.List.{length-set}
 use Rattle.backend_pass.specs.Passes.{KeepsCallers, PassState}
-use Rattle.library_example.proofs.Returning.{all_back, checkpointed, new_idle_each, same_read, set_back}
+use Rattle.backend_pass.proofs.Between.{all_returned, new_idle_each, returns_kept, same_read, set_back}
 use Rattle.library_example.proofs.backends.work_and_close.Goals as goal
 
 pub run_backends-requires-after_bounds : goal.run_backends-requires-after_bounds
@@ -21,6 +21,6 @@ close-devices-requires g c =
     let same = back.count in
     let some : 0 < length ps = omega arith in
     let left : 0 < length qs = omega arith in
-    all_back ct m _ ps (set qs 0 z) (omega arith) c.requires (length-set qs 0 z ∙ same)
-    (set_back ct m ps qs 0 z same back.passes (λ d. checkpointed ct m (slice_index_or qs 0 d) z (back.passes 0 d some).idle done.belongs
+    all_returned ct m _ ps (set qs 0 z) (omega arith) c.requires (length-set qs 0 z ∙ same)
+    (set_back ct m ps qs 0 z same back.passes (λ d. returns_kept ct m (slice_index_or qs 0 d) z (back.passes 0 d some).idle done.belongs
     (subst (λ (p : PassState). KeepsCallers p z) (c.index_mut.ensures.value ∙ same_read qs 0 first d left) done.callers)))

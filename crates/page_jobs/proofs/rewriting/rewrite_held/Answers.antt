@@ -5,8 +5,10 @@ use Rattle.buffer_frames.specs.Tokens.{no_tokens, tokens_less}
 use Rattle.backend_pass.specs.declared.pinned.Pinned.{Pinned}
 use Rattle.backend_pass.specs.declared.tokens.Exclusive.{Exclusive}
 use Rattle.backend_pass.specs.Locks.{HasLock}
+use Rattle.backend_pass.proofs.Keeping.{calls_on}
+use Rattle.backend_pass.proofs.Seated.{but_unentered, unentered_on}
 use Rattle.page_jobs.specs.Rewriting.{KeepsOtherLocks}
-use Rattle.page_jobs.proofs.BlockRewrites.{held, quiet_on}
+use Rattle.page_jobs.proofs.BlockRewrites.{held}
 use Rattle.page_jobs.proofs.rewriting.rewrite_held.Goals as goal
 
 pub returns : goal.returns
@@ -24,7 +26,11 @@ returns g c =
     λ f other. y.locks f ∙ ap (λ (l : Link). l.content) (x.lock.others f (λ is. other (is ∙ ap (λ (e : Exclusive). e.pinned.frame) w.same))) in
     record {
       rewrites = held {L = g.row.L.Denot} {G = g.row.G.Denot} g.L.BlockLane.contents c.args.manager.now c.args.exclusive.pinned.tag c.args.exclusive.pinned.frame c.args.pass.now q c.release.new.self c.rewrite_locked-answer.result w.rewrites c.requires.locked
-          (quiet_on {L = g.row.L.Denot} {G = g.row.G.Denot} g.L.BlockLane.contents c.args.manager.now q c.unexclusive-pinned.new.self c.release.new.self
-          (record { belongs = x.belongs; same = x.same; calls = x.calls; met = x.devices.met })
-          (record { belongs = y.belongs; same = y.same; calls = y.calls; met = y.devices.met })) (y.mark ∙ x.mark) unlocked others spent (y.down ∙ x.down) (y.devices.device_calls ∙ x.devices.device_calls);
+          (record {
+            belongs = y.belongs;
+            same = unentered_on q c.unexclusive-pinned.new.self c.release.new.self x.same
+                (but_unentered c.unexclusive-pinned.new.self c.release.new.self y.same);
+            calls = calls_on q c.unexclusive-pinned.new.self c.release.new.self x.calls y.calls;
+            met = y.devices.met ∙ x.devices.met;
+          }) (y.mark ∙ x.mark) unlocked others spent (y.down ∙ x.down) (y.devices.device_calls ∙ x.devices.device_calls);
     }

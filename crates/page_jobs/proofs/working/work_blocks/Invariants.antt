@@ -1,6 +1,6 @@
 use Rattle.std.proofs.Common.{◌≡◌, ℕ, ◌+◌, ◌*◌, ◌-◌, ◌≤◌}
 use Rattle.page_jobs.specs.Blocks.{blocks_from}
-use Rattle.page_jobs.specs.Reads.{HasNoTokens}
+use Rattle.backend_pass.specs.Between.{HasNoTokens}
 use Rattle.page_jobs.specs.Working.{CanCount, DoesBlocks}
 use Rattle.page_jobs.proofs.working.work_blocks.Given as goal
 

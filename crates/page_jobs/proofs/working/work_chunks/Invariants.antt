@@ -3,7 +3,7 @@ use Rattle.grid.specs.Shape.{total}
 use Rattle.chunk_claims.specs.Claims.{SitsAt}
 use Rattle.page_jobs.specs.Chunks.{Ascend, chunk_size}
 use Rattle.page_jobs.specs.Parts.{blocks_in}
-use Rattle.page_jobs.specs.Reads.{HasNoTokens}
+use Rattle.backend_pass.specs.Between.{HasNoTokens}
 use Rattle.page_jobs.specs.Working.{CanCount, DoesChunks}
 use Rattle.page_jobs.proofs.working.work_chunks.Given as goal
 

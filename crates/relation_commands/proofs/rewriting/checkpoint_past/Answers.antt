@@ -1,5 +1,5 @@
 use Rattle.std.proofs.Common.{◌∙◌}
-use Rattle.checkpointer.proofs.Keeping.{no_lock_after}
+use Rattle.backend_pass.proofs.Between.{no_lock_kept}
 use Rattle.backend_pass.proofs.Keeping.{callers_on}
 use Rattle.relation_commands.specs.Rewriting.{checkpoint_error}
 use Rattle.relation_commands.proofs.RewriteCauses.{meets_since, stop_meets}
@@ -20,7 +20,7 @@ returns-then-done-front-clause-callers g c = callers_on c.args.pass.now c.loop.p
 pub loop-preserved : goal.loop-preserved
 loop-preserved g c = record {
   belongs = c.checkpoint.ensures.belongs;
-  unlocked = no_lock_after c.loop.pass c.checkpoint.new.pass c.checkpoint.ensures.callers c.loop.invariant.unlocked;
+  unlocked = no_lock_kept c.loop.pass c.checkpoint.new.pass c.checkpoint.ensures.callers.locks c.loop.invariant.unlocked;
   callers = callers_on c.args.pass.now c.loop.pass c.checkpoint.new.pass c.loop.invariant.callers c.checkpoint.ensures.callers;
   met = c.in-Ok.ensures.met ∙ c.loop.invariant.met;
 }

@@ -1,7 +1,7 @@
 use Rattle.std.proofs.Common.{◌≡◌}
 use Rattle.backend_pass.specs.Managers.{Belongs}
 use Rattle.backend_pass.specs.Passes.{KeepsCallers}
-use Rattle.checkpointer.specs.Stages.{HasNoLock}
+use Rattle.backend_pass.specs.Between.{HasNoLock}
 use Rattle.relation_commands.proofs.rewriting.checkpoint_past.Given as goal
 
 abbrev pub invariant-loop : goal.invariant-loop

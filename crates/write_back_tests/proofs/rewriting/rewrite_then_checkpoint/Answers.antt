@@ -1,11 +1,10 @@
-use Rattle.std.proofs.Common.{List, None, sym, subst, arith}
+use Rattle.std.proofs.Common.{List, None, sym, subst}
 use Rattle.block_tag.specs.declared.tag.Fork.TheVariants.{Main}
 use Rattle.write_back_tests.specs.declared.devices.PageLane.{PageLane}
 use Rattle.write_back_tests.specs.declared.devices.ByteLog.{ByteLog}
 use Rattle.backend_pass.specs.Managers.{AreAll}
 use Rattle.backend_pass.specs.Passes.{PassState}
 use Rattle.page_jobs.proofs.Backends.{new_are_free}
-use Rattle.page_jobs.proofs.RewriteBackends.{all_rewriters_given}
 use Rattle.write_back_tests.proofs.Returning.{last_may, all_after}
 use Rattle.write_back_tests.proofs.rewriting.rewrite_then_checkpoint.Goals as goal
 
@@ -23,9 +22,7 @@ close-lanes-requires g c =
     let m = c.in-Ok-start.manager in
     let ps = c.in-Ok-start.passes.items in
     let qs = c.rewrite-passes.result.passes.items in
-    let new = c.in-Ok-start.ensures.passes in
     let r = c.rewrite-passes.ensures in
     let k = c.checkpoint-checkpoint.ensures in
-    let all = all_rewriters_given {L = PageLane} {G = ByteLog} (λ x. None) m Main 2 ps qs new (omega arith) 0 r.passes r.last in
     subst (AreAll {L = PageLane} {G = ByteLog} m) (sym {A = List PassState} c.push_reserved.ensures.items)
-    (all_after {L = PageLane} {G = ByteLog} (λ x. None) m ps qs _ _ c.checkpoint-checkpoint.new.pass new.counted r.last c.take_last-last.ensures.items all k.belongs k.callers)
+    (all_after {L = PageLane} {G = ByteLog} (λ x. None) m Main 0 ps qs _ _ c.checkpoint-checkpoint.new.pass c.in-Ok-start.ensures.passes r.passes r.last c.take_last-last.ensures.items k.belongs k.callers)

@@ -79,4 +79,5 @@ returns g c =
     let queues = c.join_all.ensures.known ∙ ap (λ (q : QueueState). joined_queues q c.remove.new.self.items) c.leave-seat.ensures.queue ∙ ap (joined_queues c.remove.result.queue) left in
     let list = listed_at {L = g.row.L.Denot} {G = g.row.G.Denot} c.args.self c.args.passes.items c.place_of_first-place.result c.remove.result at.inside c.remove.ensures.value c.requires.queues in
     closes_all _ _ c.args.passes.items _ _ c.remove.result.view c.join_all.new.seat.me.0 c.place_of_first-place.result at first is c.leave-seat.ensures.rests c.requires.fronts
-    (took_each _ c.place_of_first-place.result c.args.passes.items c.remove.result c.join_all.new.queue at c.remove.ensures.value queues list.frames c.close.ensures) c.close-2.ensures
+    (took_each _ c.place_of_first-place.result c.args.passes.items c.remove.result c.join_all.new.queue at c.remove.ensures.value queues list.frames c.close.ensures)
+    c.args.self.table.counted c.close-2.ensures

@@ -1,14 +1,16 @@
 use Rattle.std.proofs.Common.{◌≡◌, ◌∙◌, ℕ, Some, refl, sym, ap, subst}
 use Rattle.buffer_frames.specs.Tokens.{held_at}
-use Rattle.pin_core.specs.declared.view.Content.TheVariants.{Exclusive}
+use Rattle.pin_core.specs.declared.view.Content.TheVariants.{Exclusive, Unlocked}
 use Rattle.pin_core.specs.declared.view.Link.{Link}
 use Rattle.pin_core.specs.declared.view.View.{View}
 use Rattle.pin_core.specs.State.{link}
+use Rattle.frame_table.specs.Content.{HoldsNoUnentered}
 use Rattle.buffer_frames.specs.Outside.{shown_count}
+use Rattle.backend_pass.specs.Locks.{HasLock}
 use Rattle.backend_pass.specs.Managers.{Belongs}
 use Rattle.backend_pass.specs.Passes.{IsNumbered, PassState, view_in}
 use Rattle.backend_pass.proofs.Releasing.{belongs_touched, numbered_self, same_touched, shown_self}
-use Rattle.backend_pass.proofs.Relocking.{Relocks, beside_lock, changes_lock, held_same, rests_relocked}
+use Rattle.backend_pass.proofs.Relocking.{Relocks, beside_lock, changes_lock, held_same, rests_relocked, unmarked_locked}
 use Rattle.backend_pass.proofs.Seated.{moved, moved_one, same_from}
 use Rattle.backend_pass.proofs.pass.Pass.exclusive.Given.{Over}
 use Rattle.backend_pass.proofs.pass.Pass.exclusive.Goals as goal
@@ -50,3 +52,16 @@ returns-clause-same g c =
 
 pub returns-clause-lock : goal.returns-clause-lock
 returns-clause-lock g c = changes_lock Exclusive c.args.pinned.frame _ _ _ c.self.view_is (relocked g c) (moved_one (λ (w : View). (link w c.args.pinned.frame).content ≡ Exclusive) _ _ c.return_seat.ensures.view (ap (λ (l : Link). l.content) c.exclusive.ensures.exclusive))
+
+pub returns-clause-unmarked : goal.returns-clause-unmarked
+returns-clause-unmarked g c =
+    let f = c.args.pinned.frame in
+    let e = c.exclusive.ensures in
+    let before = c.take_seat-seat.ensures.view in
+    let none : (link c.take_seat-seat.result.me.0 f).content ≡ Unlocked =
+    subst (λ (v : View). (link v f).content ≡ Unlocked) before
+    (subst (λ (p : PassState). HasLock Unlocked f p) (sym c.self.view_is)
+    c.requires.unlocked)
+    in
+    moved_one (λ (w : View). HoldsNoUnentered (link w f)) _ _ c.return_seat.ensures.view
+    (unmarked_locked f c.take_seat-seat.result.me.0 c.exclusive.new.seat.me.0 e.did none e.exclusive)

@@ -19,7 +19,7 @@ use Rattle.buffer_frames.specs.Syncs.{EndsSync, SyncsFrame}
 use Rattle.buffer_frames.proofs.Passing.{pins_rest}
 use Rattle.backend_pass.specs.FrameFlushes.{frame_answer}
 use Rattle.backend_pass.specs.PassSyncs.{shown_synced}
-use Rattle.backend_pass.proofs.PassSyncing.{callers_from, callers_kept, pass_alone, shown_sync, sync_complete, sync_short}
+use Rattle.backend_pass.proofs.PassSyncing.{callers_from, callers_kept, shown_sync, sync_complete, sync_short}
 use Rattle.buffer_frames.specs.Rests.{HasNoDevice, LinksRest}
 use Rattle.pin_core.specs.declared.view.Content.TheVariants.{Unlocked}
 use Rattle.buffer_frames.specs.Syncs.{SyncsOne}
@@ -40,10 +40,6 @@ sync_one-frames_answer-requires-clause-rests g c = subst (LinksRest c.self.insid
 pub sync_one-frames_answer-requires-clause-unlocked : goal.sync_one-frames_answer-requires-clause-unlocked
 sync_one-frames_answer-requires-clause-unlocked g c needed =
     subst (λ (v : View). (link v c.args.frame).content ≡ Unlocked) c.take_seat-seat.ensures.view (subst (λ (p : PassState). (link p.view c.args.frame).content ≡ Unlocked) (sym c.self.view_is) (c.requires.unlocked needed))
-
-pub sync_one-frames_answer-requires-clause-alone : goal.sync_one-frames_answer-requires-clause-alone
-sync_one-frames_answer-requires-clause-alone g c =
-    pass_alone {L = g.row.L.Denot} {G = g.row.G.Denot} g.L.BlockLane.contents c.args.manager.now _ (subst (Belongs {L = g.row.L.Denot} {G = g.row.G.Denot} g.L.BlockLane.contents c.args.manager.now) (sym c.self.view_is) c.requires.belongs)
 
 pub invariant_of-self : goal.invariant_of-self
 invariant_of-self g c =

@@ -1,19 +1,22 @@
 use Rattle.std.proofs.Common.{◌≡◌, ◌≢◌, ◌∙◌, ℕ, Some, refl, sym, ap, subst}
+use Rattle.pin_core.specs.declared.view.Content.TheVariants.{Unlocked}
 use Rattle.pin_core.specs.declared.view.Link.{Link}
 use Rattle.pin_core.specs.State.{link}
 use Rattle.page_core.specs.Kinds as kinds
 use Rattle.content_locks.specs.Locks.{LocksAtOnce}
-use Rattle.frame_table.specs.Content.{exclusive_link}
+use Rattle.content_locks.proofs.Locking.{locks_waiting}
+use Rattle.frame_table.specs.Content.{HoldsNoUnentered, exclusive_link}
 use Rattle.buffer_frames.specs.Rests.{SameLocks}
 use Rattle.buffer_frames.specs.Tokens.{held_at}
 use Rattle.buffer_frames.proofs.Keeping.{same_locks_at}
 use Rattle.pin_core.specs.declared.view.View.{View}
 use Rattle.buffer_frames.specs.Outside.{shown_count}
+use Rattle.backend_pass.specs.Locks.{HasLock}
 use Rattle.backend_pass.specs.Managers.{Belongs}
 use Rattle.backend_pass.specs.Passes.{IsNumbered, PassState, view_in}
 use Rattle.backend_pass.proofs.Releasing.{belongs_touched, numbered_self, same_touched, shown_self}
-use Rattle.backend_pass.proofs.Relocking.{Relocks, held_same, kept_refused, kept_taken, lock_refused, lock_taken, relocks_tried, rests_relocked}
-use Rattle.backend_pass.proofs.Seated.{moved, same_from}
+use Rattle.backend_pass.proofs.Relocking.{Relocks, held_same, kept_refused, kept_taken, lock_refused, lock_taken, relocks_tried, rests_relocked, unmarked_locked}
+use Rattle.backend_pass.proofs.Seated.{moved, moved_one, same_from}
 use Rattle.backend_pass.proofs.pass.Pass.try_exclusive.Goals.{in-Ok, in-Err}
 use Rattle.backend_pass.proofs.pass.Pass.try_exclusive.Goals as goal
 
@@ -72,4 +75,21 @@ returns-clause-did g c =
           let did = moved (LocksAtOnce kinds.exclude f) (view_in c.self.inside.seat.views) (view_in c.return_seat.new.badge.views) _ _ before c.return_seat.ensures.view w.in-Ok.ensures.did in
           lock_taken (LocksAtOnce kinds.exclude f c.args.self.now.view (view_in c.return_seat.new.badge.views)) c.match-answer.result _ w.result-is (subst (λ (p : PassState). LocksAtOnce kinds.exclude f p.view (view_in c.return_seat.new.badge.views)) c.self.view_is did)
       | in-Err w ↦ lock_refused (LocksAtOnce kinds.exclude f c.args.self.now.view (view_in c.return_seat.new.badge.views)) c.match-answer.result _ w.result-is
+    ]
+
+pub returns-clause-unmarked : goal.returns-clause-unmarked
+returns-clause-unmarked g c =
+    let f = c.args.pinned.frame in
+    let none : (link c.take_seat-seat.result.me.0 f).content ≡ Unlocked =
+    subst (λ (v : View). (link v f).content ≡ Unlocked) c.take_seat-seat.ensures.view
+    (subst (λ (p : PassState). HasLock Unlocked f p) (sym c.self.view_is)
+    c.requires.unlocked)
+    in
+    let Unmarked = HoldsNoUnentered (link (view_in c.return_seat.new.badge.views) f) in
+    elim c.match-answer.branch [
+      | in-Ok w ↦ lock_taken Unmarked c.match-answer.result _ w.result-is
+          (moved_one (λ (v : View). HoldsNoUnentered (link v f)) _ _ c.return_seat.ensures.view
+          (unmarked_locked f c.take_seat-seat.result.me.0 c.try_exclusive-answer.new.seat.me.0
+          (locks_waiting kinds.exclude _ _ _ w.in-Ok.ensures.did) none w.in-Ok.ensures.exclusive))
+      | in-Err w ↦ lock_refused Unmarked c.match-answer.result _ w.result-is
     ]

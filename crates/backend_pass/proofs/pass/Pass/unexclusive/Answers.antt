@@ -4,18 +4,18 @@ use Rattle.pin_core.specs.declared.view.Content.TheVariants.{Unlocked}
 use Rattle.pin_core.specs.declared.view.Link.{Link}
 use Rattle.pin_core.specs.declared.view.View.{View}
 use Rattle.pin_core.specs.State.{link}
+use Rattle.frame_table.specs.Content.{HoldsNoUnentered}
 use Rattle.buffer_frames.specs.Outside.{shown_count}
 use Rattle.backend_pass.specs.Managers.{Belongs}
 use Rattle.backend_pass.specs.Passes.{IsNumbered, PassState, view_in}
-use Rattle.backend_pass.proofs.Releasing.{belongs_touched, numbered_self, same_touched, shown_self}
-use Rattle.backend_pass.proofs.Relocking.{Relocks, changes_lock, beside_lock, held_same, rests_relocked}
-use Rattle.backend_pass.proofs.Seated.{moved, moved_one, same_from}
+use Rattle.backend_pass.proofs.Relocking.{GivesUp, belongs_given_up, beside_lock, given_up_from, held_same, lock_given_up, numbered_given_up, rests_given_up, same_given_up, shown_given_up}
+use Rattle.backend_pass.proofs.Seated.{moved, moved_one}
 use Rattle.backend_pass.proofs.pass.Pass.unexclusive.Given.{Over}
 use Rattle.backend_pass.proofs.pass.Pass.unexclusive.Goals as goal
 
 -- what the call did
-relocked : (g : Over) (c : goal.After-return_seat g) → Relocks c.args.exclusive.pinned.frame (view_in c.self.inside.seat.views) (view_in c.return_seat.new.badge.views)
-relocked g c = moved (Relocks c.args.exclusive.pinned.frame) _ _ _ _ c.take_seat-seat.ensures.view c.return_seat.ensures.view record { touches = c.unexclusive.ensures.touches; marks = c.unexclusive.ensures.marks; beside = ap beside_lock c.unexclusive.ensures.unexclusive }
+relocked : (g : Over) (c : goal.After-return_seat g) → GivesUp c.args.exclusive.pinned.frame (view_in c.self.inside.seat.views) (view_in c.return_seat.new.badge.views)
+relocked g c = moved (GivesUp c.args.exclusive.pinned.frame) _ _ _ _ c.take_seat-seat.ensures.view c.return_seat.ensures.view record { touches = c.unexclusive.ensures.touches; marks = c.unexclusive.ensures.marks; beside = ap beside_lock c.unexclusive.ensures.unexclusive }
 
 pub invariant_of-self : goal.invariant_of-self
 invariant_of-self g c =
@@ -25,9 +25,9 @@ invariant_of-self g c =
     let i = c.self.invariant in
     let same = sym c.return_seat.ensures.id ∙ c.unexclusive.ensures.seat.id ∙ c.take_seat-seat.ensures.id in (
       c.return_seat.ensures.one,
-      rests_relocked f c.requires.pinned.held c.self.inside.held _ _ there k i.1,
-      subst (λ (id : ℕ). IsNumbered c.self.inside.number id (view_in c.return_seat.new.badge.views)) (sym same) (numbered_self c.self.inside.number c.self.inside.seat.id _ _ k.touches.self i.2),
-      shown_self _ _ _ k.touches.self i.3,
+      rests_given_up f c.requires.pinned.held c.self.inside.held _ _ there k i.1,
+      subst (λ (id : ℕ). IsNumbered c.self.inside.number id (view_in c.return_seat.new.badge.views)) (sym same) (numbered_given_up c.self.inside.number c.self.inside.seat.id f _ _ k i.2),
+      shown_given_up f _ _ _ k i.3,
       i.4,
       i.5 ∙ ap (λ (x : View). shown_count x.turns) (sym k.touches.self),
     )
@@ -37,7 +37,7 @@ returns-clause-belongs g c =
     let f = c.args.exclusive.pinned.frame in
     let k = relocked g c in
     let table = sym c.return_seat.ensures.table ∙ c.unexclusive.ensures.seat.table ∙ c.take_seat-seat.ensures.table in
-    belongs_touched {L = g.row.L.Denot} {G = g.row.G.Denot} g.L.BlockLane.contents c.args.manager.now _ _ f table refl k.touches (held_same c.self.inside.held)
+    belongs_given_up {L = g.row.L.Denot} {G = g.row.G.Denot} g.L.BlockLane.contents c.args.manager.now f _ _ table refl k (held_same c.self.inside.held)
     (subst (Belongs {L = g.row.L.Denot} {G = g.row.G.Denot} g.L.BlockLane.contents c.args.manager.now) (sym c.self.view_is) c.requires.belongs)
 
 pub returns-clause-same : goal.returns-clause-same
@@ -46,7 +46,15 @@ returns-clause-same g c =
     let k = relocked g c in
     let table = sym c.return_seat.ensures.table ∙ c.unexclusive.ensures.seat.table ∙ c.take_seat-seat.ensures.table in
     let id = sym c.return_seat.ensures.id ∙ c.unexclusive.ensures.seat.id ∙ c.take_seat-seat.ensures.id in
-    same_from _ _ _ c.self.view_is (same_touched _ _ f table id refl k.touches)
+    given_up_from _ _ _ c.self.view_is (same_given_up f _ _ table id refl k)
 
 pub returns-clause-lock : goal.returns-clause-lock
-returns-clause-lock g c = changes_lock Unlocked c.args.exclusive.pinned.frame _ _ _ c.self.view_is (relocked g c) (moved_one (λ (w : View). (link w c.args.exclusive.pinned.frame).content ≡ Unlocked) _ _ c.return_seat.ensures.view (ap (λ (l : Link). l.content) c.unexclusive.ensures.unexclusive))
+returns-clause-lock g c = lock_given_up c.args.exclusive.pinned.frame _ _ _ c.self.view_is (relocked g c) (moved_one (λ (w : View). (link w c.args.exclusive.pinned.frame).content ≡ Unlocked) _ _ c.return_seat.ensures.view (ap (λ (l : Link). l.content) c.unexclusive.ensures.unexclusive))
+
+pub returns-clause-unnoted : goal.returns-clause-unnoted
+returns-clause-unnoted g c =
+    let f = c.args.exclusive.pinned.frame in
+    subst (λ (p : PassState). HoldsNoUnentered (link p.view f)
+    → (view_in c.return_seat.new.badge.views).unentered ≡ p.view.unentered) c.self.view_is
+    (moved (λ v w. HoldsNoUnentered (link v f) → w.unentered ≡ v.unentered) _ _ _ _
+    c.take_seat-seat.ensures.view c.return_seat.ensures.view c.unexclusive.ensures.unnoted)

@@ -4,18 +4,9 @@ use Rattle.std.specs.Prelude.{All, IsSomeAnd, sum_by}
 use Rattle.std.proofs.lemmas.List.Sums.{sum_by-cons}
 use mathlib.Core.Option.{some, some-injective, some-ne-none}
 use lib.ListN.{get_elem?}
+use Rattle.table_rule.proofs.Opens.{length_low}
 
 module _ {A : Type 0} where
-  pub inside : (xs : List A) (i : ℕ) (x : A) → get_elem? xs i ≡ some x → i < length xs
-  inside [] i x e = absurd (some-ne-none x (sym e))
-  inside (y ∷ xs) zero x e = omega arith
-  inside (y ∷ xs) (suc i) x e = let below = inside xs i x e in omega arith
-
-  pub there : (xs : List A) (i : ℕ) → i < length xs → (x : A) × (get_elem? xs i ≡ some x)
-  there [] i below = absurd (omega arith)
-  there (x ∷ xs) zero below = (x, refl)
-  there (x ∷ xs) (suc i) below = there xs i (omega arith)
-
   pub standing_or : (xs : List A) (i : ℕ) (x d : A) → get_elem? xs i ≡ some x → get_or xs i d ≡ x
   standing_or [] i x d e = absurd (some-ne-none x (sym e))
   standing_or (y ∷ xs) zero x d e = some-injective y x e
@@ -34,7 +25,7 @@ module _ {A : Type 0} where
   taken_from (suc n) (suc i) (y ∷ xs) x e = taken_from n i xs x e
 
   pub all_at : (P : A → Type 0) (xs : List A) (i : ℕ) (x : A) → All P xs → get_elem? xs i ≡ some x → P x
-  all_at P xs i x all e = subst P (standing_or xs i x x e) (all i x (inside xs i x e))
+  all_at P xs i x all e = subst P (standing_or xs i x x e) (all i x (length_low xs i x e))
 
   pub length_taken : (n : ℕ) (xs : List A) → n < length xs → length (take n xs) ≡ n
   length_taken zero xs below = refl
