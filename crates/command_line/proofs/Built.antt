@@ -17,22 +17,10 @@ pub arg_added : (old : Command) (arg : Arg) (new : Command) (app : App) (rule : 
     → rule_of arg ≡ rule → app_of old ≡ app → app_of new ≡ with_rule app rule
 arg_added old arg new app rule adds local is before = adds.shape local ∙ ap₂ with_rule before is
 
--- five options more are five rules more
-pub options_added : (old a b d e new : Command) (first second third fourth fifth : Arg) (r₁ r₂ r₃ r₄ r₅ : Rule)
-    → AddsArg old first a → AddsArg a second b → AddsArg b third d → AddsArg d fourth e → AddsArg e fifth new
-    → first.global ≡ false → second.global ≡ false → third.global ≡ false → fourth.global ≡ false → fifth.global ≡ false
-    → rule_of first ≡ r₁ → rule_of second ≡ r₂ → rule_of third ≡ r₃ → rule_of fourth ≡ r₄ → rule_of fifth ≡ r₅
-    → app_of new ≡ with_rule (with_rule (with_rule (with_rule (with_rule (app_of old) r₁) r₂) r₃) r₄) r₅
-options_added old a b d e new first second third fourth fifth r₁ r₂ r₃ r₄ r₅ to_a to_b to_d to_e to_new l₁ l₂ l₃ l₄ l₅ is₁ is₂ is₃ is₄ is₅ =
-    let app₁ = with_rule (app_of old) r₁ in
-    let app₂ = with_rule app₁ r₂ in
-    let app₃ = with_rule app₂ r₃ in
-    let app₄ = with_rule app₃ r₄ in
-    arg_added e fifth new app₄ r₅ to_new l₅ is₅
-    (arg_added d fourth e app₃ r₄ to_e l₄ is₄
-    (arg_added b third d app₂ r₃ to_d l₃ is₃
-    (arg_added a second b app₁ r₂ to_b l₂ is₂
-    (arg_added old first a (app_of old) r₁ to_a l₁ is₁ refl))))
+-- a rule more on what is known of the command before
+pub rule_after : (old new : Command) (app : App) (rule : Rule) → app_of new ≡ with_rule (app_of old) rule → app_of old ≡ app
+    → app_of new ≡ with_rule app rule
+rule_after old new app rule is before = is ∙ ap (λ (a : App). with_rule a rule) before
 
 -- a subcommand more is a shape more
 pub subcommand_added : (old sub new : Command) (app inner : App) → AddsSubcommand old sub new → (fields_of sub).has_globals ≡ false

@@ -4,7 +4,7 @@
 //! the subcommand, one given twice, an unknown one, `--help`, `help`, `--version`, and words that
 //! aren't UTF-8.
 ghost use Rattle.std.specs.Prelude.{◌≡◌, IfOk, false, map, string_bytes};
-ghost use Rattle.clap.specs.Words.{FailsBy, app_of, fault_of, rule_of, subcommand_of};
+ghost use Rattle.clap.specs.Words.{FailsBy, app_of, fault_of, rule_of, subcommand_of, with_rule};
 ghost use Rattle.clap.specs.declared.builder.command.Command.TheViews.{out-Command as fields_of};
 ghost use Rattle.clap.specs.Simple.{subcommand_rows_of};
 ghost use Rattle.command_line.specs.Grammar.{bare_app, log_rule, number_rule, option_rule};
@@ -55,24 +55,33 @@ fn log_option<'a>(alloc: Global) -> Arg<'a>
     text_arg(alloc, "log").long("log")
 }
 
+/// The command with one option more, a number.
+fn with_option<'a>(
+    alloc: Global,
+    command: Command<'a>,
+    number: NumberArg,
+    default: &'a str,
+) -> Result<Command<'a>, AllocError>
+    requires { (fields_of command).has_globals ≡ false }
+    ensures app { IfOk result (λ c. app_of c
+        ≡ with_rule (app_of command.entry) (option_rule (range_of number) default.now)) }
+    ensures local { IfOk result (λ c. (fields_of c).has_globals ≡ false) }
+{
+    let command = command.arg(number_option(alloc, number, default))?;
+    Ok(command)
+}
+
 /// The command with the options that a command with a buffer manager takes.
 fn with_options<'a>(alloc: Global, command: Command<'a>) -> Result<Command<'a>, AllocError>
     requires { (fields_of command).has_globals ≡ false }
     ensures app { IfOk result (λ c. app_of c ≡ with_options (app_of command.entry)) }
     ensures local { IfOk result (λ c. (fields_of c).has_globals ≡ false) }
 {
-    let backends = number_option(alloc, BACKENDS, "1");
-    let frames = number_option(alloc, FRAMES, "128");
-    let lanes = number_option(alloc, LANES, "4");
-    let segment_blocks = number_option(alloc, SEGMENT_BLOCKS, "131072");
-    let bgwriter = number_option(alloc, BGWRITER, "0");
-    let command = command
-        .arg(backends)?
-        .arg(frames)?
-        .arg(lanes)?
-        .arg(segment_blocks)?
-        .arg(bgwriter)?;
-    Ok(command)
+    let command = with_option(alloc, command, BACKENDS, "1")?;
+    let command = with_option(alloc, command, FRAMES, "128")?;
+    let command = with_option(alloc, command, LANES, "4")?;
+    let command = with_option(alloc, command, SEGMENT_BLOCKS, "131072")?;
+    with_option(alloc, command, BGWRITER, "0")
 }
 
 /// A command with a path: `scan PATH` and `dump PATH`.
@@ -90,9 +99,9 @@ fn rewrite_command<'a>(alloc: Global) -> Result<Command<'a>, AllocError>
     ensures app { IfOk result (λ c. app_of c ≡ rewrite_app) }
     ensures local { IfOk result (λ c. (fields_of c).has_globals ≡ false) }
 {
-    let path = text_arg(alloc, "path");
-    let log = log_option(alloc);
-    let command = Command::new(alloc, "rewrite").arg(path)?.arg(log)?;
+    let command = Command::new(alloc, "rewrite")
+        .arg(text_arg(alloc, "path"))?
+        .arg(log_option(alloc))?;
     with_options(alloc, command)
 }
 
@@ -101,16 +110,11 @@ fn recover_command<'a>(alloc: Global) -> Result<Command<'a>, AllocError>
     ensures app { IfOk result (λ c. app_of c ≡ recover_app) }
     ensures local { IfOk result (λ c. (fields_of c).has_globals ≡ false) }
 {
-    let path = text_arg(alloc, "path");
-    let log = log_option(alloc);
-    let lanes = number_option(alloc, LANES, "4");
-    let segment_blocks = number_option(alloc, SEGMENT_BLOCKS, "131072");
     let command = Command::new(alloc, "recover")
-        .arg(path)?
-        .arg(log)?
-        .arg(lanes)?
-        .arg(segment_blocks)?;
-    Ok(command)
+        .arg(text_arg(alloc, "path"))?
+        .arg(log_option(alloc))?;
+    let command = with_option(alloc, command, LANES, "4")?;
+    with_option(alloc, command, SEGMENT_BLOCKS, "131072")
 }
 
 /// `sample SEED BLOCKS`.
@@ -118,9 +122,9 @@ fn sample_command<'a>(alloc: Global) -> Result<Command<'a>, AllocError>
     ensures app { IfOk result (λ c. app_of c ≡ sample_app) }
     ensures local { IfOk result (λ c. (fields_of c).has_globals ≡ false) }
 {
-    let seed = number_arg(alloc, SEED);
-    let blocks = number_arg(alloc, BLOCKS);
-    let command = Command::new(alloc, "sample").arg(seed)?.arg(blocks)?;
+    let command = Command::new(alloc, "sample")
+        .arg(number_arg(alloc, SEED))?
+        .arg(number_arg(alloc, BLOCKS))?;
     with_options(alloc, command)
 }
 
@@ -137,17 +141,12 @@ fn bare_command<'a>(alloc: Global) -> Command<'a>
 fn tool_command<'a>(alloc: Global) -> Result<Command<'a>, AllocError>
     ensures { IfOk result (λ c. app_of c ≡ tool_app) }
 {
-    let scan = path_command(alloc, "scan")?;
-    let dump = path_command(alloc, "dump")?;
-    let rewrite = rewrite_command(alloc)?;
-    let recover = recover_command(alloc)?;
-    let sample = sample_command(alloc)?;
     let tool = bare_command(alloc)
-        .subcommand(scan)?
-        .subcommand(dump)?
-        .subcommand(rewrite)?
-        .subcommand(recover)?
-        .subcommand(sample)?;
+        .subcommand(path_command(alloc, "scan")?)?
+        .subcommand(path_command(alloc, "dump")?)?
+        .subcommand(rewrite_command(alloc)?)?
+        .subcommand(recover_command(alloc)?)?
+        .subcommand(sample_command(alloc)?)?;
     Ok(tool)
 }
 
