@@ -1,7 +1,9 @@
 //! What a backend counts, and what becomes of it as the backend goes.
-ghost use Rattle.std.specs.Prelude.{◌≡◌, ◌≢◌, ◌<◌, [], IfOk, None, false};
+ghost use Rattle.std.specs.Prelude.{◌≡◌, ◌≢◌, ◌+◌, ◌<◌, [], IfOk, None, false};
 ghost use Rattle.pin_core.specs.State.{joined_view};
 ghost use Rattle.pin_core.specs.Steps.{HoldsNoHeader, HoldsNothing};
+ghost use Rattle.history_core.specs.Balances.{added_to};
+ghost use Rattle.history_core.specs.Words.{counter_count};
 ghost use Rattle.frame_table.specs.Seats.{Fits, IsSeat, frames_of};
 ghost use Rattle.clock_sweep.specs.Choosing.{Chooses, frame_at_place, ring_gone_on};
 ghost use Rattle.clock_sweep.specs.FreeFrames.{joined_parts};
@@ -73,4 +75,19 @@ pub fn join_queues(sweep: &Sweep, queue: &mut QueuePass, other: QueuePass)
         ≡ record queue.old { known = joined_parts queue.old.known other.known } }
 {
     sweep.join(queue, other);
+}
+
+/// Once all other backends are joined into the first, a counter is what that one has added, its own
+/// and theirs.
+pub fn load_total<L: BlockLane, G: LogDevice>(
+    table: &FrameTable<L, G>,
+    seat: &mut Seat<Value<L, G>, View>,
+    number: u32,
+) -> u64
+    requires seat { IsSeat table.now seat.old }
+    requires below { number < counter_count }
+    ensures exact { seat.old.me.0.number ≡ 0 → seat.old.me.0.joined + 1 ≡ seat.old.me.0.next
+        → result ≡ added_to number seat.old.me.0 }
+{
+    table.load_counter(seat, number)
 }

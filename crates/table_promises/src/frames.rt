@@ -1,5 +1,5 @@
 //! Pins, tags and locks of frames.
-ghost use Rattle.std.specs.Prelude.{◌≡◌, ◌≢◌, ℕ, IfOk, None, Some, false, true};
+ghost use Rattle.std.specs.Prelude.{◌≡◌, ◌≢◌, ℕ, IfNone, IfOk, IfSome, None, Some, false, true};
 ghost use Rattle.std.specs.Bool.{OnTrue};
 ghost use Rattle.state_word.specs.Fields.{fields};
 ghost use Rattle.block_tag.specs.Names.{names_block, packed_tag, partition_number};
@@ -7,6 +7,7 @@ ghost use Rattle.pin_core.specs.declared.view.Content.TheVariants.{Unlocked};
 ghost use Rattle.pin_core.specs.declared.view.Io.TheVariants.{Quiet};
 ghost use Rattle.pin_core.specs.declared.view.MapChange.TheVariants.{Stable};
 ghost use Rattle.pin_core.specs.declared.view.Role.TheVariants.{Absent, HandedOut, Victim};
+ghost use Rattle.pin_core.specs.Kinds.{CanLoadTag};
 ghost use Rattle.pin_core.specs.State.{link};
 ghost use Rattle.pin_core.specs.Steps.{HoldsNoHeader};
 ghost use Rattle.table_rule.specs.Blocks.{has_block};
@@ -15,7 +16,8 @@ ghost use Rattle.table_rule.specs.declared.turn.Turn.TheVariants.{Partition};
 ghost use Rattle.frame_table.specs.Content.{CanLock, exclusive_link};
 ghost use Rattle.frame_table.specs.Latches.{MayLeave};
 ghost use Rattle.frame_table.specs.Seats.{CanStep, CanTurn, Finds, HasFlag, HasOnlyPin, HoldsWord};
-ghost use Rattle.frame_table.specs.Seats.{IsSeat, MayChange, MayUnpin, frames_of, relations_of};
+ghost use Rattle.frame_table.specs.Seats.{IsSeat, Looked, MayChange, MayUnpin, Stores, frames_of};
+ghost use Rattle.frame_table.specs.Seats.{mapped_link, relations_of, stored_link};
 ghost use Rattle.clock_sweep.specs.FreeLists.{IsOfSweep};
 ghost use Rattle.cleanup_lock.specs.Waking.{Woken};
 ghost use Rattle.map_partitions.specs.Partition.{HoldsLatch};
@@ -35,9 +37,10 @@ use segment_store::BlockLane;
 use state_word::{Flag, has, pins, usage};
 use std::sync::Wait;
 
-/// The frame that the map gives is pinned under its partition's latch. Once that is left another
-/// backend may give the frame to another block (`BufferAlloc` pins, and then releases the partition
-/// lock).
+/// The frame that the map gives is pinned under its partition's latch, and the pin remembers the
+/// block's tag. Once the latch is left another backend may give the frame to another block
+/// (`BufferAlloc` pins, and then releases the partition lock). The latch can be left here: an edit
+/// does so before it pins.
 pub fn pin_found<L: BlockLane, G: LogDevice, R: Wait>(
     table: &FrameTable<L, G>,
     rt: &R,
@@ -52,6 +55,8 @@ pub fn pin_found<L: BlockLane, G: LogDevice, R: Wait>(
     requires absent { (link seat.old.me.0 frame).role ≡ Absent }
     requires tag { names_block tag ≡ true }
     requires finds { Finds seat.old.me.0 (packed_tag tag) frame }
+    ensures pinned { Looked (mapped_link (packed_tag tag) ring (link seat.old.me.0 frame))
+        (link seat.new.me.0 frame) }
 {
     table.pin(rt, seat, tag, frame, ring)
 }
@@ -72,6 +77,21 @@ pub fn is_of_block<L: BlockLane, G: LogDevice>(
         Some(other) => other == *tag,
         None => false,
     }
+}
+
+/// Under its header a frame has a tag exactly if the word that is held has `BM_TAG_VALID`
+/// (`InvalidateVictimBuffer` clears the tag and the flag under one header lock).
+pub fn has_tag<L: BlockLane, G: LogDevice>(
+    table: &FrameTable<L, G>,
+    seat: &mut Seat<Value<L, G>, View>,
+    frame: u32,
+) -> bool
+    requires seat { CanStep table.now seat.old frame }
+    requires right { CanLoadTag (link seat.old.me.0 frame).role (link seat.old.me.0 frame).header }
+    ensures flagged { (link seat.old.me.0 frame).pending ≡ false
+        → IfSome (link seat.old.me.0 frame).header (λ word. result ≡ word.tag_valid) }
+{
+    table.load_tag(seat, frame).is_some()
 }
 
 /// The word that a victim's header is held at shows no pin (`StrategyGetBuffer` looks at the
@@ -97,7 +117,7 @@ pub fn lock_victim<L: BlockLane, G: LogDevice, R: Wait>(
 }
 
 /// A victim loses its block only if its state word, under the header, shows one pin, the backend's
-/// own, and a clean page (`InvalidateVictimBuffer`).
+/// own, and a clean page (`InvalidateVictimBuffer`). The backend looks at no other frame for that.
 pub fn take_tag<L: BlockLane, G: LogDevice>(
     table: &FrameTable<L, G>,
     seat: &mut Seat<Value<L, G>, View>,
@@ -113,6 +133,7 @@ pub fn take_tag<L: BlockLane, G: LogDevice>(
     requires remembered { (link seat.old.me.0 frame).tag ≢ None }
     requires latch { (tag : ℕ) → (link seat.old.me.0 frame).tag ≡ Some tag
         → MayChange seat.old.me.0 (tag_partition tag) }
+    ensures stores { OnTrue result (Stores frame seat.old.me.0 seat.new.me.0) }
 {
     if pins(word) != 1 || has(word, Flag::Dirty) {
         return false;
@@ -137,6 +158,8 @@ pub fn insert_new<L: BlockLane, G: LogDevice>(
     requires block { has_block (relations_of table.now) tag ≡ true }
     requires latch { HasOneLatch (partition_number tag) seat.old.me.0 }
     requires holds { HoldsLatch Stable seat.old.me.0 (partition_number tag) }
+    ensures stored { IfNone result
+        (link seat.new.me.0 frame ≡ stored_link (link seat.old.me.0 frame)) }
 {
     if let Some(other) = find(table, seat, &tag) {
         return Some(other);
@@ -145,8 +168,8 @@ pub fn insert_new<L: BlockLane, G: LogDevice>(
     None
 }
 
-/// A state word is stored only under its header, and made of the word that was found there
-/// (`LockBufHdr`, `UnlockBufHdr`). A word that was only loaded may have changed since.
+/// A state word is stored only under its header, which that unlocks, and made of the word that was
+/// found there (`LockBufHdr`, `UnlockBufHdr`). A word that was only loaded may have changed since.
 pub fn lower_usage<L: BlockLane, G: LogDevice, R: Wait>(
     table: &FrameTable<L, G>,
     rt: &R,
@@ -156,6 +179,7 @@ pub fn lower_usage<L: BlockLane, G: LogDevice, R: Wait>(
     requires seat { CanStep table.now seat.old frame }
     requires headless { HoldsNoHeader seat.old.me.0 }
     requires settled { (link seat.old.me.0 frame).pending ≡ false }
+    ensures unlocked { (link seat.new.me.0 frame).header ≡ None }
 {
     let word = table.lock_header(rt, seat, frame);
     if pins(word) == 0 && usage(word) != 0 {

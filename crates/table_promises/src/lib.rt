@@ -9,12 +9,11 @@ mod pages;
 mod victims;
 mod words;
 
-pub use backends::{give_token_back, join_queues, join_seats, record_taken};
+pub use backends::{give_token_back, join_queues, join_seats, load_total, record_taken};
 pub use frames::{
-    insert_new, is_of_block, lock_exclusively, lock_victim, lower_usage, pin_found, take_tag, unpin,
+    has_tag, insert_new, is_of_block, lock_exclusively, lock_victim, lower_usage, pin_found,
+    take_tag, unpin,
 };
-pub use pages::{
-    begin_read, copy, end_under_header, end_write, flush, lock_for_cleanup, put, read,
-};
+pub use pages::{begin_read, copy, end_write, flush, lock_for_cleanup, put, read, write_flushed};
 pub use victims::{choose_victim, free_frame};
-pub use words::{add_counter, flush_log, load_counter, load_redo, raise_redo};
+pub use words::{add_counter, flush_log, load_counter, load_redo, raise_redo, take_lane_and_log};

@@ -1,13 +1,17 @@
 //! Pages, their reads and writes, and what comes before these.
-ghost use Rattle.std.specs.Prelude.{◌≡◌, ◌<◌, IfOk, IfSome, false, true};
+ghost use Rattle.std.specs.Prelude.{◌≡◌, ◌<◌, IfOk, IfSome, IsSome, false, true};
+ghost use Rattle.std.specs.Bool.{OnTrue};
+ghost use Rattle.std.specs.Option.{ForSome};
 ghost use Rattle.block_tag.specs.Names.{lane_number, names_block};
 ghost use Rattle.page_layout.specs.Soundness.{is_new_page, is_sound_page};
 ghost use Rattle.pin_core.specs.declared.view.Content.TheVariants as content;
 ghost use Rattle.pin_core.specs.declared.view.Io.TheVariants.{Quiet};
-ghost use Rattle.pin_core.specs.State.{link};
+ghost use Rattle.pin_core.specs.State.{lane_hold, link};
 ghost use Rattle.pin_core.specs.Steps.{HoldsNoHeader};
 ghost use Rattle.page_core.specs.Steps.{HasNoIo, HasNoWriteOut, MayWait};
 ghost use Rattle.table_rule.specs.Blocks.{has_block};
+ghost use Rattle.table_rule.specs.LaneCalls.{NotesWritten};
+ghost use Rattle.table_rule.specs.declared.noted_lane.LaneCall.TheVariants.{Untouched};
 ghost use Rattle.frame_table.specs.Seats.{CanStep, frames_of, lanes_in, relations_of};
 ghost use Rattle.content_locks.specs.Io.{BeginsIo, CanStartIo, EndsIo, MayEndIo};
 ghost use Rattle.content_locks.specs.Locks.{CanCopy, copied_link};
@@ -32,7 +36,7 @@ use byte_devices::LogDevice;
 use cleanup_lock::{CleanupError, lock};
 use clock_sweep::Sweep;
 use content_locks::{Direction, IoRight, copy_out, end_io, start_io};
-use frame_table::{FrameTable, Value};
+use frame_table::{FrameTable, NotedLane, Value};
 use page_layout::{Lsn, Page};
 use pin_core::View;
 use segment_store::BlockLane;
@@ -60,7 +64,8 @@ pub fn lock_for_cleanup<L: BlockLane, G: LogDevice, R: Wait>(
 }
 
 /// A copy that is made under the content lock is of the frame's page (`PageSetChecksumCopy`, which
-/// `FlushBuffer` calls under the shared lock).
+/// `FlushBuffer` calls under the shared lock). The lock is shared here, and no read or write begun:
+/// an edit takes the page out, which asks for that.
 pub fn copy<L: BlockLane, G: LogDevice, R: Wait>(
     table: &FrameTable<L, G>,
     rt: &R,
@@ -128,6 +133,27 @@ pub fn flush<L: BlockLane, G: LogDevice, R: Wait>(
     flush_frame(table, rt, seat, held, frame, tag, page)
 }
 
+/// A lane takes a page only if the log was seen flushed up to the page's position before the lane
+/// went out (`FlushBuffer` calls `XLogFlush`, and then `smgrwrite`).
+pub fn write_flushed<L: BlockLane, G: LogDevice>(
+    seat: &Seat<Value<L, G>, View>,
+    out: &mut NotedLane<L>,
+    flushed: Lsn,
+    frame: u32,
+    tag: Tag,
+    page: &Page,
+) -> bool
+    requires untouched { out.old.call ≡ Untouched }
+    requires held { ForSome (L.contents out.old.device) (λ pages. IsSome (pages tag)) }
+    requires flushed { flushed ≡ (lane_hold seat.now.me.0 out.old.number).flushed }
+    ensures call { OnTrue result (NotesWritten frame tag page.now out.new.call) }
+{
+    if page.lsn() > flushed {
+        return false;
+    }
+    out.write(seat, frame, tag, page).is_ok()
+}
+
 /// A read begins only if no backend reads or writes the page: the word that the header is held at
 /// is without `BM_IO_IN_PROGRESS` (`StartBufferIO`).
 pub fn begin_read<L: BlockLane, G: LogDevice, R: Wait>(
@@ -145,24 +171,6 @@ pub fn begin_read<L: BlockLane, G: LogDevice, R: Wait>(
     start_io(table, rt, seat, frame, Direction::Input)
 }
 
-/// A read or a write ends under the header, and the word that is stored is made of the one that
-/// was found there (`TerminateBufferIO`).
-pub fn end_under_header<L: BlockLane, G: LogDevice, R: Wait>(
-    table: &FrameTable<L, G>,
-    rt: &R,
-    seat: &mut Seat<Value<L, G>, View>,
-    right: IoRight,
-    end: IoEnd,
-)
-    requires seat { CanStep table.now seat.old right.frame }
-    requires headless { HoldsNoHeader seat.old.me.0 }
-    requires no_write { HasNoWriteOut seat.old.me.0 right.frame }
-    requires view { MayEndIo end (link seat.old.me.0 right.frame) }
-    ensures { EndsIo end right.frame seat.old.me.0 seat.new.me.0 }
-{
-    end_io(table, rt, seat, right, end);
-}
-
 /// A write that failed leaves the frame dirty (`AbortBufferIO`): it doesn't end as one that was
 /// made. Whether it was made is a premise here: a lane notes that at the frame as it comes back
 /// (`FrameTable::lane_back`), and that asks for all that a flush has by then.
@@ -178,6 +186,8 @@ pub fn end_write<L: BlockLane, G: LogDevice, R: Wait>(
     requires no_write { HasNoWriteOut seat.old.me.0 right.frame }
     requires done { written ≡ true → MayEndIo WriteOk (link seat.old.me.0 right.frame) }
     requires failed { MayEndIo Bad (link seat.old.me.0 right.frame) }
+    ensures failed { written ≡ false
+        → EndsIo Bad right.frame seat.old.me.0 seat.new.me.0 }
 {
     if written {
         end_io(table, rt, seat, right, IoEnd::WriteOk);
