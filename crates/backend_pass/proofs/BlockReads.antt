@@ -30,7 +30,10 @@ use Rattle.buffer_frames.specs.declared.victims.VictimError.TheVariants as victi
 use Rattle.buffer_frames.specs.declared.reading.PinnedBlock.{PinnedBlock}
 use Rattle.buffer_frames.specs.declared.reading.BlockError.{BlockError}
 use Rattle.buffer_frames.specs.declared.reading.BlockError.TheVariants as block
-use Rattle.buffer_frames.specs.Reads.{CensusRead, ReadAnswer, ReadCalls, met_read_block}
+use Rattle.buffer_frames.specs.declared.loading.Loaded.{Loaded}
+use Rattle.buffer_frames.specs.declared.loading.LoadError.TheVariants as load
+use Rattle.buffer_frames.specs.Loading.{loaded_by, loading_calls}
+use Rattle.buffer_frames.specs.Reads.{CensusRead, Locates, ReadAnswer, ReadCalls, met_read_block}
 use Rattle.buffer_frames.specs.Stages.{Pins}
 use Rattle.buffer_frames.specs.VictimChoices.{ChoiceState, choice_state}
 use Rattle.clock_sweep.proofs.FreeLists.{list_same}
@@ -90,35 +93,35 @@ shown_refused v w s (LogShort lsn end) front met n = shown_met v w s front met n
 shown_refused v w s (Unsound tag) front met n = shown_met v w s front met n
 
 -- the faults of the frames' refusal are those of the pass's
-pub met_of_refusal : (why : BlockError) (m : FailedCalls) → met_read_block (Err why) m ≡ met_read_refused (read_refusal why) m
-met_of_refusal (block.NoFrame (victim.NoUnpinned frames)) m = refl
-met_of_refusal (block.NoFrame (victim.Flush (flush.WriteFault tag))) m = refl
-met_of_refusal (block.NoFrame (victim.Flush (flush.Log log.LogFault))) m = refl
-met_of_refusal (block.NoFrame (victim.Flush (flush.Log (log.LogDown at)))) m = refl
-met_of_refusal (block.NoFrame (victim.Flush (flush.Log (log.LogShort lsn end)))) m = refl
-met_of_refusal (block.ReadFault tag) m = refl
-met_of_refusal (block.Unsound tag) m = refl
+pub met_of_refusal : (tag : Tag) (why : BlockError) (m : FailedCalls) → met_read_block (Err why) m ≡ met_read_refused (read_refusal tag why) m
+met_of_refusal tag (block.NoFrame (victim.NoUnpinned frames)) m = refl
+met_of_refusal tag (block.NoFrame (victim.Flush (flush.WriteFault written))) m = refl
+met_of_refusal tag (block.NoFrame (victim.Flush (flush.Log log.LogFault))) m = refl
+met_of_refusal tag (block.NoFrame (victim.Flush (flush.Log (log.LogDown at)))) m = refl
+met_of_refusal tag (block.NoFrame (victim.Flush (flush.Log (log.LogShort lsn end)))) m = refl
+met_of_refusal tag (block.Unread load.ReadFault) m = refl
+met_of_refusal tag (block.Unread load.Unsound) m = refl
 
 -- so is what it leaves of the census
-pub census_of_refusal : (n : ℕ) (c d : CensusList) (why : BlockError) → CensusRead n c d (Err why) → ReadingCensus n c d (Err (read_refusal why))
-census_of_refusal n c d (block.NoFrame (victim.NoUnpinned frames)) e = e
-census_of_refusal n c d (block.NoFrame (victim.Flush (flush.WriteFault tag))) e = e
-census_of_refusal n c d (block.NoFrame (victim.Flush (flush.Log log.LogFault))) e = e
-census_of_refusal n c d (block.NoFrame (victim.Flush (flush.Log (log.LogDown at)))) e = e
-census_of_refusal n c d (block.NoFrame (victim.Flush (flush.Log (log.LogShort lsn end)))) e = e
-census_of_refusal n c d (block.ReadFault tag) e = e
-census_of_refusal n c d (block.Unsound tag) e = e
+pub census_of_refusal : (tag : Tag) (n : ℕ) (c d : CensusList) (why : BlockError) → CensusRead n c d (Err why) → ReadingCensus n c d (Err (read_refusal tag why))
+census_of_refusal tag n c d (block.NoFrame (victim.NoUnpinned frames)) e = e
+census_of_refusal tag n c d (block.NoFrame (victim.Flush (flush.WriteFault written))) e = e
+census_of_refusal tag n c d (block.NoFrame (victim.Flush (flush.Log log.LogFault))) e = e
+census_of_refusal tag n c d (block.NoFrame (victim.Flush (flush.Log (log.LogDown at)))) e = e
+census_of_refusal tag n c d (block.NoFrame (victim.Flush (flush.Log (log.LogShort lsn end)))) e = e
+census_of_refusal tag n c d (block.Unread load.ReadFault) e = e
+census_of_refusal tag n c d (block.Unread load.Unsound) e = e
 
 -- and so are its calls
 module _ {L G : Type 0} (contents : L → Option Pages) (t : FrameTable L G) (tag : Tag) (held : Tokens) (ring : Bool) (seen : HintSeen) (c d : ChoiceState) (lane : ℕ) (v w : View) where
-  pub calls_of_refusal : (why : BlockError) → ReadCalls contents t tag held ring seen c d lane v w (Err why) → ReadingCalls contents t tag held ring seen c d lane v w (Err (read_refusal why))
+  pub calls_of_refusal : (why : BlockError) → ReadCalls contents t tag held ring seen c d lane v w (Err why) → ReadingCalls contents t tag held ring seen c d lane v w (Err (read_refusal tag why))
   calls_of_refusal (block.NoFrame (victim.NoUnpinned frames)) x = x
   calls_of_refusal (block.NoFrame (victim.Flush (flush.WriteFault failed))) x = x
   calls_of_refusal (block.NoFrame (victim.Flush (flush.Log log.LogFault))) x = x
   calls_of_refusal (block.NoFrame (victim.Flush (flush.Log (log.LogDown at)))) x = x
   calls_of_refusal (block.NoFrame (victim.Flush (flush.Log (log.LogShort lsn end)))) x = x
-  calls_of_refusal (block.ReadFault failed) x = x
-  calls_of_refusal (block.Unsound failed) x = x
+  calls_of_refusal (block.Unread load.ReadFault) x = x
+  calls_of_refusal (block.Unread load.Unsound) x = x
 
 -- what rests after a read
 pub rests_pinned : (tag f : ℕ) (t : Tokens) (w : View) → HasNoDevice w → HasNoLatch w → Pins tag f t w → (link w f).seen_valid ≡ true → OnlyTokens (tokens_with f tag t) w
@@ -184,16 +187,16 @@ module _ {L G : Type 0} (contents : L → Option Pages) (t : FrameTable L G) whe
 
   -- why a block was not read
   refused_as : (tag : Tag) (ring after : Option RingState) (p q : PassState) (why : BlockError) → ReadAnswer contents t tag p.tokens p.view q.view (Err why)
-      → ReadCalls contents t tag p.tokens (is_some ring) q.hint (choice_state p.queue ring p.census) (choice_state q.queue after q.census) (lane_number tag (lanes_in t)) p.view q.view (Err why) → ReadingRefused contents t tag p q (read_refusal why)
+      → ReadCalls contents t tag p.tokens (is_some ring) q.hint (choice_state p.queue ring p.census) (choice_state q.queue after q.census) (lane_number tag (lanes_in t)) p.view q.view (Err why) → ReadingRefused contents t tag p q (read_refusal tag why)
   refused_as tag ring after p q (block.NoFrame (victim.NoUnpinned frames)) a x = freed_none ring after p q (victim.NoUnpinned frames) x.0.searched x.2
   refused_as tag ring after p q (block.NoFrame (victim.Flush (flush.WriteFault failed))) a x = freed_none ring after p q (victim.Flush (flush.WriteFault failed)) x.0.searched x.2
   refused_as tag ring after p q (block.NoFrame (victim.Flush (flush.Log log.LogFault))) a x = freed_none ring after p q (victim.Flush (flush.Log log.LogFault)) x.0.searched x.2
   refused_as tag ring after p q (block.NoFrame (victim.Flush (flush.Log (log.LogDown at)))) a x = freed_none ring after p q (victim.Flush (flush.Log (log.LogDown at))) x.0.searched x.2
   refused_as tag ring after p q (block.NoFrame (victim.Flush (flush.Log (log.LogShort lsn end)))) a x = freed_none ring after p q (victim.Flush (flush.Log (log.LogShort lsn end))) x.0.searched x.2
-  refused_as tag ring after p q (block.ReadFault failed) a x = a.1
-  refused_as tag ring after p q (block.Unsound failed) a x = (a.1, a.2)
+  refused_as tag ring after p q (block.Unread load.ReadFault) a x = refl
+  refused_as tag ring after p q (block.Unread load.Unsound) a x = (refl, a.1)
 
-  pub refused_reads : (tag : Tag) (ring after : Option RingState) (a p q : PassState) (why : BlockError) (answer : ReadError) → a ≡ p → answer ≡ read_refusal why → q.tokens ≡ a.tokens → ReadAnswer contents t tag a.tokens a.view q.view (Err why)
+  pub refused_reads : (tag : Tag) (ring after : Option RingState) (a p q : PassState) (why : BlockError) (answer : ReadError) → a ≡ p → answer ≡ read_refusal tag why → q.tokens ≡ a.tokens → ReadAnswer contents t tag a.tokens a.view q.view (Err why)
       → ReadCalls contents t tag a.tokens (is_some ring) q.hint (choice_state a.queue ring a.census) (choice_state q.queue after q.census) (lane_number tag (lanes_in t)) a.view q.view (Err why) → ReadsBlock contents t tag ring after p q (Err answer)
   refused_reads tag ring after a p q why answer same is tokens r calls = subst (λ (x : PassState). ReadsBlock contents t tag ring after x q (Err answer)) same (subst (λ (y : ReadError). ReadsBlock contents t tag ring after a q (Err y)) (sym is) record {
     answer = (tokens, refused_as tag ring after a q why r calls);
@@ -201,11 +204,11 @@ module _ {L G : Type 0} (contents : L → Option Pages) (t : FrameTable L G) whe
   })
 
   -- and a block that was pinned
-  pub first_reads : (tag : Tag) (ring after : Option RingState) (a p q : PassState) (block : PinnedBlock) (frame : ℕ) → a ≡ p → frame ≡ block.pin.frame → q.tokens ≡ tokens_with block.pin.frame (packed_tag tag) a.tokens → ReadAnswer contents t tag a.tokens a.view q.view (Ok block)
-      → ReadCalls contents t tag a.tokens (is_some ring) q.hint (choice_state a.queue ring a.census) (choice_state q.queue after q.census) (lane_number tag (lanes_in t)) a.view q.view (Ok block) → ReadsBlock contents t tag ring after p q (Ok (record { frame = frame; tag = tag; hit = block.hit }))
-  first_reads tag ring after a p q block frame same is tokens r calls = subst (λ (x : PassState). ReadsBlock contents t tag ring after x q (Ok (record { frame = frame; tag = tag; hit = block.hit }))) same (subst (λ (f : ℕ). ReadsBlock contents t tag ring after a q (Ok (record { frame = f; tag = tag; hit = block.hit }))) (sym is) record {
+  pub first_reads : (tag : Tag) (ring after : Option RingState) (a p q : PassState) (block : PinnedBlock) (frame : ℕ) (hit : Bool) → a ≡ p → loaded_by hit ≡ block.loaded → frame ≡ block.pin.frame → q.tokens ≡ tokens_with block.pin.frame (packed_tag tag) a.tokens → ReadAnswer contents t tag a.tokens a.view q.view (Ok block)
+      → ReadCalls contents t tag a.tokens (is_some ring) q.hint (choice_state a.queue ring a.census) (choice_state q.queue after q.census) (lane_number tag (lanes_in t)) a.view q.view (Ok block) → ReadsBlock contents t tag ring after p q (Ok (record { frame = frame; tag = tag; hit = hit }))
+  first_reads tag ring after a p q block frame hit same by is tokens r calls = subst (λ (x : PassState). ReadsBlock contents t tag ring after x q (Ok (record { frame = frame; tag = tag; hit = hit }))) same (subst (λ (f : ℕ). ReadsBlock contents t tag ring after a q (Ok (record { frame = f; tag = tag; hit = hit }))) (sym is) record {
     answer = record { named = refl; tokens = tokens; new = r.1.new; inside = r.0; seen = r.2; unlocked = r.1.unlocked; sound = r.3 };
-    calls = calls;
+    calls = subst (λ (l : Loaded). Locates contents t tag a.tokens (is_some ring) q.hint (choice_state a.queue ring a.census) (choice_state q.queue after q.census) block.pin.frame (loading_calls (lane_number tag (lanes_in t)) (packed_tag tag) (Ok l)) a.view q.view) (sym by) calls;
   })
 
   -- what is told of a read is no matter of the hint that the pass had
@@ -232,8 +235,7 @@ module _ {L G : Type 0} (contents : L → Option Pages) (t : FrameTable L G) whe
 
   pub links_refused : (tag : Tag) (held : Tokens) (v w : View) (why : BlockError) → ReadAnswer contents t tag held v w (Err why) → LinksRest held w
   links_refused tag held v w (block.NoFrame why) a = a
-  links_refused tag held v w (block.ReadFault failed) a = a.0
-  links_refused tag held v w (block.Unsound failed) a = a.0
+  links_refused tag held v w (block.Unread why) a = a.0
 
 module _ {L G : Type 0} (contents : L → Option Pages) (m : Manager L G) where
   -- one token more, of a block that was sound

@@ -38,6 +38,7 @@ use Rattle.buffer_frames.specs.declared.flushing.FrameFlushError.TheVariants as 
 use Rattle.buffer_frames.specs.declared.reading.BlockError.{BlockError}
 use Rattle.buffer_frames.specs.declared.reading.BlockError.TheVariants as block
 use Rattle.buffer_frames.specs.declared.victims.VictimError.TheVariants as victim
+use Rattle.buffer_frames.specs.declared.loading.LoadError.TheVariants as load
 use Rattle.buffer_frames.specs.Reads.{Locates, Misses, ReadNotes, looked_up, missed}
 use Rattle.backend_pass.specs.declared.errors.ReadError.{ReadError}
 use Rattle.backend_pass.specs.declared.errors.ReadError.TheVariants.{PastEnd, PinsFull, NoUnpinned, ReadFault, WriteFault, LogFault, LogDown, LogShort, Unsound}
@@ -140,11 +141,11 @@ turns_told _ a b t below = (λ none. absurd none, taken_shown a b below t)
 
 -- What a read that was refused has stored of hints
 pub stores_refused : (n : ℕ) (tag : Tag) (seen : HintSeen) (old new : List HintStore) (why : BlockError)
-    → ReadNotes n tag seen old new (Err why) → StoresHints n tag seen old new (Err (read_refusal why))
+    → ReadNotes n tag seen old new (Err why) → StoresHints n tag seen old new (Err (read_refusal tag why))
 stores_refused n tag seen old new (block.NoFrame (victim.NoUnpinned frames)) same = same
 stores_refused n tag seen old new (block.NoFrame (victim.Flush (flush.WriteFault written))) same = same
 stores_refused n tag seen old new (block.NoFrame (victim.Flush (flush.Log log.LogFault))) same = same
 stores_refused n tag seen old new (block.NoFrame (victim.Flush (flush.Log (log.LogDown at)))) same = same
 stores_refused n tag seen old new (block.NoFrame (victim.Flush (flush.Log (log.LogShort lsn end)))) same = same
-stores_refused n tag seen old new (block.ReadFault failed) notes = notes
-stores_refused n tag seen old new (block.Unsound failed) notes = notes
+stores_refused n tag seen old new (block.Unread load.ReadFault) notes = notes
+stores_refused n tag seen old new (block.Unread load.Unsound) notes = notes

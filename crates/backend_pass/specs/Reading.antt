@@ -57,15 +57,16 @@ at_once_of (Err (PastEnd block blocks)) = Some (PastEnd block blocks)
 at_once_of (Err PinsFull) = Some PinsFull
 at_once_of _ = None
 
--- what a pass is refused for, by the refusal of its frames
-abbrev pub read_refusal : BlockError → ReadError
-read_refusal (block.NoFrame (victim.NoUnpinned frames)) = NoUnpinned frames
-read_refusal (block.NoFrame (victim.Flush (flush.WriteFault tag))) = WriteFault tag
-read_refusal (block.NoFrame (victim.Flush (flush.Log log.LogFault))) = LogFault
-read_refusal (block.NoFrame (victim.Flush (flush.Log (log.LogDown at)))) = LogDown at
-read_refusal (block.NoFrame (victim.Flush (flush.Log (log.LogShort lsn end)))) = LogShort lsn end
-read_refusal (block.ReadFault tag) = ReadFault tag
-read_refusal (block.Unsound tag) = Unsound tag
+-- what a pass is refused for that reads the tag's block, by the refusal of its frames
+abbrev pub read_refusal : Tag → BlockError → ReadError
+read_refusal tag (block.NoFrame (victim.NoUnpinned frames)) = NoUnpinned frames
+read_refusal tag (block.NoFrame (victim.Flush (flush.WriteFault written))) = WriteFault written
+read_refusal tag (block.NoFrame (victim.Flush (flush.Log log.LogFault))) = LogFault
+read_refusal tag (block.NoFrame (victim.Flush (flush.Log (log.LogDown at)))) = LogDown at
+read_refusal tag (block.NoFrame (victim.Flush (flush.Log (log.LogShort lsn end)))) =
+    LogShort lsn end
+read_refusal tag (block.Unread load.ReadFault) = ReadFault tag
+read_refusal tag (block.Unread load.Unsound) = Unsound tag
 
 -- the faults that were met, by the refusal, and by the answer
 abbrev pub met_read_refused : ReadError → FailedCalls → FailedCalls

@@ -3,6 +3,7 @@
 //! Rings are passed as `&mut Option<Ring>`: if a reference stood inside the `Option`, no clause
 //! could tell the caller what it refers to after a call.
 ghost use Rattle.std.specs.Prelude.{◌≡◌};
+ghost use Rattle.buffer_frames.specs.Loading.{loaded_by};
 ghost use Rattle.backend_pass.specs.Reading.{read_refusal, shown_after};
 
 use crate::errors::ReadError;
@@ -14,7 +15,8 @@ use crate::seats::{return_seat, take_seat};
 use access_rings::Ring;
 use block_tag::Tag;
 use buffer_frames::{
-    BlockError, FrameFlushError, HintSeen, MOST_TOKENS, PinnedBlock, VictimError, read_block,
+    BlockError, FrameFlushError, HintSeen, LoadError, Loaded, MOST_TOKENS, PinnedBlock, VictimError,
+    read_block,
 };
 use byte_devices::LogDevice;
 use crossbeam_utils::CachePadded;
@@ -22,9 +24,9 @@ use segment_store::BlockLane;
 use std::sync::Wait;
 use wal_flush::FlushLog;
 
-/// The refusal of a pass whose frames refuse a block.
-fn read_error(why: BlockError) -> ReadError
-    ensures { result ≡ read_refusal why }
+/// The refusal of a pass whose frames refuse the block of this tag.
+fn read_error(why: BlockError, tag: Tag) -> ReadError
+    ensures { result ≡ read_refusal tag why }
 {
     match why {
         BlockError::NoFrame(VictimError::NoUnpinned { frames }) => ReadError::NoUnpinned { frames },
@@ -40,8 +42,18 @@ fn read_error(why: BlockError) -> ReadError
         BlockError::NoFrame(
             VictimError::Flush(FrameFlushError::Log(FlushLog::LogShort { lsn, end })),
         ) => { ReadError::LogShort { lsn, end } }
-        BlockError::ReadFault { tag } => ReadError::ReadFault { tag },
-        BlockError::Unsound { tag } => ReadError::Unsound { tag },
+        BlockError::Unread(LoadError::ReadFault) => ReadError::ReadFault { tag },
+        BlockError::Unread(LoadError::Unsound) => ReadError::Unsound { tag },
+    }
+}
+
+/// Whether a block was there already, so that no lane was read for it.
+fn is_hit(loaded: Loaded) -> bool
+    ensures { loaded_by result ≡ loaded }
+{
+    match loaded {
+        Loaded::Hit => true,
+        Loaded::Read => false,
     }
 }
 
@@ -157,14 +169,15 @@ impl Pass {
         );
         return_seat(&mut self.seat, seat);
         match answer {
-            Ok(PinnedBlock { pin, hit }) => {
+            Ok(PinnedBlock { pin, loaded }) => {
                 let frame = pin.frame();
                 let tag = *tag;
+                let hit = is_hit(loaded);
                 self.held.add_pin(pin, tag);
                 Ok(Pinned { frame, tag, hit })
             }
             Err(cause) => {
-                let why = read_error(cause);
+                let why = read_error(cause, *tag);
                 let shown = self.shown.after(&why);
                 self.shown = CachePadded::new(shown);
                 Err(why)

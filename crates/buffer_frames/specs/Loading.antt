@@ -46,11 +46,14 @@ abbrev pub loaded_by : Bool → Loaded
 loaded_by true = Hit
 loaded_by false = Read
 
--- the faults that were met, by the answer
+-- the faults that were met, by the reason, and by the answer
+abbrev pub met_unread : LoadError → FailedCalls → FailedCalls
+met_unread Unsound m = m
+met_unread ReadFault m = met_read m
+
 abbrev pub met_loading : {A : Type 0} → Result A LoadError → FailedCalls → FailedCalls
 met_loading (Ok done) m = m
-met_loading (Err Unsound) m = m
-met_loading (Err ReadFault) m = met_read m
+met_loading (Err why) m = met_unread why m
 
 -- In the view the page is noted that a lane gave for the frame f, and isn't sound
 pub record NotesUnsound (f : ℕ) (v : View) : Type 0 where
@@ -87,8 +90,12 @@ module _ {L G : Type 0} (contents : L → Option Pages) (t : FrameTable L G) whe
     pub unsound : is_sound_page page ≡ false
     pub was : WasAtOpening contents t tag page
 
-  -- what a load shows of the page that the block had then
+  -- what it shows of the page that the block had then that its page didn't come, for this reason
+  abbrev pub UnreadShows : Tag → LoadError → Type 0
+  UnreadShows tag Unsound = WasUnsoundAtOpening tag
+  UnreadShows tag ReadFault = Unit {0}
+
+  -- and what a load shows of it
   abbrev pub LoadShows : {A : Type 0} → Tag → Result A LoadError → Type 0
   LoadShows tag (Ok done) = WasSoundAtOpening contents t tag
-  LoadShows tag (Err Unsound) = WasUnsoundAtOpening tag
-  LoadShows tag (Err ReadFault) = Unit {0}
+  LoadShows tag (Err why) = UnreadShows tag why

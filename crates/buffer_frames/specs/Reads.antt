@@ -19,19 +19,18 @@ use Rattle.buffer_frames.specs.Rests.{LinksRest}
 use Rattle.buffer_frames.specs.Tokens.{Tokens}
 use Rattle.buffer_frames.specs.declared.hinting.HintSeen.{HintSeen}
 use Rattle.buffer_frames.specs.declared.loading.LoadError.{LoadError}
-use Rattle.buffer_frames.specs.declared.loading.LoadError.TheVariants as load
 use Rattle.buffer_frames.specs.declared.reading.BlockError.{BlockError}
-use Rattle.buffer_frames.specs.declared.reading.BlockError.TheVariants.{NoFrame, ReadFault, Unsound}
+use Rattle.buffer_frames.specs.declared.reading.BlockError.TheVariants.{NoFrame, Unread}
 use Rattle.buffer_frames.specs.declared.reading.PinnedBlock.{PinnedBlock}
 use Rattle.buffer_frames.specs.declared.victims.VictimError.{VictimError}
-use Rattle.buffer_frames.specs.Loading.{FailsRead, WasUnsoundAtOpening, loaded_by, loading_calls}
+use Rattle.buffer_frames.specs.Loading.{FailsRead, UnreadShows, loading_calls, met_unread}
 use Rattle.buffer_frames.specs.Hinting.{LeavesHint, SeesHint}
 use Rattle.buffer_frames.specs.Lookups.{LooksUp, SeesNone, UnderPartition}
 use Rattle.buffer_frames.specs.Stages.{Pins}
 use Rattle.buffer_frames.specs.Bringing.{PinsAndStores, PushesNone}
 use Rattle.buffer_frames.specs.VictimChoices.{ChoiceState}
 use Rattle.buffer_frames.specs.Victims.{CensusRefused, VictimRefused, met_victim}
-use Rattle.buffer_frames.specs.Working.{IsFlushCall, Made, WorksAt, met_read}
+use Rattle.buffer_frames.specs.Working.{IsFlushCall, Made, WorksAt}
 
 -- Calls of devices were made that a flush makes, and then these
 pub record MadeThen (last : List DeviceCall) (v w : View) : Type 0 where
@@ -83,13 +82,10 @@ module _ {L G : Type 0} (contents : L → Option Pages) (t : FrameTable L G) whe
     -- how a block was read, or wasn't: this lane was read if the answer says so, and no other lane
     abbrev pub ReadCalls : ℕ → View → View → Result PinnedBlock BlockError → Type 0
     ReadCalls lane v w (Ok block) = Locates block.pin.frame
-        (loading_calls lane (packed_tag tag) (Ok (loaded_by block.hit))) v w
+        (loading_calls lane (packed_tag tag) (Ok block.loaded)) v w
     ReadCalls lane v w (Err (NoFrame why)) = GetsNoVictim why v w
-    ReadCalls lane v w (Err (ReadFault failed)) = (f : ℕ)
-        × LocatesUnread load.ReadFault
-        (loading_calls lane (packed_tag tag) (Err load.ReadFault)) v w f
-    ReadCalls lane v w (Err (Unsound failed)) = (f : ℕ)
-        × LocatesUnread load.Unsound (loading_calls lane (packed_tag tag) (Err load.Unsound)) v w f
+    ReadCalls lane v w (Err (Unread why)) = (f : ℕ)
+        × LocatesUnread why (loading_calls lane (packed_tag tag) (Err why)) v w f
 
 -- The hints that a call stored that pins a block, by its answer: none if no frame was freed
 abbrev pub PinNotes : ℕ → Tag → HintSeen → List HintStore → List HintStore
@@ -101,17 +97,13 @@ abbrev pub ReadNotes : ℕ → Tag → HintSeen → List HintStore → List Hint
     → Result PinnedBlock BlockError → Type 0
 ReadNotes n tag seen old new (Ok block) = LeavesHint n tag block.pin.frame seen old new
 ReadNotes n tag seen old new (Err (NoFrame why)) = new ≡ old
-ReadNotes n tag seen old new (Err (ReadFault failed)) = (f : ℕ)
-    × LeavesHint n tag f seen old new
-ReadNotes n tag seen old new (Err (Unsound failed)) = (f : ℕ)
-    × LeavesHint n tag f seen old new
+ReadNotes n tag seen old new (Err (Unread why)) = (f : ℕ) × LeavesHint n tag f seen old new
 
 -- the faults that were met, by the answer
 abbrev pub met_read_block : Result PinnedBlock BlockError → FailedCalls → FailedCalls
 met_read_block (Ok block) m = m
 met_read_block (Err (NoFrame why)) m = met_victim why m
-met_read_block (Err (ReadFault tag)) m = met_read m
-met_read_block (Err (Unsound tag)) m = m
+met_read_block (Err (Unread why)) m = met_unread why m
 
 -- the census is as it was, or empty: a read that chooses a victim empties it
 abbrev pub KeptOrEmptied : ℕ → CensusList → CensusList → Type 0
@@ -124,8 +116,7 @@ CensusPinned n c d (Err why) = CensusRefused n d why
 abbrev pub CensusRead : ℕ → CensusList → CensusList → Result PinnedBlock BlockError → Type 0
 CensusRead n c d (Ok block) = KeptOrEmptied n c d
 CensusRead n c d (Err (NoFrame why)) = CensusRefused n d why
-CensusRead n c d (Err (ReadFault failed)) = KeptOrEmptied n c d
-CensusRead n c d (Err (Unsound failed)) = KeptOrEmptied n c d
+CensusRead n c d (Err (Unread why)) = KeptOrEmptied n c d
 
 module _ {L G : Type 0} (contents : L → Option Pages) (t : FrameTable L G) where
   -- What a read answers: the block's frame is pinned, and BM_VALID was seen; or all pins are as
@@ -137,6 +128,4 @@ module _ {L G : Type 0} (contents : L → Option Pages) (t : FrameTable L G) whe
       × Pins (packed_tag tag) block.pin.frame held w
       × ((link w block.pin.frame).seen_valid ≡ true) × WasSoundAtOpening contents t tag
   ReadAnswer tag held v w (Err (NoFrame why)) = LinksRest held w
-  ReadAnswer tag held v w (Err (ReadFault failed)) = LinksRest held w × (failed ≡ tag)
-  ReadAnswer tag held v w (Err (Unsound failed)) = LinksRest held w × (failed ≡ tag)
-      × WasUnsoundAtOpening contents t tag
+  ReadAnswer tag held v w (Err (Unread why)) = LinksRest held w × UnreadShows contents t tag why

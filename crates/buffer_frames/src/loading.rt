@@ -28,13 +28,16 @@ use segment_store::BlockLane;
 use state_word::{Flag, IoEnd, has};
 use std::mem::replace;
 use std::sync::Wait;
+use thiserror::Error;
 
 /// Why a page didn't come.
-#[derive(Clone, Copy, PartialEq, Eq, Debug)]
+#[derive(Clone, Copy, PartialEq, Eq, Debug, Error)]
 pub enum LoadError {
     /// The lane failed to read it.
+    #[error("a page was not read")]
     ReadFault,
     /// The lane gave a page that isn't sound.
+    #[error("a page is not sound")]
     Unsound,
 }
 

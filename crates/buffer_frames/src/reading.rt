@@ -35,18 +35,15 @@ pub enum BlockError {
     /// No frame was freed for it.
     #[error("{0}")]
     NoFrame(VictimError),
-    /// The lane failed to read the page of this block.
-    #[error("a page was not read")]
-    ReadFault { tag: Tag },
-    /// The lane gave a page of this block that isn't sound.
-    #[error("a page is not sound")]
-    Unsound { tag: Tag },
+    /// Its page didn't come into the frame that was pinned for it.
+    #[error("{0}")]
+    Unread(LoadError),
 }
 
-/// The pin of a block whose page is there, and whether no lane was read for it.
+/// The pin of a block whose page is there, and how it came there.
 pub struct PinnedBlock {
     pub pin: Pin,
-    pub hit: bool,
+    pub loaded: Loaded,
 }
 
 /// Pins a block's frame, or brings the block into one.
@@ -141,15 +138,10 @@ pub fn read_block<L: BlockLane, G: LogDevice, R: Wait>(
     };
     let frame = pin.frame();
     match load(table, rt, seat, held, frame, tag, &mut backend.page) {
-        Ok(Loaded::Hit) => Ok(PinnedBlock { pin, hit: true }),
-        Ok(Loaded::Read) => Ok(PinnedBlock { pin, hit: false }),
-        Err(LoadError::ReadFault) => {
+        Ok(loaded) => Ok(PinnedBlock { pin, loaded }),
+        Err(why) => {
             give_back(table, rt, seat, held, pin, *tag);
-            Err(BlockError::ReadFault { tag: *tag })
-        }
-        Err(LoadError::Unsound) => {
-            give_back(table, rt, seat, held, pin, *tag);
-            Err(BlockError::Unsound { tag: *tag })
+            Err(BlockError::Unread(why))
         }
     }
 }

@@ -29,7 +29,7 @@ use Rattle.block_tag.specs.declared.tag.Tag.{Tag}
 use Rattle.buffer_frames.specs.Rests.{HasNoLatch, LinkRests, LinksRest, OnlyTokens, Stands}
 use Rattle.buffer_frames.specs.Tokens.{Tokens, held_at, no_tokens}
 use Rattle.buffer_frames.specs.declared.reading.BlockError.{BlockError}
-use Rattle.buffer_frames.specs.declared.reading.BlockError.TheVariants.{NoFrame, ReadFault, Unsound}
+use Rattle.buffer_frames.specs.declared.reading.BlockError.TheVariants.{NoFrame, Unread}
 use Rattle.buffer_frames.specs.Reads.{ReadAnswer}
 use Rattle.buffer_frames.specs.Stages.{Pins}
 use Rattle.clock_sweep.specs.Keeping.{GetsHeader}
@@ -84,8 +84,7 @@ module _ {L G : Type 0} (t : FrameTable L G) where
 
   pub rests_refused : (contents : L → Option Pages) (tag : Tag) (held : Tokens) (v w : View) (why : BlockError) → ReadAnswer contents t tag held v w (Err why) → LinksRest held w
   rests_refused contents tag held v w (NoFrame why) a = a
-  rests_refused contents tag held v w (ReadFault failed) a = a.0
-  rests_refused contents tag held v w (Unsound failed) a = a.0
+  rests_refused contents tag held v w (Unread why) a = a.0
 
   pub rests_given_up : (tag f : ℕ) (held : Tokens) (s s' : Seat (Value L G) View) → held ≡ no_tokens → Stands t s → HasNoLatch s.me.0 → Pins tag f held s.me.0 → SameSeat s s' → Touches f s.me.0 s'.me.0 → Looked (unpinned_link (link s.me.0 f)) (link s'.me.0 f) → SeatHoldsNothing t s'
   rests_given_up tag f held s s' none stands latches pinned same touches unpinned = record {

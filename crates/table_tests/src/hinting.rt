@@ -74,7 +74,7 @@ fn read_released<R: Wait>(
         &BLOCK,
         &mut None,
     ) {
-        Ok(PinnedBlock { pin, hit: _ }) => {
+        Ok(PinnedBlock { pin, loaded: _ }) => {
             let frame = Some(pin.frame());
             unpin_and_wake(table, rt, seat, pin);
             Sighted {

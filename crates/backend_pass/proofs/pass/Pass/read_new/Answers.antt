@@ -126,7 +126,7 @@ invariant_of-self-in-Err g c =
     let v = view_in c.self.inside.seat.views in
     let w = view_in c.return_seat.new.badge.views in
     let met : w.met ≡ met_read_refused c.read_error-why.result v.met = e.met
-    ∙ met_of_refusal c.in-Err.cause v.met
+    ∙ met_of_refusal c.args.tag.now c.in-Err.cause v.met
     ∙ ap (λ (y : ReadError). met_read_refused y v.met) (sym c.read_error-why.ensures) in
     let shown : padded_value c.new-self-inside.result ≡ shown_after c.read_error-why.result
     (padded_value c.self.inside.shown) = c.new-self-inside.ensures ∙ c.after-shown.ensures
@@ -187,7 +187,8 @@ returns-in-Ok-clause-answer g c =
     (Ok c.in-Ok.field-0) c.in-Ok.is in
     first_reads {L = g.row.L.Denot} {G = g.row.G.Denot} g.L.BlockLane.contents
     c.args.manager.now.table c.args.tag.now c.args.ring.now c.read_block-answer.new.ring _ _ _
-    c.in-Ok.field-0 c.frame-frame.result c.self.view_is c.frame-frame.ensures
+    c.in-Ok.field-0 c.frame-frame.result c.is_hit-hit.result c.self.view_is c.is_hit-hit.ensures
+    c.frame-frame.ensures
     c.add_pin.ensures.tokens e.answer e.calls
 
 pub returns-in-Err-clause-answer : goal.returns-in-Err-clause-answer
@@ -204,7 +205,7 @@ returns-in-Err-clause-met g c =
     let e = answered g (goal.at.returns-in-Err-clause-met g c).After-return_seat
     (Err c.in-Err.cause) c.in-Err.is in
     let v = view_in c.self.inside.seat.views in
-    e.met ∙ met_of_refusal c.in-Err.cause v.met
+    e.met ∙ met_of_refusal c.args.tag.now c.in-Err.cause v.met
     ∙ ap (λ (y : ReadError). met_read_refused y v.met) (sym c.read_error-why.ensures)
     ∙ ap (λ (p : PassState). met_read_refused c.read_error-why.result p.view.met) c.self.view_is
 
@@ -240,7 +241,7 @@ returns-in-Err-clause-census g c =
     (Err c.read_error-why.result)) c.self.view_is
     (subst (λ (y : ReadError). ReadingCensus n c.self.inside.backend.census
     c.read_block-answer.new.backend.census (Err y)) (sym c.read_error-why.ensures)
-    (census_of_refusal n c.self.inside.backend.census c.read_block-answer.new.backend.census
+    (census_of_refusal c.args.tag.now n c.self.inside.backend.census c.read_block-answer.new.backend.census
     c.in-Err.cause (subst (CensusRead
     (frames_of c.args.manager.now.table) c.self.inside.backend.census
     c.read_block-answer.new.backend.census) c.in-Err.is c.read_block-answer.ensures.census)))
