@@ -25,7 +25,7 @@ use Rattle.buffer_frames.specs.Outside.{chosen_of, emptying_of, freeing_of, kept
 use Rattle.buffer_frames.specs.Rests.{HasNoLatch, HasOneLatch, Stands}
 use Rattle.buffer_frames.specs.Stages.{Pins}
 use Rattle.buffer_frames.specs.Tokens.{Tokens}
-use Rattle.buffer_frames.specs.Working.{Works, WorksAt}
+use Rattle.buffer_frames.specs.Working.{Works}
 use Rattle.buffer_frames.proofs.Hints.{load_grows, load_links, load_outside, load_partitions, store_grows, store_links, store_partitions, store_searched}
 use Rattle.buffer_frames.proofs.Keeping.{latch_same, latches_same, links_same, same_locks_at, same_locks_linked, same_locks_looked, same_locks_none, same_locks_on}
 use Rattle.buffer_frames.proofs.SameLocks.{same_locks_chosen, same_locks_worked}
@@ -85,12 +85,15 @@ module _ {L G : Type 0} {t : FrameTable L G} where
   and_same {but} {l} {s} {u} {w} a b stands e = keeps_on a record { seat = b.seat; stands = stands; same = b.same; rises = b.rises; locks = b.locks; latches = latch_kept l u.me.0 w.me.0 e a.latches }
 
   -- work at a frame whose content isn't locked before and after it
-  pub keeps_works : (f : ℕ) {s w : Seat (Value L G) View} → SameSeat s w → Stands t w → HasNoLatch w.me.0 → WorksAt f s.me.0 w.me.0 → (link s.me.0 f).content ≡ Unlocked → (link w.me.0 f).content ≡ Unlocked → Keeps kept_by_block_reads None t s w
-  keeps_works f {s} {w} same stands latches works before after = record { seat = same; stands = stands; same = ap kept_by_block_reads works.kept; rises = works.advances; locks = same_locks_worked f s.me.0 w.me.0 works before after; latches = latches }
-
-  -- which a call with a victim does
-  pub keeps_flushed : (f : ℕ) {s w : Seat (Value L G) View} → HasNoLatch s.me.0 → Works f t s w → (link s.me.0 f).content ≡ Unlocked → (link w.me.0 f).content ≡ Unlocked → Keeps kept_by_block_reads None t s w
-  keeps_flushed f {s} {w} none k = keeps_works f k.seat k.stands (latches_same s.me.0 w.me.0 k.work.partitions none) k.work
+  pub keeps_works : (f : ℕ) {s w : Seat (Value L G) View} → HasNoLatch s.me.0 → Works f t s w → (link s.me.0 f).content ≡ Unlocked → (link w.me.0 f).content ≡ Unlocked → Keeps kept_by_block_reads None t s w
+  keeps_works f {s} {w} none k before after = record {
+    seat = k.seat;
+    stands = k.stands;
+    same = ap kept_by_block_reads k.work.kept;
+    rises = k.work.advances;
+    locks = same_locks_worked f s.me.0 w.me.0 k.work before after;
+    latches = latches_same s.me.0 w.me.0 k.work.partitions none;
+  }
 
 -- One step: at a frame
 module _ {L G : Type 0} {s w : Seat (Value L G) View} (same : SameSeat s w) where
@@ -262,8 +265,8 @@ module _ {L G : Type 0} {t : FrameTable L G} {held : Tokens} where
   }
 
 -- A frame that was pinned for a block has its page read
-pub keeps_loaded : {L G : Type 0} {t : FrameTable L G} {held : Tokens} {tag : ℕ} (f h : ℕ) {s u w : Seat (Value L G) View} → h ≡ f → Keeps kept_by_block_reads None t s u → SameSeat u w → Stands t w → HasNoLatch w.me.0 → WorksAt h u.me.0 w.me.0 → Pins tag f held u.me.0 → Pins tag h held w.me.0 → Keeps kept_by_block_reads None t s w
-keeps_loaded f h {s} {u} {w} e a same stands latches works before after = keeps_on a (keeps_works h same stands latches works (subst (λ (x : ℕ). (link u.me.0 x).content ≡ Unlocked) (sym e) before.unlocked) after.unlocked)
+pub keeps_loaded : {L G : Type 0} {t : FrameTable L G} {held : Tokens} {tag : ℕ} (f h : ℕ) {s u w : Seat (Value L G) View} → h ≡ f → Keeps kept_by_block_reads None t s u → Works h t u w → Pins tag f held u.me.0 → Pins tag h held w.me.0 → Keeps kept_by_block_reads None t s w
+keeps_loaded f h {s} {u} {w} e a k before after = keeps_on a (keeps_works h a.latches k (subst (λ (x : ℕ). (link u.me.0 x).content ≡ Unlocked) (sym e) before.unlocked) after.unlocked)
 
 -- A hint was loaded by a backend that is ready
 pub ready_loaded : {L G : Type 0} {t : FrameTable L G} {held : Tokens} {s w : Seat (Value L G) View} (n : ℕ) (tag : Tag) (frame : Option ℕ) → IsReady t held s → SameSeat s w → LoadsHint n tag frame s.me.0 w.me.0 → IsReady t held w

@@ -33,7 +33,6 @@ use Rattle.frame_table.proofs.LogWork.{met_none}
 use Rattle.frame_table.proofs.Told.{lists_same}
 use Rattle.buffer_frames.specs.Flushing.{CallsLane, met_lane_write}
 use Rattle.buffer_frames.specs.Loading.{met_lane_read}
-use Rattle.buffer_frames.specs.Stages.{IsReading}
 use Rattle.buffer_frames.specs.Working.{Made, WorksAt, met_read, met_write}
 
 -- A call that is no sync
@@ -135,14 +134,14 @@ write_fault : (m : FailedCalls) → sum_of_met m (record { reads = 0; writes = 1
 write_fault m = let at : ℕ → ℕ → ℕ → FailedCalls = λ a b c. record { reads = a; writes = b; logs = c } in
     ap (λ (n : ℕ). at n (m.writes + 1) (m.logs + 0)) (add-zero m.reads) ∙ ap (λ (n : ℕ). at m.reads (m.writes + 1) n) (add-zero m.logs)
 
--- a read of the lane for the frame f and the tag, done or failed
-abbrev pub IsReadCall : ℕ → Tag → Bool → LaneCall → Type 0
-IsReadCall f tag true (lane_call.Read g t p) = (g ≡ f) × (t ≡ tag)
-IsReadCall f tag false (lane_call.ReadFailed t) = t ≡ tag
-IsReadCall f tag _ _ = ⊥
+-- a read of the lane for the frame f and the tag, done with this page, or failed
+abbrev pub IsReadCall : ℕ → Tag → Page → Bool → LaneCall → Type 0
+IsReadCall f tag page true (lane_call.Read g t p) = (g ≡ f) × (t ≡ tag) × (p.value ≡ page)
+IsReadCall f tag page false (lane_call.ReadFailed t) = t ≡ tag
+IsReadCall f tag page _ _ = ⊥
 
-of_notes : (f : ℕ) (tag : Tag) (page : Page) (call : LaneCall) → NotesRead f tag page call → IsReadCall f tag true call
-of_notes f tag page (lane_call.Read g t p) n = (n.0, n.1)
+of_notes : (f : ℕ) (tag : Tag) (page : Page) (call : LaneCall) → NotesRead f tag page call → IsReadCall f tag page true call
+of_notes f tag page (lane_call.Read g t p) n = n
 of_notes f tag page (lane_call.ReadFailed t) n = absurd n
 of_notes f tag page lane_call.Untouched n = absurd n
 of_notes f tag page (lane_call.Written g t p) n = absurd n
@@ -150,49 +149,39 @@ of_notes f tag page (lane_call.WriteFailed g t p) n = absurd n
 of_notes f tag page lane_call.Synced n = absurd n
 of_notes f tag page lane_call.SyncFailed n = absurd n
 
-pub read_call : {A E : Type 0} (f : ℕ) (tag : Tag) (page : Page) (call : LaneCall) (r : Result A E) → MatchResult r (λ _. NotesRead f tag page call) (λ _. call ≡ lane_call.ReadFailed tag) → IsReadCall f tag (is_ok r) call
+pub read_call : {A E : Type 0} (f : ℕ) (tag : Tag) (page : Page) (call : LaneCall) (r : Result A E) → MatchResult r (λ _. NotesRead f tag page call) (λ _. call ≡ lane_call.ReadFailed tag) → IsReadCall f tag page (is_ok r) call
 read_call f tag page call (Ok x) n = of_notes f tag page call n
-read_call f tag page call (Err x) e = subst (IsReadCall f tag false) (sym e) refl
+read_call f tag page call (Err x) e = subst (IsReadCall f tag page false) (sym e) refl
 
-pub read_plain : (f : ℕ) (tag : Tag) (done : Bool) (call : LaneCall) → IsReadCall f tag done call → IsPlainCall call
-read_plain f tag true (lane_call.Read g t p) e = record { unsynced = refl; unswept = λ x h. refl }
-read_plain f tag false (lane_call.ReadFailed t) e = record { unsynced = refl; unswept = λ x h. refl }
-read_plain f tag done call e = absurd e
+pub read_plain : (f : ℕ) (tag : Tag) (page : Page) (done : Bool) (call : LaneCall) → IsReadCall f tag page done call → IsPlainCall call
+read_plain f tag page true (lane_call.Read g t p) e = record { unsynced = refl; unswept = λ x h. refl }
+read_plain f tag page false (lane_call.ReadFailed t) e = record { unsynced = refl; unswept = λ x h. refl }
+read_plain f tag page done call e = absurd e
 
-pub read_others : (f : ℕ) (tag : Tag) (done : Bool) (call : LaneCall) (v w : View) → IsReadCall f tag done call → IsNoted call v w → (g : ℕ) → g ≢ f → link w g ≡ link v g
-read_others f tag true (lane_call.Read h t p) v w e noted g n = noted.others g (λ same. n (same ∙ e.0))
-read_others f tag false (lane_call.ReadFailed t) v w e noted g n = ap (λ (l : List Link). get_or l g idle) noted
-read_others f tag done call v w e noted g n = absurd e
+pub read_others : (f : ℕ) (tag : Tag) (page : Page) (done : Bool) (call : LaneCall) (v w : View) → IsReadCall f tag page done call → IsNoted call v w → (g : ℕ) → g ≢ f → link w g ≡ link v g
+read_others f tag page true (lane_call.Read h t p) v w e noted g n = noted.others g (λ same. n (same ∙ e.0))
+read_others f tag page false (lane_call.ReadFailed t) v w e noted g n = ap (λ (l : List Link). get_or l g idle) noted
+read_others f tag page done call v w e noted g n = absurd e
 
-pub read_noted : (f : ℕ) (tag : Tag) (done : Bool) (call : LaneCall) (v w : View) (packed : ℕ) → IsReadCall f tag done call → IsNoted call v w → IsReading packed (link v f) → IsReading packed (link w f)
-read_noted f tag true (lane_call.Read g t p) v w packed e noted r = let there : link w f ≡ lane_read_link p.value (link v f) = subst (λ (x : ℕ). link w x ≡ lane_read_link p.value (link v x)) e.0 noted.here in
-    subst (IsReading packed) (sym there) record { pinned = r.pinned; remembered = r.remembered; unlocked = r.unlocked; right = r.right; fresh = r.fresh; home = r.home; no_header = r.no_header; no_copy = r.no_copy; applied = r.applied; assigned = r.assigned; no_wait = r.no_wait }
-read_noted f tag false (lane_call.ReadFailed t) v w packed e noted r = subst (λ (l : List Link). IsReading packed (get_or l f idle)) (sym noted) r
-read_noted f tag done call v w packed e noted r = absurd e
+-- what is noted at its frame: the page that the lane gave
+abbrev pub read_noted_link : Bool → Page → Link → Link
+read_noted_link true page l = lane_read_link page l
+read_noted_link false page l = l
 
--- the page that it gave
-given_by : (f : ℕ) (tag : Tag) (page : Page) (call : LaneCall) (v w : View) → NotesRead f tag page call → IsNoted call v w → (link w f).read ≡ Some page
-given_by f tag page (lane_call.Read g t p) v w n noted = ap (λ (l : Link). l.read) (subst (λ (x : ℕ). link w x ≡ lane_read_link p.value (link v x)) n.0 noted.here) ∙ ap Some n.2
-given_by f tag page (lane_call.ReadFailed t) v w n noted = absurd n
-given_by f tag page lane_call.Untouched v w n noted = absurd n
-given_by f tag page (lane_call.Written g t p) v w n noted = absurd n
-given_by f tag page (lane_call.WriteFailed g t p) v w n noted = absurd n
-given_by f tag page lane_call.Synced v w n noted = absurd n
-given_by f tag page lane_call.SyncFailed v w n noted = absurd n
+pub read_noted : (f : ℕ) (tag : Tag) (page : Page) (done : Bool) (call : LaneCall) (v w : View) → IsReadCall f tag page done call → IsNoted call v w → link w f ≡ read_noted_link done page (link v f)
+read_noted f tag page true (lane_call.Read g t p) v w e noted = subst (λ (x : Page). link w f ≡ lane_read_link x (link v f)) e.2 (subst (λ (x : ℕ). link w x ≡ lane_read_link p.value (link v x)) e.0 noted.here)
+read_noted f tag page false (lane_call.ReadFailed t) v w e noted = ap (λ (l : List Link). get_or l f idle) noted
+read_noted f tag page done call v w e noted = absurd e
 
-pub read_given : {A E : Type 0} (f : ℕ) (tag : Tag) (page : Page) (call : LaneCall) (r : Result A E) (v w : View) → MatchResult r (λ _. NotesRead f tag page call) (λ _. call ≡ lane_call.ReadFailed tag) → IsNoted call v w → is_ok r ≡ true → (link w f).read ≡ Some page
-read_given f tag page call (Ok x) v w n noted ok = given_by f tag page call v w n noted
-read_given f tag page call (Err x) v w n noted ok = let no : false ≡ true = ok in absurd (cc)
+pub read_made : {L : Type 0} (d : LaneDevices L) (q : ℕ) (after : L) (f : ℕ) (tag : Tag) (page : Page) (done : Bool) (call : LaneCall) (v w : View) → IsReadCall f tag page done call → Made (lane_device_calls d q after call) v w → Made (LaneRead q (packed_tag tag) done ∷ []) v w
+read_made d q after f tag page true (lane_call.Read g t p) v w e m = subst (λ (x : Tag). Made (LaneRead q (packed_tag x) true ∷ []) v w) e.1 m
+read_made d q after f tag page false (lane_call.ReadFailed t) v w e m = subst (λ (x : Tag). Made (LaneRead q (packed_tag x) false ∷ []) v w) e m
+read_made d q after f tag page done call v w e m = absurd e
 
-pub read_made : {L : Type 0} (d : LaneDevices L) (q : ℕ) (after : L) (f : ℕ) (tag : Tag) (done : Bool) (call : LaneCall) (v w : View) → IsReadCall f tag done call → Made (lane_device_calls d q after call) v w → Made (LaneRead q (packed_tag tag) done ∷ []) v w
-read_made d q after f tag true (lane_call.Read g t p) v w e m = subst (λ (x : Tag). Made (LaneRead q (packed_tag x) true ∷ []) v w) e.1 m
-read_made d q after f tag false (lane_call.ReadFailed t) v w e m = subst (λ (x : Tag). Made (LaneRead q (packed_tag x) false ∷ []) v w) e m
-read_made d q after f tag done call v w e m = absurd e
-
-pub read_met : (f : ℕ) (tag : Tag) (done : Bool) (call : LaneCall) (m n : FailedCalls) → IsReadCall f tag done call → n ≡ sum_of_met m (met_of call) → n ≡ met_lane_read done m
-read_met f tag true (lane_call.Read g t p) m n e s = s ∙ met_none m
-read_met f tag false (lane_call.ReadFailed t) m n e s = s ∙ read_fault m
-read_met f tag done call m n e s = absurd e
+pub read_met : (f : ℕ) (tag : Tag) (page : Page) (done : Bool) (call : LaneCall) (m n : FailedCalls) → IsReadCall f tag page done call → n ≡ sum_of_met m (met_of call) → n ≡ met_lane_read done m
+read_met f tag page true (lane_call.Read g t p) m n e s = s ∙ met_none m
+read_met f tag page false (lane_call.ReadFailed t) m n e s = s ∙ read_fault m
+read_met f tag page done call m n e s = absurd e
 
 -- a write of this page for the frame f and the tag, done or failed
 abbrev pub IsWriteCall : ℕ → Tag → Page → Bool → LaneCall → Type 0
@@ -254,7 +243,7 @@ write_met f tag page done call m n e s = absurd e
 
 -- what a call asks of a view that it is noted for
 module _ (relations : List RelEntry) (lanes q : ℕ) (v : View) (f : ℕ) (tag : Tag) (page : Page) (block : IsBlockOf relations lanes q tag) where
-  may_read : (done : Bool) (call : LaneCall) → MayNoteRead tag (link v f) → IsReadCall f tag done call → MayNote relations lanes q call v
+  may_read : (done : Bool) (call : LaneCall) → MayNoteRead tag (link v f) → IsReadCall f tag page done call → MayNote relations lanes q call v
   may_read true (lane_call.Read g t p) can n = (subst (λ (x : Tag). IsBlockOf relations lanes q x) (sym n.1) block, subst (λ (x : ℕ). MayNoteRead t (link v x)) (sym n.0) (subst (λ (x : Tag). MayNoteRead x (link v f)) (sym n.1) can))
   may_read false (lane_call.ReadFailed t) can n = subst (λ (x : Tag). IsBlockOf relations lanes q x) (sym n) block
   may_read done call can n = absurd n

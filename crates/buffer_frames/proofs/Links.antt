@@ -1,25 +1,27 @@
 -- What a backend has at a frame over the steps of a read and of a write.
 use Rattle.std.proofs.Common.{◌≡◌, ℕ, Bool, true, false, Option, Some, None, sym, refl, ap, ◌∙◌, subst}
+use Rattle.std.specs.Prelude.{if◌then◌else◌}
 use Rattle.state_word.specs.declared.word.IoEnd.{IoEnd}
 use Rattle.state_word.specs.declared.word.IoEnd.TheVariants.{ReadOk, WriteOk, Bad}
 use Rattle.pin_core.specs.declared.view.Content.TheVariants.{Shared, Unlocked}
 use Rattle.pin_core.specs.declared.view.Io.{Io}
-use Rattle.pin_core.specs.declared.view.Io.TheVariants.{Quiet, Output}
+use Rattle.pin_core.specs.declared.view.Io.TheVariants.{Quiet, Input, Output}
 use Rattle.pin_core.specs.declared.view.LastWrite.TheVariants.{Done}
 use Rattle.pin_core.specs.declared.view.Link.{Link}
 use Rattle.pin_core.specs.declared.view.View.{View}
 use Rattle.pin_core.specs.State.{Page, link}
 use Rattle.page_core.specs.Kinds as paged
-use Rattle.page_core.specs.Kinds.{saw_valid}
+use Rattle.page_core.specs.Kinds.{copied_after, saw_valid}
 use Rattle.frame_table.specs.Kinds.{pages}
 use Rattle.frame_table.specs.Content.{CanDropShare, begun_link, finished_link, shared_link, unshared_link}
 use Rattle.frame_table.specs.FrameSteps.{Did}
+use Rattle.frame_table.specs.PageWork.{applied_link, page_out_link, read_home, returned_link}
 use Rattle.frame_table.specs.Seats.{Looked, locked_link, unlocked_link}
 use Rattle.content_locks.specs.Locks.{CanCopy, copied_link}
 use Rattle.frame_table.proofs.Told.{link_is}
 use Rattle.buffer_frames.specs.Tokens.{Tokens}
 use Rattle.buffer_frames.proofs.Keeping.{beside_kept, calm_looked}
-use Rattle.buffer_frames.proofs.LaneTrips.{write_noted_link}
+use Rattle.buffer_frames.proofs.LaneTrips.{read_noted_link, write_noted_link}
 use Rattle.buffer_frames.specs.Stages.{IsPinned, IsPinnedValid, IsRead, IsReading, IsSharing, Pins}
 use Rattle.buffer_frames.specs.Working.{WorksAt}
 
@@ -49,6 +51,21 @@ begun_fresh f word v w d home = let is = link_is (pages paged.start_input) f wor
 
 pub reading_begun : (tag : ℕ) (l m : Link) → IsRead tag l → Looked (begun_link true l) m → (m.out ≡ None → m.overwritten ≡ None) → IsReading tag m
 reading_begun tag l m r b fresh = let c = r.calm in record { pinned = b.role ∙ r.role; remembered = b.tag ∙ r.remembered; unlocked = b.content ∙ r.unlocked; right = b.io; fresh = fresh (b.out ∙ c.page_home); home = b.out ∙ c.page_home; no_header = b.header; no_copy = b.copying ∙ c.no_copy; applied = b.unapplied ∙ c.applied; assigned = b.pending ∙ c.assigned; no_wait = b.waits c.no_wait }
+
+-- it is noted
+pub reading_noted : (tag : ℕ) (done : Bool) (page : Page) (l m : Link) → IsReading tag l → m ≡ read_noted_link done page l → IsReading tag m
+reading_noted tag true page l m r e = subst (IsReading tag) (sym e) record { pinned = r.pinned; remembered = r.remembered; unlocked = r.unlocked; right = r.right; fresh = r.fresh; home = r.home; no_header = r.no_header; no_copy = r.no_copy; applied = r.applied; assigned = r.assigned; no_wait = r.no_wait }
+reading_noted tag false page l m r e = subst (IsReading tag) (sym e) r
+
+pub given_noted : (done : Bool) (page : Page) (l m : Link) → m ≡ read_noted_link done page l → done ≡ true → m.read ≡ Some page
+given_noted true page l m e d = ap (λ (x : Link). x.read) e
+given_noted false page l m e d = let no : false ≡ true = d in absurd (cc)
+
+-- and its page comes back in place of the one that was taken out
+pub returned_read : (page read taken : Page) (l m n : Link) → m ≡ page_out_link taken l → n ≡ returned_link page m → l.unapplied ≡ false → l.io ≡ Input → l.read ≡ Some read → n ≡ record l { out = None; copied = copied_after l.content false page l.copied; read_is_home = true }
+returned_read page read taken l m n out back applied right given = let home : Link = record l { out = None; copied = copied_after l.content false page l.copied } in
+    back ∙ ap (returned_link page) out ∙ ap (λ (b : Bool). if b then applied_link page (record l { out = None }) else read_home l.io l.read home) applied
+    ∙ ap (λ (io : Io). read_home io l.read home) right ∙ ap (λ (o : Option Page). read_home Input o home) given
 
 -- The content lock is shared, a write begins and ends, and the lock is given up
 pub sharing_taken : (tag : ℕ) (l m : Link) → IsPinned tag l → l.seen_valid ≡ true → m ≡ shared_link l → IsSharing Quiet tag m

@@ -1,5 +1,6 @@
 -- A read that ends with an error.
 use Rattle.std.proofs.Common.{◌≡◌, ℕ, Some, refl, sym, ap, ◌∙◌, subst}
+use Rattle.std.specs.Prelude.{IfErr, Result, Ok, Err}
 use Rattle.std.proofs.lemmas.Option.{none-some}
 use Rattle.block_tag.specs.declared.tag.Tag.{Tag}
 use Rattle.block_tag.specs.Names.{packed_tag}
@@ -14,6 +15,7 @@ use Rattle.cleanup_lock.specs.Waking.{Woken}
 use Rattle.frame_table.proofs.Rising.{rises_on}
 use Rattle.buffer_frames.specs.declared.loading.LoadError.{LoadError}
 use Rattle.buffer_frames.specs.declared.loading.LoadError.TheVariants.{Unsound}
+use Rattle.buffer_frames.specs.declared.loading.Loaded.{Loaded}
 use Rattle.buffer_frames.specs.Loading.{EndsUnread, FailsRead, NotesUnsound}
 use Rattle.buffer_frames.specs.Outside.{outside_of}
 
@@ -43,6 +45,10 @@ unread_since why tag f g v u w same before e = subst (λ (x : ℕ). EndsUnread w
   invalid = e.invalid;
   failed = e.failed;
 }
+
+pub unread_after : (tag : Tag) (f g : ℕ) (v u w : View) (r : Result Loaded LoadError) → g ≡ f → OnlyRises v u → IfErr r (λ why. EndsUnread why tag g u w) → IfErr r (λ why. EndsUnread why tag f v w)
+unread_after tag f g v u w (Ok loaded) same before e = tt
+unread_after tag f g v u w (Err why) same before e = unread_since why tag f g v u w same before e
 
 -- and with the pin given up after it
 pub fails_read : (why : LoadError) (tag : Tag) (f g : ℕ) (v u x w : View) → g ≡ f → OnlyRises v u → EndsUnread why tag g u x → Woken f x w → outside_of w ≡ outside_of x → FailsRead why tag f v w

@@ -8,8 +8,7 @@ use Rattle.pin_core.specs.State.{lane_hold, link}
 use Rattle.pin_core.specs.Steps.{HoldsNoHeader}
 use Rattle.page_core.specs.Steps.{HasNoIo, IsWriteOf}
 use Rattle.pin_core.specs.declared.view.Io.TheVariants.{Quiet}
-use Rattle.state_word.specs.declared.word.StateWord.{StateWord}
-use Rattle.frame_table.specs.Seats.{MarksBegun, MarksEnded, OnlyRises, SameMarks, SameSelf, Touches, ViewMarks}
+use Rattle.frame_table.specs.Seats.{OnlyRises, SameMarks, SameSelf, Touches, ViewMarks}
 use Rattle.buffer_frames.specs.Rests.{HasNoDevice, HasNoLatch, LinksRestBeside}
 use Rattle.buffer_frames.specs.Tokens.{Tokens}
 use Rattle.frame_table.proofs.Rising.{rises_none, rises_on, rises_touched}
@@ -22,12 +21,6 @@ works_touched f v w t m = record { kept = kept_self v w t.self m; advances = ris
 
 pub works_marked : (f : ℕ) (v w : View) → Touches f v w → SameMarks v w → WorksAt f v w
 works_marked f v w t m = works_touched f v w t (ap (λ (x : ViewMarks). x.dirtied_or_synced) m)
-
-pub works_begun : (input : Bool) (f : ℕ) (v w : View) → Touches f v w → MarksBegun input v w → WorksAt f v w
-works_begun input f v w t m = works_touched f v w t (ap (λ (x : ViewMarks). x.dirtied_or_synced) m)
-
-pub works_ended : (stored : StateWord) (f : ℕ) (v w : View) → Touches f v w → MarksEnded stored v w → WorksAt f v w
-works_ended stored f v w t m = works_touched f v w t (ap (λ (x : ViewMarks). x.dirtied_or_synced) m)
 
 pub works_on : (f : ℕ) (v u w : View) → WorksAt f v u → WorksAt f u w → WorksAt f v w
 works_on f v u w a b = record { kept = b.kept ∙ a.kept; advances = rises_on v u w a.advances b.advances; lists = lists_on f v u w a.lists b.lists; partitions = b.partitions ∙ a.partitions; others = λ g n. b.others g n ∙ a.others g n }

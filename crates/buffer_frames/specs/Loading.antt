@@ -28,13 +28,7 @@ abbrev pub met_lane_read : Bool → FailedCalls → FailedCalls
 met_lane_read true m = m
 met_lane_read false m = met_read m
 
--- the one read of the lane q for the tag, by its end
-abbrev pub reading_calls : ℕ → ℕ → Result Unit LoadError → List DeviceCall
-reading_calls q tag (Ok done) = LaneRead q tag true ∷ []
-reading_calls q tag (Err Unsound) = LaneRead q tag true ∷ []
-reading_calls q tag (Err ReadFault) = LaneRead q tag false ∷ []
-
--- the calls of a load, which makes none if the page is there already
+-- the calls of a load: one read of the lane q for the tag, or none if the page is there already
 abbrev pub loading_calls : ℕ → ℕ → Result Loaded LoadError → List DeviceCall
 loading_calls q tag (Ok Hit) = []
 loading_calls q tag (Ok Read) = LaneRead q tag true ∷ []
@@ -51,8 +45,8 @@ abbrev pub met_unread : LoadError → FailedCalls → FailedCalls
 met_unread Unsound m = m
 met_unread ReadFault m = met_read m
 
-abbrev pub met_loading : {A : Type 0} → Result A LoadError → FailedCalls → FailedCalls
-met_loading (Ok done) m = m
+abbrev pub met_loading : Result Loaded LoadError → FailedCalls → FailedCalls
+met_loading (Ok loaded) m = m
 met_loading (Err why) m = met_unread why m
 
 -- In the view the page is noted that a lane gave for the frame f, and isn't sound
@@ -96,6 +90,6 @@ module _ {L G : Type 0} (contents : L → Option Pages) (t : FrameTable L G) whe
   UnreadShows tag ReadFault = Unit {0}
 
   -- and what a load shows of it
-  abbrev pub LoadShows : {A : Type 0} → Tag → Result A LoadError → Type 0
-  LoadShows tag (Ok done) = WasSoundAtOpening contents t tag
+  abbrev pub LoadShows : Tag → Result Loaded LoadError → Type 0
+  LoadShows tag (Ok loaded) = WasSoundAtOpening contents t tag
   LoadShows tag (Err why) = UnreadShows tag why

@@ -9,12 +9,12 @@ ghost use Rattle.pin_core.specs.declared.view.DeviceCall.TheVariants.{LaneRead};
 ghost use Rattle.pin_core.specs.State.{link};
 ghost use Rattle.table_rule.specs.Blocks.{has_block};
 ghost use Rattle.frame_table.specs.Opened.{WasSoundAtOpening};
-ghost use Rattle.frame_table.specs.Seats.{Looked, SameSeat, frames_of, lanes_in, relations_of};
-ghost use Rattle.buffer_frames.specs.Rests.{HasNoLatch, LinksRestBeside, Stands};
+ghost use Rattle.frame_table.specs.Seats.{Looked, frames_of, lanes_in, relations_of};
+ghost use Rattle.buffer_frames.specs.Rests.{LinksRestBeside, Stands};
 ghost use Rattle.buffer_frames.specs.Loading.{EndsUnread, LoadShows, loading_calls, met_lane_read};
-ghost use Rattle.buffer_frames.specs.Loading.{met_loading, reading_calls};
+ghost use Rattle.buffer_frames.specs.Loading.{met_loading};
 ghost use Rattle.buffer_frames.specs.Stages.{IsRead, IsReading, Pins};
-ghost use Rattle.buffer_frames.specs.Working.{Made, WorksAt};
+ghost use Rattle.buffer_frames.specs.Working.{Made, Works};
 
 use crate::pins::HeldPins;
 use atomic_table::Seat;
@@ -64,9 +64,7 @@ fn read_lane<L: BlockLane, G: LogDevice, R: Wait>(
     requires tag { names_block tag ≡ true }
     requires block { has_block (relations_of table.now) tag ≡ true }
     requires reads { IsReading (packed_tag tag) (link seat.old.me.0 frame) }
-    ensures seat { SameSeat seat.old seat.new }
-    ensures stands { Stands table.now seat.new }
-    ensures works { WorksAt frame seat.old.me.0 seat.new.me.0 }
+    ensures works { Works frame table.now seat.old seat.new }
     ensures reads { IsReading (packed_tag tag) (link seat.new.me.0 frame) }
     ensures given { OnTrue result ((link seat.new.me.0 frame).read ≡ Some page.new) }
     ensures calls { Made
@@ -96,9 +94,7 @@ fn install_page<L: BlockLane, G: LogDevice>(
     requires inside { frame < frames_of table.now }
     requires reads { IsReading (packed_tag _tag) (link seat.old.me.0 frame) }
     requires given { (link seat.old.me.0 frame).read ≡ Some page.old }
-    ensures seat { SameSeat seat.old seat.new }
-    ensures stands { Stands table.now seat.new }
-    ensures works { WorksAt frame seat.old.me.0 seat.new.me.0 }
+    ensures works { Works frame table.now seat.old seat.new }
     ensures reads { IsReading (packed_tag _tag) (link seat.new.me.0 frame) }
     ensures given { (link seat.new.me.0 frame).read ≡ Some page.old }
     ensures home { (link seat.new.me.0 frame).read_is_home ≡ true }
@@ -122,9 +118,7 @@ fn see_page<L: BlockLane, G: LogDevice>(
     requires inside { frame < frames_of table.now }
     requires remembered { (link seat.old.me.0 frame).tag ≡ Some (packed_tag _tag) }
     requires seen { (link seat.old.me.0 frame).seen_valid ≡ true }
-    ensures seat { SameSeat seat.old seat.new }
-    ensures stands { Stands table.now seat.new }
-    ensures works { WorksAt frame seat.old.me.0 seat.new.me.0 }
+    ensures works { Works frame table.now seat.old seat.new }
     ensures link { Looked (link seat.old.me.0 frame) (link seat.new.me.0 frame) }
     ensures calls { Made [] seat.old.me.0 seat.new.me.0 }
     ensures met { seat.new.me.0.met ≡ seat.old.me.0.met }
@@ -143,20 +137,18 @@ fn read_in<L: BlockLane, G: LogDevice, R: Wait>(
     right: IoRight,
     tag: Tag,
     page: &mut Page,
-) -> Result<(), LoadError>
+) -> Result<Loaded, LoadError>
     requires stands { Stands table.now seat.old }
     requires others { LinksRestBeside right.frame _held.now seat.old.me.0 }
     requires inside { right.frame < frames_of table.now }
     requires tag { names_block tag ≡ true }
     requires block { has_block (relations_of table.now) tag ≡ true }
     requires reads { IsReading (packed_tag tag) (link seat.old.me.0 right.frame) }
-    ensures seat { SameSeat seat.old seat.new }
-    ensures stands { Stands table.now seat.new }
-    ensures works { WorksAt right.frame seat.old.me.0 seat.new.me.0 }
+    ensures works { Works right.frame table.now seat.old seat.new }
     ensures read { IsRead (packed_tag tag) (link seat.new.me.0 right.frame) }
     ensures seen { IfOk result (λ _. (link seat.new.me.0 right.frame).seen_valid ≡ true) }
     ensures calls { Made
-        (reading_calls (lane_number tag (lanes_in table.now)) (packed_tag tag) result) seat.old.me.0
+        (loading_calls (lane_number tag (lanes_in table.now)) (packed_tag tag) result) seat.old.me.0
         seat.new.me.0 }
     ensures met { seat.new.me.0.met ≡ met_loading result seat.old.me.0.met }
     ensures shows { LoadShows L.contents table.now tag result }
@@ -178,7 +170,7 @@ fn read_in<L: BlockLane, G: LogDevice, R: Wait>(
     install_page(table, seat, frame, tag, page);
     end_io(table, rt, seat, right, IoEnd::ReadOk);
     see_page(table, seat, frame, tag);
-    Ok(())
+    Ok(Loaded::Read)
 }
 
 /// Reads a block into the frame that is pinned for it, unless the page is there already
@@ -193,15 +185,11 @@ pub fn load<L: BlockLane, G: LogDevice, R: Wait>(
     page: &mut Page,
 ) -> Result<Loaded, LoadError>
     requires stands { Stands table.now seat.old }
-    requires latches { HasNoLatch seat.old.me.0 }
     requires pinned { Pins (packed_tag tag.now) frame held.now seat.old.me.0 }
     requires inside { frame < frames_of table.now }
     requires tag { names_block tag.now ≡ true }
     requires block { has_block (relations_of table.now) tag.now ≡ true }
-    ensures seat { SameSeat seat.old seat.new }
-    ensures stands { Stands table.now seat.new }
-    ensures latches { HasNoLatch seat.new.me.0 }
-    ensures works { WorksAt frame seat.old.me.0 seat.new.me.0 }
+    ensures works { Works frame table.now seat.old seat.new }
     ensures pinned { Pins (packed_tag tag.now) frame held.now seat.new.me.0 }
     ensures seen { IfOk result (λ _. (link seat.new.me.0 frame).seen_valid ≡ true) }
     ensures calls { Made
@@ -219,8 +207,5 @@ pub fn load<L: BlockLane, G: LogDevice, R: Wait>(
         see_page(table, seat, frame, *tag);
         return Ok(Loaded::Hit);
     };
-    match read_in(table, rt, seat, held, right, *tag, page) {
-        Ok(()) => Ok(Loaded::Read),
-        Err(why) => Err(why),
-    }
+    read_in(table, rt, seat, held, right, *tag, page)
 }

@@ -10,7 +10,7 @@ use Rattle.buffer_frames.proofs.reading.read_block.Goals as goal
 pub returns-in-Ok-load-clause-calls : goal.returns-in-Ok-load-clause-calls
 returns-in-Ok-load-clause-calls g c = locates_worked _ _ c.args.tag.now _ _ _ _ _ c.in-Ok.pin.frame
     c.frame-frame.result _ c.args.seat.now.me.0 c.pin_block.new.seat.me.0 c.load.new.seat.me.0
-    c.frame-frame.ensures c.in-Ok.ensures.calls c.load.ensures.works c.in-Ok-load.ensures.calls
+    c.frame-frame.ensures c.in-Ok.ensures.calls c.load.ensures.works.work c.in-Ok-load.ensures.calls
 
 pub returns-in-Err-load-clause-calls : goal.returns-in-Err-load-clause-calls
 returns-in-Err-load-clause-calls g c = let u = c.give_back in (
@@ -18,7 +18,7 @@ returns-in-Err-load-clause-calls g c = let u = c.give_back in (
   (
     locates_given _ _ c.args.tag.now _ _ _ _ _ c.in-Ok.pin.frame c.frame-frame.result _
         c.args.seat.now.me.0 c.pin_block.new.seat.me.0 c.load.new.seat.me.0 u.new.seat.me.0
-        c.frame-frame.ensures c.in-Ok.ensures.calls c.load.ensures.works c.in-Err-load.ensures.calls
+        c.frame-frame.ensures c.in-Ok.ensures.calls c.load.ensures.works.work c.in-Err-load.ensures.calls
         u.ensures.touches u.ensures.keeps.same,
     fails_read c.in-Err-load.why c.args.tag.now c.in-Ok.pin.frame c.frame-frame.result
         c.args.seat.now.me.0 c.pin_block.new.seat.me.0 c.load.new.seat.me.0 u.new.seat.me.0
@@ -29,18 +29,18 @@ returns-in-Err-load-clause-calls g c = let u = c.give_back in (
 
 pub returns-in-Ok-load-clause-turns : goal.returns-in-Ok-load-clause-turns
 returns-in-Ok-load-clause-turns g c = subst (TakesTurns c.pin_block.new.backend.lookups.hint
-    c.args.seat.now.me.0.turns) (sym (ap (λ (x : View). x.turns) c.load.ensures.works.kept))
+    c.args.seat.now.me.0.turns) (sym (ap (λ (x : View). x.turns) c.load.ensures.works.work.kept))
     c.pin_block.ensures.turns
 
 pub returns-in-Err-load-clause-turns : goal.returns-in-Err-load-clause-turns
 returns-in-Err-load-clause-turns g c = subst (TakesTurns c.pin_block.new.backend.lookups.hint
     c.args.seat.now.me.0.turns) (sym (ap (λ (x : View). x.turns) c.give_back.ensures.keeps.same
-    ∙ ap (λ (x : View). x.turns) c.load.ensures.works.kept)) c.pin_block.ensures.turns
+    ∙ ap (λ (x : View). x.turns) c.load.ensures.works.work.kept)) c.pin_block.ensures.turns
 
 pub returns-in-Ok-load-clause-hints : goal.returns-in-Ok-load-clause-hints
 returns-in-Ok-load-clause-hints g c = subst (LeavesHint (frames_of c.args.table.now) c.args.tag.now
     c.in-Ok.pin.frame c.pin_block.new.backend.lookups.hint c.args.seat.now.me.0.hints)
-    (sym (ap (λ (x : View). x.hints) c.load.ensures.works.kept)) c.in-Ok.ensures.hints
+    (sym (ap (λ (x : View). x.hints) c.load.ensures.works.work.kept)) c.in-Ok.ensures.hints
 
 pub returns-in-Err-load-clause-hints : goal.returns-in-Err-load-clause-hints
 returns-in-Err-load-clause-hints g c = (
@@ -48,7 +48,7 @@ returns-in-Err-load-clause-hints g c = (
   subst (LeavesHint (frames_of c.args.table.now) c.args.tag.now c.in-Ok.pin.frame
       c.pin_block.new.backend.lookups.hint c.args.seat.now.me.0.hints)
       (sym (ap (λ (x : View). x.hints) c.give_back.ensures.keeps.same
-      ∙ ap (λ (x : View). x.hints) c.load.ensures.works.kept)) c.in-Ok.ensures.hints,
+      ∙ ap (λ (x : View). x.hints) c.load.ensures.works.work.kept)) c.in-Ok.ensures.hints,
 )
 
 pub returns-in-Err-load-clause-census : goal.returns-in-Err-load-clause-census
@@ -57,10 +57,10 @@ returns-in-Err-load-clause-census g c = c.in-Ok.ensures.census
 pub returns-in-Ok-load-clause-keeps : goal.returns-in-Ok-load-clause-keeps
 returns-in-Ok-load-clause-keeps g c = let l = c.load.ensures in
     keeps_loaded c.in-Ok.pin.frame c.frame-frame.result c.frame-frame.ensures
-    c.pin_block.ensures.keeps l.seat l.stands l.latches l.works c.in-Ok.ensures.pinned.1 l.pinned
+    c.pin_block.ensures.keeps l.works c.in-Ok.ensures.pinned.1 l.pinned
 
 pub returns-in-Err-load-clause-keeps : goal.returns-in-Err-load-clause-keeps
 returns-in-Err-load-clause-keeps g c = let l = c.load.ensures in keeps_on
     (keeps_loaded c.in-Ok.pin.frame c.frame-frame.result c.frame-frame.ensures
-    c.pin_block.ensures.keeps l.seat l.stands l.latches l.works c.in-Ok.ensures.pinned.1 l.pinned)
+    c.pin_block.ensures.keeps l.works c.in-Ok.ensures.pinned.1 l.pinned)
     (outside_keeps c.give_back.ensures.keeps)

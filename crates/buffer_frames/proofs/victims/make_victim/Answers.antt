@@ -19,7 +19,7 @@ use Rattle.buffer_frames.proofs.Outside.{outside_chosen, outside_searched}
 use Rattle.buffer_frames.proofs.Trying.{gives_up_now, tried}
 use Rattle.buffer_frames.proofs.WorkSteps.{made_none}
 use Rattle.buffer_frames.proofs.Keeps.{and_same, chosen_keeps, freeing_keeps, keeps_on}
-use Rattle.buffer_frames.proofs.Keeps.{keeps_flushed, keeps_tagged, same_less}
+use Rattle.buffer_frames.proofs.Keeps.{keeps_tagged, keeps_works, same_less}
 use Rattle.buffer_frames.proofs.victims.make_victim.Goals as goal
 
 pub returns-in_default-clause-answer : goal.returns-in_default-clause-answer
@@ -181,14 +181,14 @@ returns-in_default-clause-keeps g c = keeps_tagged c.choose.ensures.keeps
 pub returns-in-Ok-Spared-clause-keeps : goal.returns-in-Ok-Spared-clause-keeps
 returns-in-Ok-Spared-clause-keeps g c = let w = c.flush_victim.ensures in
     and_same (keeps_on (keeps_tagged c.choose.ensures.keeps c.tag_of_victim.ensures.keeps)
-    (keeps_flushed c.frame-frame.result c.tag_of_victim.ensures.keeps.latches w.works
+    (keeps_works c.frame-frame.result c.tag_of_victim.ensures.keeps.latches w.works
     c.tag_of_victim.ensures.victim.unlocked w.victim.victim.unlocked))
     (same_less c.give_up.ensures.keeps) c.give_up.ensures.stands c.give_up.ensures.partitions
 
 pub returns-in-Err-flush_victim-clause-keeps : goal.returns-in-Err-flush_victim-clause-keeps
 returns-in-Err-flush_victim-clause-keeps g c = let w = c.flush_victim.ensures in
     and_same (keeps_on (keeps_tagged c.choose.ensures.keeps c.tag_of_victim.ensures.keeps)
-    (keeps_flushed c.frame-frame.result c.tag_of_victim.ensures.keeps.latches w.works
+    (keeps_works c.frame-frame.result c.tag_of_victim.ensures.keeps.latches w.works
     c.tag_of_victim.ensures.victim.unlocked w.victim.victim.unlocked))
     (same_less c.give_up-in-Err-flush_victim.ensures.keeps)
     c.give_up-in-Err-flush_victim.ensures.stands c.give_up-in-Err-flush_victim.ensures.partitions
@@ -196,14 +196,14 @@ returns-in-Err-flush_victim-clause-keeps g c = let w = c.flush_victim.ensures in
 pub returns-then-erase-clause-keeps : goal.returns-then-erase-clause-keeps
 returns-then-erase-clause-keeps g c = let w = c.flush_victim.ensures in
     keeps_on (keeps_on (keeps_tagged c.choose.ensures.keeps c.tag_of_victim.ensures.keeps)
-    (keeps_flushed c.frame-frame.result c.tag_of_victim.ensures.keeps.latches w.works
+    (keeps_works c.frame-frame.result c.tag_of_victim.ensures.keeps.latches w.works
     c.tag_of_victim.ensures.victim.unlocked w.victim.victim.unlocked))
     (freeing_keeps c.erase.ensures.keeps)
 
 pub returns-clause-keeps : goal.returns-clause-keeps
 returns-clause-keeps g c = let w = c.flush_victim.ensures in and_same
     (keeps_on (keeps_on (keeps_tagged c.choose.ensures.keeps c.tag_of_victim.ensures.keeps)
-    (keeps_flushed c.frame-frame.result c.tag_of_victim.ensures.keeps.latches w.works
+    (keeps_works c.frame-frame.result c.tag_of_victim.ensures.keeps.latches w.works
     c.tag_of_victim.ensures.victim.unlocked w.victim.victim.unlocked))
     (freeing_keeps c.erase.ensures.keeps)) (same_less c.give_up-2.ensures.keeps)
     c.give_up-2.ensures.stands c.give_up-2.ensures.partitions
