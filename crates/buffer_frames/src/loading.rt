@@ -8,8 +8,7 @@ ghost use Rattle.block_tag.specs.Names.{lane_number, names_block, packed_tag};
 ghost use Rattle.pin_core.specs.declared.view.DeviceCall.TheVariants.{LaneRead};
 ghost use Rattle.pin_core.specs.State.{link};
 ghost use Rattle.table_rule.specs.Blocks.{has_block};
-ghost use Rattle.frame_table.specs.Opened.{WasSoundAtOpening};
-ghost use Rattle.frame_table.specs.Seats.{Looked, frames_of, lanes_in, relations_of};
+ghost use Rattle.frame_table.specs.Seats.{frames_of, lanes_in, relations_of};
 ghost use Rattle.buffer_frames.specs.Rests.{LinksRestBeside, Stands};
 ghost use Rattle.buffer_frames.specs.Loading.{EndsUnread, LoadShows, loading_calls, met_lane_read};
 ghost use Rattle.buffer_frames.specs.Loading.{met_loading};
@@ -106,28 +105,6 @@ fn install_page<L: BlockLane, G: LogDevice>(
     page_back(table, seat, frame, given);
 }
 
-/// Loads the state word of a frame whose BM_VALID the pin has seen. It shows that the block's page
-/// was sound as the table was opened, if that is known.
-fn see_page<L: BlockLane, G: LogDevice>(
-    table: &FrameTable<L, G>,
-    seat: &mut Seat<Value<L, G>, View>,
-    frame: u32,
-    _tag: Tag,
-)
-    requires stands { Stands table.now seat.old }
-    requires inside { frame < frames_of table.now }
-    requires remembered { (link seat.old.me.0 frame).tag ≡ Some (packed_tag _tag) }
-    requires seen { (link seat.old.me.0 frame).seen_valid ≡ true }
-    ensures works { Works frame table.now seat.old seat.new }
-    ensures link { Looked (link seat.old.me.0 frame) (link seat.new.me.0 frame) }
-    ensures calls { Made [] seat.old.me.0 seat.new.me.0 }
-    ensures met { seat.new.me.0.met ≡ seat.old.me.0.met }
-    ensures sound { WasSoundAtOpening L.contents table.now _tag }
-{
-    // What the word shows is known of the pin already: the load is for what it shows of the page.
-    table.look(seat, frame);
-}
-
 /// If the backend has the right to read the block into the frame, does so, and ends that.
 fn read_in<L: BlockLane, G: LogDevice, R: Wait>(
     table: &FrameTable<L, G>,
@@ -169,7 +146,8 @@ fn read_in<L: BlockLane, G: LogDevice, R: Wait>(
     }
     install_page(table, seat, frame, tag, page);
     end_io(table, rt, seat, right, IoEnd::ReadOk);
-    see_page(table, seat, frame, tag);
+    // A load with BM_VALID shows that the block was sound from the start.
+    table.look(seat, frame);
     Ok(Loaded::Read)
 }
 
@@ -204,7 +182,9 @@ pub fn load<L: BlockLane, G: LogDevice, R: Wait>(
         return Ok(Loaded::Hit);
     }
     let Some(right) = start_io(table, rt, seat, frame, Direction::Input) else {
-        see_page(table, seat, frame, *tag);
+        // The page was read meanwhile. As above, a load shows that the block was sound from the
+        // start.
+        table.look(seat, frame);
         return Ok(Loaded::Hit);
     };
     read_in(table, rt, seat, held, right, *tag, page)

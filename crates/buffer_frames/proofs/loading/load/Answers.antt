@@ -1,4 +1,4 @@
-use Rattle.std.proofs.Common.{ℕ, ap, subst, sym, ◌∙◌}
+use Rattle.std.proofs.Common.{ℕ, ap, refl, subst, sym, ◌∙◌}
 use Rattle.block_tag.specs.Names.{packed_tag}
 use Rattle.pin_core.specs.State.{link}
 use Rattle.frame_table.specs.Seats.{ViewMarks}
@@ -41,29 +41,30 @@ start_io-requires-clause-quiet g c = let k = c.look.ensures in let p = c.require
     c.args.held.now c.args.seat.now.me.0 c.look.new.seat.me.0 k.touches.others p.others)
     (k.link.io ∙ p.calm.no_io)
 
-pub see_page-requires-clause-stands : goal.see_page-requires-clause-stands
-see_page-requires-clause-stands g c = let k = c.look.ensures in let s = c.start_io.ensures in
-    stands_self _ c.look.new.seat c.start_io.new.seat s.seat s.touches.self
-    (stands_self _ c.args.seat.now c.look.new.seat k.seat k.touches.self c.requires.stands)
-
 pub returns-in_default-clause-works : goal.returns-in_default-clause-works
 returns-in_default-clause-works g c = let k = c.look.ensures in let s = c.start_io.ensures in
-    works_then (and_looked (and_looked (works_none c.args.frame c.requires.stands)
+    let n = c.look-in_default.ensures in
+    and_looked (and_looked (and_looked (works_none c.args.frame c.requires.stands)
     k.seat k.touches k.marks k.link) s.seat s.touches c.in_default.ensures.marks
-    c.in_default.ensures.left) c.see_page.ensures.works
+    c.in_default.ensures.left) n.seat n.touches n.marks n.link
 
 pub returns-in_default-clause-pinned : goal.returns-in_default-clause-pinned
 returns-in_default-clause-pinned g c = let f = c.args.frame in
     let tag = packed_tag c.args.tag.now in
-    pins_worked tag f c.args.held.now c.args.seat.now.me.0 c.see_page.new.seat.me.0
+    pins_worked tag f c.args.held.now c.args.seat.now.me.0 c.look-in_default.new.seat.me.0
     c.requires.pinned (returns-in_default-clause-works g c).work
-    (read_looked tag (link c.start_io.new.seat.me.0 f) (link c.see_page.new.seat.me.0 f)
-    c.see_page.ensures.link
+    (read_looked tag (link c.start_io.new.seat.me.0 f) (link c.look-in_default.new.seat.me.0 f)
+    c.look-in_default.ensures.link
     (read_looked tag (link c.look.new.seat.me.0 f) (link c.start_io.new.seat.me.0 f)
     c.in_default.ensures.left
     (read_looked tag (link c.args.seat.now.me.0 f) (link c.look.new.seat.me.0 f)
     c.look.ensures.link
     (read_of_pins tag f c.args.held.now c.args.seat.now.me.0 c.requires.pinned))))
+
+pub returns-in_default-clause-shows : goal.returns-in_default-clause-shows
+returns-in_default-clause-shows g c = let n = c.look-in_default.ensures in
+    n.opening.valid c.args.tag.now (c.in_default.ensures.left.tag ∙ c.look.ensures.link.tag
+    ∙ c.requires.pinned.remembered) (n.word.seen (c.in_default.ensures.seen refl))
 
 pub read_in-requires-clause-stands : goal.read_in-requires-clause-stands
 read_in-requires-clause-stands g c = let k = c.look.ensures in let s = c.start_io.ensures in

@@ -1,13 +1,15 @@
-use Rattle.std.proofs.Common.{ℕ, subst, sym, ◌∙◌}
+use Rattle.std.proofs.Common.{◌≡◌, ℕ, Some, true, refl, subst, sym, ◌∙◌}
+use Rattle.block_tag.specs.Names.{packed_tag}
 use Rattle.state_word.specs.declared.word.IoEnd.TheVariants.{Bad, ReadOk}
+use Rattle.pin_core.specs.State.{link}
 use Rattle.frame_table.proofs.Rising.{rises_on, rises_touched}
 use Rattle.buffer_frames.specs.Rests.{LinksRestBeside}
 use Rattle.buffer_frames.specs.Working.{Works}
 use Rattle.buffer_frames.specs.declared.loading.LoadError.TheVariants.{ReadFault, Unsound}
-use Rattle.buffer_frames.proofs.Keeping.{beside_kept, stands_self}
+use Rattle.buffer_frames.proofs.Keeping.{beside_kept}
 use Rattle.buffer_frames.proofs.Unread.{ends_unread}
 use Rattle.buffer_frames.proofs.WorkSteps.{headless}
-use Rattle.buffer_frames.proofs.Works.{and_ended, and_looked, works_then}
+use Rattle.buffer_frames.proofs.Works.{and_ended, and_looked, works_none, works_then}
 use Rattle.buffer_frames.proofs.loading.read_in.Goals as goal
 
 pub returns-then-not-read_lane-clause-works : goal.returns-then-not-read_lane-clause-works
@@ -60,15 +62,21 @@ returns-then-not-is_sound-clause-unread g c = let r = c.read_lane.ensures in
       unsound = sym c.is_sound.ensures ∙ c.if-not-is_sound.true;
     })
 
-pub see_page-requires-clause-stands : goal.see_page-requires-clause-stands
-see_page-requires-clause-stands g c = let e = c.end_io-2.ensures in
-    stands_self _ c.install_page.new.seat c.end_io-2.new.seat e.seat e.touches.self
-    c.install_page.ensures.works.stands
-
 pub returns-clause-works : goal.returns-clause-works
-returns-clause-works g c = let e = c.end_io-2.ensures in
-    works_then (and_ended ReadOk (subst (λ (x : ℕ). Works x c.args.table.now c.args.seat.now
+returns-clause-works g c = let e = c.end_io-2.ensures in let k = c.look-2.ensures in
+    let ended = and_ended ReadOk (subst (λ (x : ℕ). Works x c.args.table.now c.args.seat.now
     c.install_page.new.seat) c.frame-frame.ensures
     (works_then c.read_lane.ensures.works c.install_page.ensures.works))
-    e.seat e.touches e.marks.1 e.ended) (subst (λ (x : ℕ). Works x c.args.table.now
-    c.end_io-2.new.seat c.see_page.new.seat) c.frame-frame.ensures c.see_page.ensures.works)
+    e.seat e.touches e.marks.1 e.ended in
+    works_then ended (subst (λ (x : ℕ). Works x c.args.table.now c.end_io-2.new.seat
+    c.look-2.new.seat) c.frame-frame.ensures (and_looked (works_none c.frame-frame.result
+    ended.stands) k.seat k.touches k.marks k.link))
+
+pub returns-clause-shows : goal.returns-clause-shows
+returns-clause-shows g c = let e = c.end_io-2.ensures in let k = c.look-2.ensures in
+    let same = c.frame-frame.ensures in
+    k.opening.valid c.args.tag (subst (λ (x : ℕ). (link c.end_io-2.new.seat.me.0 x).tag
+    ≡ Some (packed_tag c.args.tag)) (sym same) (e.ended.tag ∙ subst (λ (x : ℕ).
+    (link c.install_page.new.seat.me.0 x).tag ≡ Some (packed_tag c.args.tag)) same
+    c.install_page.ensures.reads.remembered)) (k.word.seen (subst (λ (x : ℕ).
+    (link c.end_io-2.new.seat.me.0 x).seen_valid ≡ true) (sym same) (e.seen refl)))
