@@ -30,9 +30,9 @@ use Rattle.buffer_frames.specs.declared.victims.VictimError.TheVariants as victi
 use Rattle.buffer_frames.specs.declared.reading.PinnedBlock.{PinnedBlock}
 use Rattle.buffer_frames.specs.declared.reading.BlockError.{BlockError}
 use Rattle.buffer_frames.specs.declared.reading.BlockError.TheVariants as block
-use Rattle.buffer_frames.specs.declared.loading.Loaded.{Loaded}
-use Rattle.buffer_frames.specs.declared.loading.LoadError.TheVariants as load
-use Rattle.buffer_frames.specs.Loading.{loaded_by, loading_calls}
+use Rattle.buffer_frames.specs.declared.fetching.FetchedPage.{FetchedPage}
+use Rattle.buffer_frames.specs.declared.fetching.FetchError.TheVariants as fetch
+use Rattle.buffer_frames.specs.Fetching.{fetched_by, fetch_calls}
 use Rattle.buffer_frames.specs.Reads.{CensusRead, Locates, ReadAnswer, ReadCalls, met_read_block}
 use Rattle.buffer_frames.specs.Stages.{Pins}
 use Rattle.buffer_frames.specs.VictimChoices.{ChoiceState, choice_state}
@@ -99,8 +99,8 @@ met_of_refusal tag (block.NoFrame (victim.Flush (flush.WriteFault written))) m =
 met_of_refusal tag (block.NoFrame (victim.Flush (flush.Log log.LogFault))) m = refl
 met_of_refusal tag (block.NoFrame (victim.Flush (flush.Log (log.LogDown at)))) m = refl
 met_of_refusal tag (block.NoFrame (victim.Flush (flush.Log (log.LogShort lsn end)))) m = refl
-met_of_refusal tag (block.Unread load.ReadFault) m = refl
-met_of_refusal tag (block.Unread load.Unsound) m = refl
+met_of_refusal tag (block.Unread fetch.ReadFault) m = refl
+met_of_refusal tag (block.Unread fetch.Unsound) m = refl
 
 -- so is what it leaves of the census
 pub census_of_refusal : (tag : Tag) (n : ℕ) (c d : CensusList) (why : BlockError) → CensusRead n c d (Err why) → ReadingCensus n c d (Err (read_refusal tag why))
@@ -109,8 +109,8 @@ census_of_refusal tag n c d (block.NoFrame (victim.Flush (flush.WriteFault writt
 census_of_refusal tag n c d (block.NoFrame (victim.Flush (flush.Log log.LogFault))) e = e
 census_of_refusal tag n c d (block.NoFrame (victim.Flush (flush.Log (log.LogDown at)))) e = e
 census_of_refusal tag n c d (block.NoFrame (victim.Flush (flush.Log (log.LogShort lsn end)))) e = e
-census_of_refusal tag n c d (block.Unread load.ReadFault) e = e
-census_of_refusal tag n c d (block.Unread load.Unsound) e = e
+census_of_refusal tag n c d (block.Unread fetch.ReadFault) e = e
+census_of_refusal tag n c d (block.Unread fetch.Unsound) e = e
 
 -- and so are its calls
 module _ {L G : Type 0} (contents : L → Option Pages) (t : FrameTable L G) (tag : Tag) (held : Tokens) (ring : Bool) (seen : HintSeen) (c d : ChoiceState) (lane : ℕ) (v w : View) where
@@ -120,8 +120,8 @@ module _ {L G : Type 0} (contents : L → Option Pages) (t : FrameTable L G) (ta
   calls_of_refusal (block.NoFrame (victim.Flush (flush.Log log.LogFault))) x = x
   calls_of_refusal (block.NoFrame (victim.Flush (flush.Log (log.LogDown at)))) x = x
   calls_of_refusal (block.NoFrame (victim.Flush (flush.Log (log.LogShort lsn end)))) x = x
-  calls_of_refusal (block.Unread load.ReadFault) x = x
-  calls_of_refusal (block.Unread load.Unsound) x = x
+  calls_of_refusal (block.Unread fetch.ReadFault) x = x
+  calls_of_refusal (block.Unread fetch.Unsound) x = x
 
 -- what rests after a read
 pub rests_pinned : (tag f : ℕ) (t : Tokens) (w : View) → HasNoDevice w → HasNoLatch w → Pins tag f t w → (link w f).seen_valid ≡ true → OnlyTokens (tokens_with f tag t) w
@@ -193,8 +193,8 @@ module _ {L G : Type 0} (contents : L → Option Pages) (t : FrameTable L G) whe
   refused_as tag ring after p q (block.NoFrame (victim.Flush (flush.Log log.LogFault))) a x = freed_none ring after p q (victim.Flush (flush.Log log.LogFault)) x.0.searched x.2
   refused_as tag ring after p q (block.NoFrame (victim.Flush (flush.Log (log.LogDown at)))) a x = freed_none ring after p q (victim.Flush (flush.Log (log.LogDown at))) x.0.searched x.2
   refused_as tag ring after p q (block.NoFrame (victim.Flush (flush.Log (log.LogShort lsn end)))) a x = freed_none ring after p q (victim.Flush (flush.Log (log.LogShort lsn end))) x.0.searched x.2
-  refused_as tag ring after p q (block.Unread load.ReadFault) a x = refl
-  refused_as tag ring after p q (block.Unread load.Unsound) a x = (refl, a.1)
+  refused_as tag ring after p q (block.Unread fetch.ReadFault) a x = refl
+  refused_as tag ring after p q (block.Unread fetch.Unsound) a x = (refl, a.1)
 
   pub refused_reads : (tag : Tag) (ring after : Option RingState) (a p q : PassState) (why : BlockError) (answer : ReadError) → a ≡ p → answer ≡ read_refusal tag why → q.tokens ≡ a.tokens → ReadAnswer contents t tag a.tokens a.view q.view (Err why)
       → ReadCalls contents t tag a.tokens (is_some ring) q.hint (choice_state a.queue ring a.census) (choice_state q.queue after q.census) (lane_number tag (lanes_in t)) a.view q.view (Err why) → ReadsBlock contents t tag ring after p q (Err answer)
@@ -204,11 +204,11 @@ module _ {L G : Type 0} (contents : L → Option Pages) (t : FrameTable L G) whe
   })
 
   -- and a block that was pinned
-  pub first_reads : (tag : Tag) (ring after : Option RingState) (a p q : PassState) (block : PinnedBlock) (frame : ℕ) (hit : Bool) → a ≡ p → loaded_by hit ≡ block.loaded → frame ≡ block.pin.frame → q.tokens ≡ tokens_with block.pin.frame (packed_tag tag) a.tokens → ReadAnswer contents t tag a.tokens a.view q.view (Ok block)
+  pub first_reads : (tag : Tag) (ring after : Option RingState) (a p q : PassState) (block : PinnedBlock) (frame : ℕ) (hit : Bool) → a ≡ p → fetched_by hit ≡ block.fetched → frame ≡ block.pin.frame → q.tokens ≡ tokens_with block.pin.frame (packed_tag tag) a.tokens → ReadAnswer contents t tag a.tokens a.view q.view (Ok block)
       → ReadCalls contents t tag a.tokens (is_some ring) q.hint (choice_state a.queue ring a.census) (choice_state q.queue after q.census) (lane_number tag (lanes_in t)) a.view q.view (Ok block) → ReadsBlock contents t tag ring after p q (Ok (record { frame = frame; tag = tag; hit = hit }))
   first_reads tag ring after a p q block frame hit same by is tokens r calls = subst (λ (x : PassState). ReadsBlock contents t tag ring after x q (Ok (record { frame = frame; tag = tag; hit = hit }))) same (subst (λ (f : ℕ). ReadsBlock contents t tag ring after a q (Ok (record { frame = f; tag = tag; hit = hit }))) (sym is) record {
     answer = record { named = refl; tokens = tokens; new = r.1.new; inside = r.0; seen = r.2; unlocked = r.1.unlocked; sound = r.3 };
-    calls = subst (λ (l : Loaded). Locates contents t tag a.tokens (is_some ring) q.hint (choice_state a.queue ring a.census) (choice_state q.queue after q.census) block.pin.frame (loading_calls (lane_number tag (lanes_in t)) (packed_tag tag) (Ok l)) a.view q.view) (sym by) calls;
+    calls = subst (λ (l : FetchedPage). Locates contents t tag a.tokens (is_some ring) q.hint (choice_state a.queue ring a.census) (choice_state q.queue after q.census) block.pin.frame (fetch_calls (lane_number tag (lanes_in t)) (packed_tag tag) (Ok l)) a.view q.view) (sym by) calls;
   })
 
   -- what is told of a read is no matter of the hint that the pass had

@@ -12,7 +12,7 @@ use Rattle.frame_table.specs.declared.table.FrameTable.{FrameTable}
 use Rattle.wal_flush.specs.declared.flushes.FlushLog.TheVariants as log
 use Rattle.buffer_frames.specs.Tokens.{Tokens, count_of}
 use Rattle.buffer_frames.specs.declared.flushing.FrameFlushError.TheVariants as flush
-use Rattle.buffer_frames.specs.Loading.{WasUnsoundAtOpening}
+use Rattle.buffer_frames.specs.Fetching.{WasUnsoundAtOpening}
 use Rattle.buffer_frames.specs.VictimChoices.{ChoiceState, LeavesDirty}
 use Rattle.backend_pass.specs.declared.errors.ReadError.{ReadError}
 use Rattle.backend_pass.specs.declared.errors.ReadError.TheVariants.{PastEnd, PinsFull, NoUnpinned, ReadFault, WriteFault, LogFault, LogDown, LogShort, Unsound}

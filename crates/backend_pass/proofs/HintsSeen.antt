@@ -38,7 +38,7 @@ use Rattle.buffer_frames.specs.declared.flushing.FrameFlushError.TheVariants as 
 use Rattle.buffer_frames.specs.declared.reading.BlockError.{BlockError}
 use Rattle.buffer_frames.specs.declared.reading.BlockError.TheVariants as block
 use Rattle.buffer_frames.specs.declared.victims.VictimError.TheVariants as victim
-use Rattle.buffer_frames.specs.declared.loading.LoadError.TheVariants as load
+use Rattle.buffer_frames.specs.declared.fetching.FetchError.TheVariants as fetch
 use Rattle.buffer_frames.specs.Reads.{Locates, Misses, ReadNotes, looked_up, missed}
 use Rattle.backend_pass.specs.declared.errors.ReadError.{ReadError}
 use Rattle.backend_pass.specs.declared.errors.ReadError.TheVariants.{PastEnd, PinsFull, NoUnpinned, ReadFault, WriteFault, LogFault, LogDown, LogShort, Unsound}
@@ -147,5 +147,5 @@ stores_refused n tag seen old new (block.NoFrame (victim.Flush (flush.WriteFault
 stores_refused n tag seen old new (block.NoFrame (victim.Flush (flush.Log log.LogFault))) same = same
 stores_refused n tag seen old new (block.NoFrame (victim.Flush (flush.Log (log.LogDown at)))) same = same
 stores_refused n tag seen old new (block.NoFrame (victim.Flush (flush.Log (log.LogShort lsn end)))) same = same
-stores_refused n tag seen old new (block.Unread load.ReadFault) notes = notes
-stores_refused n tag seen old new (block.Unread load.Unsound) notes = notes
+stores_refused n tag seen old new (block.Unread fetch.ReadFault) notes = notes
+stores_refused n tag seen old new (block.Unread fetch.Unsound) notes = notes

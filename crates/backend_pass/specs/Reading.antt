@@ -24,8 +24,8 @@ use Rattle.buffer_frames.specs.declared.victims.VictimError.{VictimError}
 use Rattle.buffer_frames.specs.declared.victims.VictimError.TheVariants as victim
 use Rattle.buffer_frames.specs.declared.reading.BlockError.{BlockError}
 use Rattle.buffer_frames.specs.declared.reading.BlockError.TheVariants as block
-use Rattle.buffer_frames.specs.declared.loading.LoadError.TheVariants as load
-use Rattle.buffer_frames.specs.Loading.{WasUnsoundAtOpening, loaded_by, loading_calls}
+use Rattle.buffer_frames.specs.declared.fetching.FetchError.TheVariants as fetch
+use Rattle.buffer_frames.specs.Fetching.{WasUnsoundAtOpening, fetched_by, fetch_calls}
 use Rattle.access_rings.specs.RingState.{RingState}
 use Rattle.buffer_frames.specs.Reads.{GetsNoVictim, KeptOrEmptied, Locates, LocatesUnread}
 use Rattle.buffer_frames.specs.VictimChoices.{ChoiceState, choice_state}
@@ -65,8 +65,8 @@ read_refusal tag (block.NoFrame (victim.Flush (flush.Log log.LogFault))) = LogFa
 read_refusal tag (block.NoFrame (victim.Flush (flush.Log (log.LogDown at)))) = LogDown at
 read_refusal tag (block.NoFrame (victim.Flush (flush.Log (log.LogShort lsn end)))) =
     LogShort lsn end
-read_refusal tag (block.Unread load.ReadFault) = ReadFault tag
-read_refusal tag (block.Unread load.Unsound) = Unsound tag
+read_refusal tag (block.Unread fetch.ReadFault) = ReadFault tag
+read_refusal tag (block.Unread fetch.Unsound) = Unsound tag
 
 -- the faults that were met, by the refusal, and by the answer
 abbrev pub met_read_refused : ReadError → FailedCalls → FailedCalls
@@ -142,14 +142,14 @@ module _ {L G : Type 0} (contents : L → Option Pages) (t : FrameTable L G) whe
   module _ (tag : Tag) (held : Tokens) (ring : Bool) (seen : HintSeen) (c d : ChoiceState) where
     abbrev pub ReadingCalls : ℕ → View → View → Result Pinned ReadError → Type 0
     ReadingCalls lane v w (Ok pinned) = Locates contents t tag held ring seen c d pinned.frame
-        (loading_calls lane (packed_tag tag) (Ok (loaded_by pinned.hit))) v w
+        (fetch_calls lane (packed_tag tag) (Ok (fetched_by pinned.hit))) v w
     ReadingCalls lane v w (Err (PastEnd block blocks)) = ⊥
     ReadingCalls lane v w (Err PinsFull) = ⊥
     ReadingCalls lane v w (Err (ReadFault failed)) = (f : ℕ)
-        × LocatesUnread contents t tag held ring seen c d load.ReadFault
+        × LocatesUnread contents t tag held ring seen c d fetch.ReadFault
         (LaneRead lane (packed_tag tag) false ∷ []) v w f
     ReadingCalls lane v w (Err (Unsound failed)) = (f : ℕ)
-        × LocatesUnread contents t tag held ring seen c d load.Unsound
+        × LocatesUnread contents t tag held ring seen c d fetch.Unsound
         (LaneRead lane (packed_tag tag) true ∷ []) v w f
     ReadingCalls lane v w (Err (NoUnpinned frames)) = GetsNoVictim contents t tag held ring seen c d
         (victim.NoUnpinned frames) v w

@@ -3,7 +3,7 @@
 //! Rings are passed as `&mut Option<Ring>`: if a reference stood inside the `Option`, no clause
 //! could tell the caller what it refers to after a call.
 ghost use Rattle.std.specs.Prelude.{◌≡◌};
-ghost use Rattle.buffer_frames.specs.Loading.{loaded_by};
+ghost use Rattle.buffer_frames.specs.Fetching.{fetched_by};
 ghost use Rattle.backend_pass.specs.Reading.{read_refusal, shown_after};
 
 use crate::errors::ReadError;
@@ -15,8 +15,8 @@ use crate::seats::{return_seat, take_seat};
 use access_rings::Ring;
 use block_tag::Tag;
 use buffer_frames::{
-    BlockError, FrameFlushError, HintSeen, LoadError, Loaded, MOST_TOKENS, PinnedBlock, VictimError,
-    read_block,
+    BlockError, FetchError, FetchedPage, FrameFlushError, HintSeen, MOST_TOKENS, PinnedBlock,
+    VictimError, read_block,
 };
 use byte_devices::LogDevice;
 use crossbeam_utils::CachePadded;
@@ -42,18 +42,18 @@ fn read_error(why: BlockError, tag: Tag) -> ReadError
         BlockError::NoFrame(
             VictimError::Flush(FrameFlushError::Log(FlushLog::LogShort { lsn, end })),
         ) => { ReadError::LogShort { lsn, end } }
-        BlockError::Unread(LoadError::ReadFault) => ReadError::ReadFault { tag },
-        BlockError::Unread(LoadError::Unsound) => ReadError::Unsound { tag },
+        BlockError::Unread(FetchError::ReadFault) => ReadError::ReadFault { tag },
+        BlockError::Unread(FetchError::Unsound) => ReadError::Unsound { tag },
     }
 }
 
 /// Whether a block was there already, so that no lane was read for it.
-fn is_hit(loaded: Loaded) -> bool
-    ensures { loaded_by result ≡ loaded }
+fn is_hit(fetched: FetchedPage) -> bool
+    ensures { fetched_by result ≡ fetched }
 {
-    match loaded {
-        Loaded::Hit => true,
-        Loaded::Read => false,
+    match fetched {
+        FetchedPage::Hit => true,
+        FetchedPage::Read => false,
     }
 }
 
@@ -121,7 +121,7 @@ impl Pass {
     ghost use Rattle.backend_pass.specs.Reading.{IsReadUnsoundOrAllPinned, NothingFails};
     ghost use Rattle.backend_pass.specs.Reading.{ReadingCensus, ReadsBlock, at_once_of};
     ghost use Rattle.backend_pass.specs.Reading.{met_reading, refused_at_once};
-    ghost use Rattle.buffer_frames.specs.Loading.{WasUnsoundAtOpening};
+    ghost use Rattle.buffer_frames.specs.Fetching.{WasUnsoundAtOpening};
     ghost use Rattle.backend_pass.specs.declared.errors.ReadError.{ReadError};
     ghost use Rattle.backend_pass.specs.declared.errors.ReadError.TheVariants.{Unsound};
     ghost use Rattle.block_tag.specs.declared.tag.Tag.{Tag};
@@ -169,10 +169,10 @@ impl Pass {
         );
         return_seat(&mut self.seat, seat);
         match answer {
-            Ok(PinnedBlock { pin, loaded }) => {
+            Ok(PinnedBlock { pin, fetched }) => {
                 let frame = pin.frame();
                 let tag = *tag;
-                let hit = is_hit(loaded);
+                let hit = is_hit(fetched);
                 self.held.add_pin(pin, tag);
                 Ok(Pinned { frame, tag, hit })
             }

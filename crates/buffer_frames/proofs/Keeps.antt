@@ -265,8 +265,8 @@ module _ {L G : Type 0} {t : FrameTable L G} {held : Tokens} where
   }
 
 -- A frame that was pinned for a block has its page read
-pub keeps_loaded : {L G : Type 0} {t : FrameTable L G} {held : Tokens} {tag : ℕ} (f h : ℕ) {s u w : Seat (Value L G) View} → h ≡ f → Keeps kept_by_block_reads None t s u → Works h t u w → Pins tag f held u.me.0 → Pins tag h held w.me.0 → Keeps kept_by_block_reads None t s w
-keeps_loaded f h {s} {u} {w} e a k before after = keeps_on a (keeps_works h a.latches k (subst (λ (x : ℕ). (link u.me.0 x).content ≡ Unlocked) (sym e) before.unlocked) after.unlocked)
+pub keeps_fetched : {L G : Type 0} {t : FrameTable L G} {held : Tokens} {tag : ℕ} (f h : ℕ) {s u w : Seat (Value L G) View} → h ≡ f → Keeps kept_by_block_reads None t s u → Works h t u w → Pins tag f held u.me.0 → Pins tag h held w.me.0 → Keeps kept_by_block_reads None t s w
+keeps_fetched f h {s} {u} {w} e a k before after = keeps_on a (keeps_works h a.latches k (subst (λ (x : ℕ). (link u.me.0 x).content ≡ Unlocked) (sym e) before.unlocked) after.unlocked)
 
 -- A hint was loaded by a backend that is ready
 pub ready_loaded : {L G : Type 0} {t : FrameTable L G} {held : Tokens} {s w : Seat (Value L G) View} (n : ℕ) (tag : Tag) (frame : Option ℕ) → IsReady t held s → SameSeat s w → LoadsHint n tag frame s.me.0 w.me.0 → IsReady t held w

@@ -32,7 +32,7 @@ use Rattle.frame_table.proofs.Rising.{rises_back, rises_on, rises_out, rises_tur
 use Rattle.frame_table.proofs.LogWork.{met_none}
 use Rattle.frame_table.proofs.Told.{lists_same}
 use Rattle.buffer_frames.specs.Flushing.{CallsLane, met_lane_write}
-use Rattle.buffer_frames.specs.Loading.{met_lane_read}
+use Rattle.buffer_frames.specs.Fetching.{met_lane_read}
 use Rattle.buffer_frames.specs.Working.{Made, WorksAt, met_read, met_write}
 
 -- A call that is no sync

@@ -13,13 +13,13 @@ use Rattle.frame_table.specs.Seats.{OnlyRises, ViewMarks}
 use Rattle.content_locks.specs.Io.{EndsIo}
 use Rattle.cleanup_lock.specs.Waking.{Woken}
 use Rattle.frame_table.proofs.Rising.{rises_on}
-use Rattle.buffer_frames.specs.declared.loading.LoadError.{LoadError}
-use Rattle.buffer_frames.specs.declared.loading.LoadError.TheVariants.{Unsound}
-use Rattle.buffer_frames.specs.declared.loading.Loaded.{Loaded}
-use Rattle.buffer_frames.specs.Loading.{EndsUnread, FailsRead, NotesUnsound}
+use Rattle.buffer_frames.specs.declared.fetching.FetchError.{FetchError}
+use Rattle.buffer_frames.specs.declared.fetching.FetchError.TheVariants.{Unsound}
+use Rattle.buffer_frames.specs.declared.fetching.FetchedPage.{FetchedPage}
+use Rattle.buffer_frames.specs.Fetching.{EndsUnread, FailsRead, NotesUnsound}
 use Rattle.buffer_frames.specs.Outside.{outside_of}
 
-pub ends_unread : (why : LoadError) (tag : Tag) (f g : ℕ) (v u w : View) → g ≡ f → OnlyRises v u → EndsIo Bad f u w → (link u g).io ≡ Input → (link u g).tag ≡ Some (packed_tag tag) → (why ≡ Unsound → NotesUnsound g u) → EndsUnread why tag f v w
+pub ends_unread : (why : FetchError) (tag : Tag) (f g : ℕ) (v u w : View) → g ≡ f → OnlyRises v u → EndsIo Bad f u w → (link u g).io ≡ Input → (link u g).tag ≡ Some (packed_tag tag) → (why ≡ Unsound → NotesUnsound g u) → EndsUnread why tag f v w
 ends_unread why tag f g v u w same since e right remembered unsound = let here = subst (λ (x : ℕ). (link u x).io ≡ Input) same right in let tagged = subst (λ (x : ℕ). (link u x).tag ≡ Some (packed_tag tag)) same remembered in record {
   begun = u;
   stored = unlocked_fields (io_ended_fields Bad (fields e.word));
@@ -33,7 +33,7 @@ ends_unread why tag f g v u w same since e right remembered unsound = let here =
 }
 
 -- with steps before it
-pub unread_since : (why : LoadError) (tag : Tag) (f g : ℕ) (v u w : View) → g ≡ f → OnlyRises v u → EndsUnread why tag g u w → EndsUnread why tag f v w
+pub unread_since : (why : FetchError) (tag : Tag) (f g : ℕ) (v u w : View) → g ≡ f → OnlyRises v u → EndsUnread why tag g u w → EndsUnread why tag f v w
 unread_since why tag f g v u w same before e = subst (λ (x : ℕ). EndsUnread why tag x v w) same record {
   begun = e.begun;
   stored = e.stored;
@@ -46,12 +46,12 @@ unread_since why tag f g v u w same before e = subst (λ (x : ℕ). EndsUnread w
   failed = e.failed;
 }
 
-pub unread_after : (tag : Tag) (f g : ℕ) (v u w : View) (r : Result Loaded LoadError) → g ≡ f → OnlyRises v u → IfErr r (λ why. EndsUnread why tag g u w) → IfErr r (λ why. EndsUnread why tag f v w)
-unread_after tag f g v u w (Ok loaded) same before e = tt
+pub unread_after : (tag : Tag) (f g : ℕ) (v u w : View) (r : Result FetchedPage FetchError) → g ≡ f → OnlyRises v u → IfErr r (λ why. EndsUnread why tag g u w) → IfErr r (λ why. EndsUnread why tag f v w)
+unread_after tag f g v u w (Ok fetched) same before e = tt
 unread_after tag f g v u w (Err why) same before e = unread_since why tag f g v u w same before e
 
 -- and with the pin given up after it
-pub fails_read : (why : LoadError) (tag : Tag) (f g : ℕ) (v u x w : View) → g ≡ f → OnlyRises v u → EndsUnread why tag g u x → Woken f x w → outside_of w ≡ outside_of x → FailsRead why tag f v w
+pub fails_read : (why : FetchError) (tag : Tag) (f g : ℕ) (v u x w : View) → g ≡ f → OnlyRises v u → EndsUnread why tag g u x → Woken f x w → outside_of w ≡ outside_of x → FailsRead why tag f v w
 fails_read why tag f g v u x w same before e wakes kept = let unread = unread_since why tag f g v u x same before e in record {
   ended = x;
   unread = unread;

@@ -2,7 +2,7 @@ pub mod Tokens
 pub mod Rests
 pub mod Stages
 pub mod Working
-pub mod Loading
+pub mod Fetching
 pub mod Flushing
 pub mod Outside
 pub mod Keeps

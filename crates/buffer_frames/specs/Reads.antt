@@ -18,12 +18,12 @@ use Rattle.frame_table.specs.Seats.{OnlyRises, frames_of}
 use Rattle.buffer_frames.specs.Rests.{LinksRest}
 use Rattle.buffer_frames.specs.Tokens.{Tokens}
 use Rattle.buffer_frames.specs.declared.hinting.HintSeen.{HintSeen}
-use Rattle.buffer_frames.specs.declared.loading.LoadError.{LoadError}
+use Rattle.buffer_frames.specs.declared.fetching.FetchError.{FetchError}
 use Rattle.buffer_frames.specs.declared.reading.BlockError.{BlockError}
 use Rattle.buffer_frames.specs.declared.reading.BlockError.TheVariants.{NoFrame, Unread}
 use Rattle.buffer_frames.specs.declared.reading.PinnedBlock.{PinnedBlock}
 use Rattle.buffer_frames.specs.declared.victims.VictimError.{VictimError}
-use Rattle.buffer_frames.specs.Loading.{FailsRead, UnreadShows, loading_calls, met_unread}
+use Rattle.buffer_frames.specs.Fetching.{FailsRead, UnreadShows, fetch_calls, met_unread}
 use Rattle.buffer_frames.specs.Hinting.{LeavesHint, SeesHint}
 use Rattle.buffer_frames.specs.Lookups.{LooksUp, SeesNone, UnderPartition}
 use Rattle.buffer_frames.specs.Stages.{Pins}
@@ -76,16 +76,16 @@ module _ {L G : Type 0} (contents : L → Option Pages) (t : FrameTable L G) whe
 
     -- The frame f was located for the block, whose page didn't come, for this reason, with these
     -- calls
-    abbrev pub LocatesUnread : LoadError → List DeviceCall → View → View → ℕ → Type 0
+    abbrev pub LocatesUnread : FetchError → List DeviceCall → View → View → ℕ → Type 0
     LocatesUnread why last v w f = Locates f last v w × FailsRead why tag f v w
 
     -- how a block was read, or wasn't: this lane was read if the answer says so, and no other lane
     abbrev pub ReadCalls : ℕ → View → View → Result PinnedBlock BlockError → Type 0
     ReadCalls lane v w (Ok block) = Locates block.pin.frame
-        (loading_calls lane (packed_tag tag) (Ok block.loaded)) v w
+        (fetch_calls lane (packed_tag tag) (Ok block.fetched)) v w
     ReadCalls lane v w (Err (NoFrame why)) = GetsNoVictim why v w
     ReadCalls lane v w (Err (Unread why)) = (f : ℕ)
-        × LocatesUnread why (loading_calls lane (packed_tag tag) (Err why)) v w f
+        × LocatesUnread why (fetch_calls lane (packed_tag tag) (Err why)) v w f
 
 -- The hints that a call stored that pins a block, by its answer: none if no frame was freed
 abbrev pub PinNotes : ℕ → Tag → HintSeen → List HintStore → List HintStore

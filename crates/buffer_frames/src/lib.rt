@@ -20,10 +20,10 @@ mod backend;
 mod choosing;
 mod entering;
 mod erasing;
+mod fetching;
 mod flushing;
 mod hinting;
 mod lanes;
-mod loading;
 mod lookup;
 mod marking;
 mod page_reads;
@@ -35,12 +35,12 @@ mod tags;
 mod victims;
 
 pub use backend::Backend;
+pub use fetching::{FetchError, FetchedPage, fetch_page};
 pub use flushing::{
     FlushedPage, FrameFlushError, VictimPage, flush_frame, flush_pinned, flush_victim,
 };
 pub use hinting::{HintSeen, Sought};
 pub use lanes::sync_lane;
-pub use loading::{LoadError, Loaded, load};
 pub use marking::need_checkpoint;
 pub use page_reads::{read_copy, share_to_read};
 pub use pins::{HeldPin, HeldPins, MOST_TOKENS};

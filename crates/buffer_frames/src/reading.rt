@@ -13,8 +13,8 @@ ghost use Rattle.buffer_frames.specs.Reads.{ReadAnswer, ReadCalls, ReadNotes, me
 ghost use Rattle.buffer_frames.specs.Victims.{PinsOrRests, met_claimed};
 
 use crate::backend::Backend;
+use crate::fetching::{FetchError, FetchedPage, fetch_page};
 use crate::hinting::give_back;
-use crate::loading::{LoadError, Loaded, load};
 use crate::lookup::look_up;
 use crate::pins::HeldPins;
 use crate::victims::{VictimError, bring_in};
@@ -37,13 +37,13 @@ pub enum BlockError {
     NoFrame(VictimError),
     /// Its page didn't come into the frame that was pinned for it.
     #[error("{0}")]
-    Unread(LoadError),
+    Unread(FetchError),
 }
 
 /// The pin of a block whose page is there, and how it came there.
 pub struct PinnedBlock {
     pub pin: Pin,
-    pub loaded: Loaded,
+    pub fetched: FetchedPage,
 }
 
 /// Pins a block's frame, or brings the block into one.
@@ -137,8 +137,8 @@ pub fn read_block<L: BlockLane, G: LogDevice, R: Wait>(
         Err(why) => return Err(BlockError::NoFrame(why)),
     };
     let frame = pin.frame();
-    match load(table, rt, seat, held, frame, tag, &mut backend.page) {
-        Ok(loaded) => Ok(PinnedBlock { pin, loaded }),
+    match fetch_page(table, rt, seat, held, frame, tag, &mut backend.page) {
+        Ok(fetched) => Ok(PinnedBlock { pin, fetched }),
         Err(why) => {
             give_back(table, rt, seat, held, pin, *tag);
             Err(BlockError::Unread(why))

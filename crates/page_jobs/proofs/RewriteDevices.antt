@@ -33,7 +33,7 @@ use Rattle.table_rule.specs.Layout.{lane_of_tag, tag_lane}
 use Rattle.table_rule.specs.Shows.{Devices, IsPlaced}
 use Rattle.table_rule.proofs.Tags.{packed_is}
 use Rattle.frame_table.specs.Seats.{lanes_in, opened_of, relations_of}
-use Rattle.buffer_frames.specs.Loading.{WasUnsoundAtOpening}
+use Rattle.buffer_frames.specs.Fetching.{WasUnsoundAtOpening}
 use Rattle.backend_pass.specs.declared.manager.Manager.{Manager}
 use Rattle.backend_pass.specs.Closing.{ClosesAll, EachPass, PassTore, calls_in_order, calls_of_passes}
 use Rattle.backend_pass.specs.Managers.{first_in, is_first, others_in}

@@ -15,7 +15,7 @@ use Rattle.pin_core.specs.State.{Page}
 use Rattle.frame_table.specs.Opened.{WasAtOpening}
 use Rattle.frame_table.specs.Seats.{OnlyRises, base_of, lanes_in}
 use Rattle.buffer_frames.specs.Tokens.{IsPinnedFor, no_tokens, tokens_less}
-use Rattle.buffer_frames.specs.Loading.{WasUnsoundAtOpening}
+use Rattle.buffer_frames.specs.Fetching.{WasUnsoundAtOpening}
 use Rattle.backend_pass.specs.declared.errors.ReadError.{ReadError}
 use Rattle.backend_pass.specs.declared.errors.ReadError.TheVariants as read
 use Rattle.backend_pass.specs.declared.manager.Manager.{Manager}

@@ -19,7 +19,7 @@ use Rattle.buffer_frames.specs.Tokens.{IsPinnedFor, no_tokens, tokens_less}
 use Rattle.wal_flush.specs.declared.inserts.InsertError.{InsertError}
 use Rattle.wal_flush.specs.declared.inserts.InsertError.TheVariants as put
 use Rattle.cleanup_lock.specs.Cleanup.{GrantsCleanup}
-use Rattle.buffer_frames.specs.Loading.{WasUnsoundAtOpening}
+use Rattle.buffer_frames.specs.Fetching.{WasUnsoundAtOpening}
 use Rattle.buffer_frames.specs.Puts.{PutRefused, RefusalShows, met_put}
 use Rattle.backend_pass.specs.declared.manager.Manager.{Manager}
 use Rattle.backend_pass.specs.declared.tokens.Exclusive.{Exclusive as Token}

@@ -74,7 +74,7 @@ fn read_released<R: Wait>(
         &BLOCK,
         &mut None,
     ) {
-        Ok(PinnedBlock { pin, loaded: _ }) => {
+        Ok(PinnedBlock { pin, fetched: _ }) => {
             let frame = Some(pin.frame());
             unpin_and_wake(table, rt, seat, pin);
             Sighted {

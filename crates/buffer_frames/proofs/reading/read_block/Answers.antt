@@ -4,63 +4,69 @@ use Rattle.frame_table.specs.Seats.{frames_of}
 use Rattle.buffer_frames.specs.Hinting.{LeavesHint, TakesTurns}
 use Rattle.buffer_frames.proofs.Locating.{locates_given, locates_worked}
 use Rattle.buffer_frames.proofs.Unread.{fails_read}
-use Rattle.buffer_frames.proofs.Keeps.{keeps_loaded, keeps_on, outside_keeps}
+use Rattle.buffer_frames.proofs.Keeps.{keeps_fetched, keeps_on, outside_keeps}
+use Rattle.buffer_frames.proofs.WorkSteps.{latches_worked}
 use Rattle.buffer_frames.proofs.reading.read_block.Goals as goal
 
-pub returns-in-Ok-load-clause-calls : goal.returns-in-Ok-load-clause-calls
-returns-in-Ok-load-clause-calls g c = locates_worked _ _ c.args.tag.now _ _ _ _ _ c.in-Ok.pin.frame
-    c.frame-frame.result _ c.args.seat.now.me.0 c.pin_block.new.seat.me.0 c.load.new.seat.me.0
-    c.frame-frame.ensures c.in-Ok.ensures.calls c.load.ensures.works.work c.in-Ok-load.ensures.calls
+pub give_back-requires-clause-latches : goal.give_back-requires-clause-latches
+give_back-requires-clause-latches g c = latches_worked c.frame-frame.result
+    c.pin_block.new.seat.me.0 c.fetch_page.new.seat.me.0 c.fetch_page.ensures.works.work
+    c.pin_block.ensures.keeps.latches
 
-pub returns-in-Err-load-clause-calls : goal.returns-in-Err-load-clause-calls
-returns-in-Err-load-clause-calls g c = let u = c.give_back in (
+pub returns-in-Ok-fetch_page-clause-calls : goal.returns-in-Ok-fetch_page-clause-calls
+returns-in-Ok-fetch_page-clause-calls g c = locates_worked _ _ c.args.tag.now _ _ _ _ _ c.in-Ok.pin.frame
+    c.frame-frame.result _ c.args.seat.now.me.0 c.pin_block.new.seat.me.0 c.fetch_page.new.seat.me.0
+    c.frame-frame.ensures c.in-Ok.ensures.calls c.fetch_page.ensures.works.work c.in-Ok-fetch_page.ensures.calls
+
+pub returns-in-Err-fetch_page-clause-calls : goal.returns-in-Err-fetch_page-clause-calls
+returns-in-Err-fetch_page-clause-calls g c = let u = c.give_back in (
   c.in-Ok.pin.frame,
   (
     locates_given _ _ c.args.tag.now _ _ _ _ _ c.in-Ok.pin.frame c.frame-frame.result _
-        c.args.seat.now.me.0 c.pin_block.new.seat.me.0 c.load.new.seat.me.0 u.new.seat.me.0
-        c.frame-frame.ensures c.in-Ok.ensures.calls c.load.ensures.works.work c.in-Err-load.ensures.calls
+        c.args.seat.now.me.0 c.pin_block.new.seat.me.0 c.fetch_page.new.seat.me.0 u.new.seat.me.0
+        c.frame-frame.ensures c.in-Ok.ensures.calls c.fetch_page.ensures.works.work c.in-Err-fetch_page.ensures.calls
         u.ensures.touches u.ensures.keeps.same,
-    fails_read c.in-Err-load.why c.args.tag.now c.in-Ok.pin.frame c.frame-frame.result
-        c.args.seat.now.me.0 c.pin_block.new.seat.me.0 c.load.new.seat.me.0 u.new.seat.me.0
-        c.frame-frame.ensures c.pin_block.ensures.keeps.rises c.in-Err-load.ensures.unread
+    fails_read c.in-Err-fetch_page.why c.args.tag.now c.in-Ok.pin.frame c.frame-frame.result
+        c.args.seat.now.me.0 c.pin_block.new.seat.me.0 c.fetch_page.new.seat.me.0 u.new.seat.me.0
+        c.frame-frame.ensures c.pin_block.ensures.keeps.rises c.in-Err-fetch_page.ensures.unread
         u.ensures.did u.ensures.keeps.same,
   ),
 )
 
-pub returns-in-Ok-load-clause-turns : goal.returns-in-Ok-load-clause-turns
-returns-in-Ok-load-clause-turns g c = subst (TakesTurns c.pin_block.new.backend.lookups.hint
-    c.args.seat.now.me.0.turns) (sym (ap (λ (x : View). x.turns) c.load.ensures.works.work.kept))
+pub returns-in-Ok-fetch_page-clause-turns : goal.returns-in-Ok-fetch_page-clause-turns
+returns-in-Ok-fetch_page-clause-turns g c = subst (TakesTurns c.pin_block.new.backend.lookups.hint
+    c.args.seat.now.me.0.turns) (sym (ap (λ (x : View). x.turns) c.fetch_page.ensures.works.work.kept))
     c.pin_block.ensures.turns
 
-pub returns-in-Err-load-clause-turns : goal.returns-in-Err-load-clause-turns
-returns-in-Err-load-clause-turns g c = subst (TakesTurns c.pin_block.new.backend.lookups.hint
+pub returns-in-Err-fetch_page-clause-turns : goal.returns-in-Err-fetch_page-clause-turns
+returns-in-Err-fetch_page-clause-turns g c = subst (TakesTurns c.pin_block.new.backend.lookups.hint
     c.args.seat.now.me.0.turns) (sym (ap (λ (x : View). x.turns) c.give_back.ensures.keeps.same
-    ∙ ap (λ (x : View). x.turns) c.load.ensures.works.work.kept)) c.pin_block.ensures.turns
+    ∙ ap (λ (x : View). x.turns) c.fetch_page.ensures.works.work.kept)) c.pin_block.ensures.turns
 
-pub returns-in-Ok-load-clause-hints : goal.returns-in-Ok-load-clause-hints
-returns-in-Ok-load-clause-hints g c = subst (LeavesHint (frames_of c.args.table.now) c.args.tag.now
+pub returns-in-Ok-fetch_page-clause-hints : goal.returns-in-Ok-fetch_page-clause-hints
+returns-in-Ok-fetch_page-clause-hints g c = subst (LeavesHint (frames_of c.args.table.now) c.args.tag.now
     c.in-Ok.pin.frame c.pin_block.new.backend.lookups.hint c.args.seat.now.me.0.hints)
-    (sym (ap (λ (x : View). x.hints) c.load.ensures.works.work.kept)) c.in-Ok.ensures.hints
+    (sym (ap (λ (x : View). x.hints) c.fetch_page.ensures.works.work.kept)) c.in-Ok.ensures.hints
 
-pub returns-in-Err-load-clause-hints : goal.returns-in-Err-load-clause-hints
-returns-in-Err-load-clause-hints g c = (
+pub returns-in-Err-fetch_page-clause-hints : goal.returns-in-Err-fetch_page-clause-hints
+returns-in-Err-fetch_page-clause-hints g c = (
   c.in-Ok.pin.frame,
   subst (LeavesHint (frames_of c.args.table.now) c.args.tag.now c.in-Ok.pin.frame
       c.pin_block.new.backend.lookups.hint c.args.seat.now.me.0.hints)
       (sym (ap (λ (x : View). x.hints) c.give_back.ensures.keeps.same
-      ∙ ap (λ (x : View). x.hints) c.load.ensures.works.work.kept)) c.in-Ok.ensures.hints,
+      ∙ ap (λ (x : View). x.hints) c.fetch_page.ensures.works.work.kept)) c.in-Ok.ensures.hints,
 )
 
-pub returns-in-Err-load-clause-census : goal.returns-in-Err-load-clause-census
-returns-in-Err-load-clause-census g c = c.in-Ok.ensures.census
+pub returns-in-Err-fetch_page-clause-census : goal.returns-in-Err-fetch_page-clause-census
+returns-in-Err-fetch_page-clause-census g c = c.in-Ok.ensures.census
 
-pub returns-in-Ok-load-clause-keeps : goal.returns-in-Ok-load-clause-keeps
-returns-in-Ok-load-clause-keeps g c = let l = c.load.ensures in
-    keeps_loaded c.in-Ok.pin.frame c.frame-frame.result c.frame-frame.ensures
+pub returns-in-Ok-fetch_page-clause-keeps : goal.returns-in-Ok-fetch_page-clause-keeps
+returns-in-Ok-fetch_page-clause-keeps g c = let l = c.fetch_page.ensures in
+    keeps_fetched c.in-Ok.pin.frame c.frame-frame.result c.frame-frame.ensures
     c.pin_block.ensures.keeps l.works c.in-Ok.ensures.pinned.1 l.pinned
 
-pub returns-in-Err-load-clause-keeps : goal.returns-in-Err-load-clause-keeps
-returns-in-Err-load-clause-keeps g c = let l = c.load.ensures in keeps_on
-    (keeps_loaded c.in-Ok.pin.frame c.frame-frame.result c.frame-frame.ensures
+pub returns-in-Err-fetch_page-clause-keeps : goal.returns-in-Err-fetch_page-clause-keeps
+returns-in-Err-fetch_page-clause-keeps g c = let l = c.fetch_page.ensures in keeps_on
+    (keeps_fetched c.in-Ok.pin.frame c.frame-frame.result c.frame-frame.ensures
     c.pin_block.ensures.keeps l.works c.in-Ok.ensures.pinned.1 l.pinned)
     (outside_keeps c.give_back.ensures.keeps)

@@ -5,12 +5,12 @@ use Rattle.pin_core.specs.State.{link}
 use Rattle.frame_table.proofs.Rising.{rises_on, rises_touched}
 use Rattle.buffer_frames.specs.Rests.{LinksRestBeside}
 use Rattle.buffer_frames.specs.Working.{Works}
-use Rattle.buffer_frames.specs.declared.loading.LoadError.TheVariants.{ReadFault, Unsound}
+use Rattle.buffer_frames.specs.declared.fetching.FetchError.TheVariants.{ReadFault, Unsound}
 use Rattle.buffer_frames.proofs.Keeping.{beside_kept}
 use Rattle.buffer_frames.proofs.Unread.{ends_unread}
 use Rattle.buffer_frames.proofs.WorkSteps.{headless}
 use Rattle.buffer_frames.proofs.Works.{and_ended, and_looked, works_none, works_then}
-use Rattle.buffer_frames.proofs.loading.read_in.Goals as goal
+use Rattle.buffer_frames.proofs.fetching.read_in.Goals as goal
 
 pub returns-then-not-read_lane-clause-works : goal.returns-then-not-read_lane-clause-works
 returns-then-not-read_lane-clause-works g c = let e = c.end_io.ensures in

@@ -10,8 +10,8 @@ ghost use Rattle.pin_core.specs.State.{link};
 ghost use Rattle.table_rule.specs.Blocks.{has_block};
 ghost use Rattle.frame_table.specs.Seats.{frames_of, lanes_in, relations_of};
 ghost use Rattle.buffer_frames.specs.Rests.{LinksRestBeside, Stands};
-ghost use Rattle.buffer_frames.specs.Loading.{EndsUnread, LoadShows, loading_calls, met_lane_read};
-ghost use Rattle.buffer_frames.specs.Loading.{met_loading};
+ghost use Rattle.buffer_frames.specs.Fetching.{EndsUnread, FetchShows, fetch_calls, met_lane_read};
+ghost use Rattle.buffer_frames.specs.Fetching.{met_fetching};
 ghost use Rattle.buffer_frames.specs.Stages.{IsRead, IsReading, Pins};
 ghost use Rattle.buffer_frames.specs.Working.{Made, Works};
 
@@ -31,7 +31,7 @@ use thiserror::Error;
 
 /// Why a page didn't come.
 #[derive(Clone, Copy, PartialEq, Eq, Debug, Error)]
-pub enum LoadError {
+pub enum FetchError {
     /// The lane failed to read it.
     #[error("a page was not read")]
     ReadFault,
@@ -42,7 +42,7 @@ pub enum LoadError {
 
 /// How a page is in the frame that was pinned for its block.
 #[derive(Clone, Copy, PartialEq, Eq, Debug)]
-pub enum Loaded {
+pub enum FetchedPage {
     /// It was there already: no lane was read.
     Hit,
     /// It was read from its lane.
@@ -114,7 +114,7 @@ fn read_in<L: BlockLane, G: LogDevice, R: Wait>(
     right: IoRight,
     tag: Tag,
     page: &mut Page,
-) -> Result<Loaded, LoadError>
+) -> Result<FetchedPage, FetchError>
     requires stands { Stands table.now seat.old }
     requires others { LinksRestBeside right.frame _held.now seat.old.me.0 }
     requires inside { right.frame < frames_of table.now }
@@ -125,35 +125,35 @@ fn read_in<L: BlockLane, G: LogDevice, R: Wait>(
     ensures read { IsRead (packed_tag tag) (link seat.new.me.0 right.frame) }
     ensures seen { IfOk result (λ _. (link seat.new.me.0 right.frame).seen_valid ≡ true) }
     ensures calls { Made
-        (loading_calls (lane_number tag (lanes_in table.now)) (packed_tag tag) result) seat.old.me.0
+        (fetch_calls (lane_number tag (lanes_in table.now)) (packed_tag tag) result) seat.old.me.0
         seat.new.me.0 }
-    ensures met { seat.new.me.0.met ≡ met_loading result seat.old.me.0.met }
-    ensures shows { LoadShows L.contents table.now tag result }
+    ensures met { seat.new.me.0.met ≡ met_fetching result seat.old.me.0.met }
+    ensures shows { FetchShows L.contents table.now tag result }
     ensures unread { IfErr result
         (λ why. EndsUnread why tag right.frame seat.old.me.0 seat.new.me.0) }
 {
     let frame = right.frame();
     if !read_lane(table, rt, seat, frame, tag, page) {
         end_io(table, rt, seat, right, IoEnd::Bad);
-        return Err(LoadError::ReadFault);
+        return Err(FetchError::ReadFault);
     }
     if !page.is_sound() {
         // While the page that the lane gave is noted, a load shows that the block had it from the
         // start.
         table.look(seat, frame);
         end_io(table, rt, seat, right, IoEnd::Bad);
-        return Err(LoadError::Unsound);
+        return Err(FetchError::Unsound);
     }
     install_page(table, seat, frame, tag, page);
     end_io(table, rt, seat, right, IoEnd::ReadOk);
     // A load with BM_VALID shows that the block was sound from the start.
     table.look(seat, frame);
-    Ok(Loaded::Read)
+    Ok(FetchedPage::Read)
 }
 
 /// Reads a block into the frame that is pinned for it, unless the page is there already
 /// (`ReadBuffer_common`).
-pub fn load<L: BlockLane, G: LogDevice, R: Wait>(
+pub fn fetch_page<L: BlockLane, G: LogDevice, R: Wait>(
     table: &FrameTable<L, G>,
     rt: &R,
     seat: &mut Seat<Value<L, G>, View>,
@@ -161,7 +161,7 @@ pub fn load<L: BlockLane, G: LogDevice, R: Wait>(
     frame: u32,
     tag: &Tag,
     page: &mut Page,
-) -> Result<Loaded, LoadError>
+) -> Result<FetchedPage, FetchError>
     requires stands { Stands table.now seat.old }
     requires pinned { Pins (packed_tag tag.now) frame held.now seat.old.me.0 }
     requires inside { frame < frames_of table.now }
@@ -171,21 +171,21 @@ pub fn load<L: BlockLane, G: LogDevice, R: Wait>(
     ensures pinned { Pins (packed_tag tag.now) frame held.now seat.new.me.0 }
     ensures seen { IfOk result (λ _. (link seat.new.me.0 frame).seen_valid ≡ true) }
     ensures calls { Made
-        (loading_calls (lane_number tag.now (lanes_in table.now)) (packed_tag tag.now) result)
+        (fetch_calls (lane_number tag.now (lanes_in table.now)) (packed_tag tag.now) result)
         seat.old.me.0 seat.new.me.0 }
-    ensures met { seat.new.me.0.met ≡ met_loading result seat.old.me.0.met }
-    ensures shows { LoadShows L.contents table.now tag.now result }
+    ensures met { seat.new.me.0.met ≡ met_fetching result seat.old.me.0.met }
+    ensures shows { FetchShows L.contents table.now tag.now result }
     ensures unread { IfErr result
         (λ why. EndsUnread why tag.now frame seat.old.me.0 seat.new.me.0) }
 {
     if has(table.look(seat, frame), Flag::Valid) {
-        return Ok(Loaded::Hit);
+        return Ok(FetchedPage::Hit);
     }
     let Some(right) = start_io(table, rt, seat, frame, Direction::Input) else {
         // The page was read meanwhile. As above, a load shows that the block was sound from the
         // start.
         table.look(seat, frame);
-        return Ok(Loaded::Hit);
+        return Ok(FetchedPage::Hit);
     };
     read_in(table, rt, seat, held, right, *tag, page)
 }

@@ -7,7 +7,7 @@ use Rattle.frame_table.proofs.Told.{touches_on}
 use Rattle.buffer_frames.proofs.Links.{returned_read}
 use Rattle.buffer_frames.proofs.WorkSteps.{made_none}
 use Rattle.buffer_frames.proofs.Works.{and_changed, works_none}
-use Rattle.buffer_frames.proofs.loading.install_page.Goals as goal
+use Rattle.buffer_frames.proofs.fetching.install_page.Goals as goal
 
 pub returns-clause-works : goal.returns-clause-works
 returns-clause-works g c = let f = c.args.frame in let r = c.requires.reads in

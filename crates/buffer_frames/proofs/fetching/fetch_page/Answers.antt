@@ -12,7 +12,7 @@ use Rattle.buffer_frames.proofs.Links.{reading_begun}
 use Rattle.buffer_frames.proofs.Unread.{unread_after}
 use Rattle.buffer_frames.proofs.WorkSteps.{headless, no_io}
 use Rattle.buffer_frames.proofs.Works.{and_looked, and_step, works_none, works_then}
-use Rattle.buffer_frames.proofs.loading.load.Goals as goal
+use Rattle.buffer_frames.proofs.fetching.fetch_page.Goals as goal
 
 pub returns-then-has-clause-works : goal.returns-then-has-clause-works
 returns-then-has-clause-works g c = let k = c.look.ensures in
@@ -65,6 +65,10 @@ pub returns-in_default-clause-shows : goal.returns-in_default-clause-shows
 returns-in_default-clause-shows g c = let n = c.look-in_default.ensures in
     n.opening.valid c.args.tag.now (c.in_default.ensures.left.tag ∙ c.look.ensures.link.tag
     ∙ c.requires.pinned.remembered) (n.word.seen (c.in_default.ensures.seen refl))
+
+pub returns-in_default-clause-seen : goal.returns-in_default-clause-seen
+returns-in_default-clause-seen g c =
+    c.look-in_default.ensures.link.seen_valid (c.in_default.ensures.seen refl)
 
 pub read_in-requires-clause-stands : goal.read_in-requires-clause-stands
 read_in-requires-clause-stands g c = let k = c.look.ensures in let s = c.start_io.ensures in

@@ -17,10 +17,10 @@ use Rattle.frame_table.specs.declared.table.FrameTable.{FrameTable}
 use Rattle.frame_table.specs.Opened.{WasAtOpening, WasSoundAtOpening}
 use Rattle.frame_table.specs.Seats.{OnlyRises}
 use Rattle.cleanup_lock.specs.Waking.{Woken}
-use Rattle.buffer_frames.specs.declared.loading.LoadError.{LoadError}
-use Rattle.buffer_frames.specs.declared.loading.LoadError.TheVariants.{ReadFault, Unsound}
-use Rattle.buffer_frames.specs.declared.loading.Loaded.{Loaded}
-use Rattle.buffer_frames.specs.declared.loading.Loaded.TheVariants.{Hit, Read}
+use Rattle.buffer_frames.specs.declared.fetching.FetchError.{FetchError}
+use Rattle.buffer_frames.specs.declared.fetching.FetchError.TheVariants.{ReadFault, Unsound}
+use Rattle.buffer_frames.specs.declared.fetching.FetchedPage.{FetchedPage}
+use Rattle.buffer_frames.specs.declared.fetching.FetchedPage.TheVariants.{Hit, Read}
 use Rattle.buffer_frames.specs.Working.{EndsWork, met_read}
 
 -- the faults that were met by a read of a lane that was done, or wasn't
@@ -28,26 +28,26 @@ abbrev pub met_lane_read : Bool → FailedCalls → FailedCalls
 met_lane_read true m = m
 met_lane_read false m = met_read m
 
--- the calls of a load: one read of the lane q for the tag, or none if the page is there already
-abbrev pub loading_calls : ℕ → ℕ → Result Loaded LoadError → List DeviceCall
-loading_calls q tag (Ok Hit) = []
-loading_calls q tag (Ok Read) = LaneRead q tag true ∷ []
-loading_calls q tag (Err Unsound) = LaneRead q tag true ∷ []
-loading_calls q tag (Err ReadFault) = LaneRead q tag false ∷ []
+-- the calls of a fetch: one read of the lane q for the tag, or none if the page is there already
+abbrev pub fetch_calls : ℕ → ℕ → Result FetchedPage FetchError → List DeviceCall
+fetch_calls q tag (Ok Hit) = []
+fetch_calls q tag (Ok Read) = LaneRead q tag true ∷ []
+fetch_calls q tag (Err Unsound) = LaneRead q tag true ∷ []
+fetch_calls q tag (Err ReadFault) = LaneRead q tag false ∷ []
 
--- what a load answered of a page that was there already, or wasn't
-abbrev pub loaded_by : Bool → Loaded
-loaded_by true = Hit
-loaded_by false = Read
+-- what a fetch answers of a page that was there already, or wasn't
+abbrev pub fetched_by : Bool → FetchedPage
+fetched_by true = Hit
+fetched_by false = Read
 
 -- the faults that were met, by the reason, and by the answer
-abbrev pub met_unread : LoadError → FailedCalls → FailedCalls
+abbrev pub met_unread : FetchError → FailedCalls → FailedCalls
 met_unread Unsound m = m
 met_unread ReadFault m = met_read m
 
-abbrev pub met_loading : Result Loaded LoadError → FailedCalls → FailedCalls
-met_loading (Ok loaded) m = m
-met_loading (Err why) m = met_unread why m
+abbrev pub met_fetching : Result FetchedPage FetchError → FailedCalls → FailedCalls
+met_fetching (Ok fetched) m = m
+met_fetching (Err why) m = met_unread why m
 
 -- In the view the page is noted that a lane gave for the frame f, and isn't sound
 pub record NotesUnsound (f : ℕ) (v : View) : Type 0 where
@@ -57,7 +57,7 @@ pub record NotesUnsound (f : ℕ) (v : View) : Type 0 where
 
 -- A read of the tag's block into the frame f ended with an error, for this reason, as the last
 -- step. The state word that it stored has BM_TAG_VALID and BM_IO_ERROR, and not BM_VALID
-pub record EndsUnread (why : LoadError) (tag : Tag) (f : ℕ) (v w : View) : Type 0 where
+pub record EndsUnread (why : FetchError) (tag : Tag) (f : ℕ) (v w : View) : Type 0 where
   pub begun : View
   pub stored : StateWord
   pub since : OnlyRises v begun
@@ -70,7 +70,7 @@ pub record EndsUnread (why : LoadError) (tag : Tag) (f : ℕ) (v w : View) : Typ
 
 -- A read of the tag's block into the frame f ended with an error, and then the pin was given up,
 -- and nothing else was done: the frame keeps the tag
-pub record FailsRead (why : LoadError) (tag : Tag) (f : ℕ) (v w : View) : Type 0 where
+pub record FailsRead (why : FetchError) (tag : Tag) (f : ℕ) (v w : View) : Type 0 where
   pub ended : View
   pub unread : EndsUnread why tag f v ended
   pub gives_up : Woken f ended w
@@ -85,11 +85,11 @@ module _ {L G : Type 0} (contents : L → Option Pages) (t : FrameTable L G) whe
     pub was : WasAtOpening contents t tag page
 
   -- what it shows of the page that the block had then that its page didn't come, for this reason
-  abbrev pub UnreadShows : Tag → LoadError → Type 0
+  abbrev pub UnreadShows : Tag → FetchError → Type 0
   UnreadShows tag Unsound = WasUnsoundAtOpening tag
   UnreadShows tag ReadFault = Unit {0}
 
-  -- and what a load shows of it
-  abbrev pub LoadShows : Tag → Result Loaded LoadError → Type 0
-  LoadShows tag (Ok loaded) = WasSoundAtOpening contents t tag
-  LoadShows tag (Err why) = UnreadShows tag why
+  -- and what a fetch shows of it
+  abbrev pub FetchShows : Tag → Result FetchedPage FetchError → Type 0
+  FetchShows tag (Ok fetched) = WasSoundAtOpening contents t tag
+  FetchShows tag (Err why) = UnreadShows tag why

@@ -8,7 +8,7 @@ use Rattle.pin_core.specs.declared.view.View.{View}
 use Rattle.pin_core.specs.State.{lane_hold, link}
 use Rattle.table_rule.specs.LaneCalls.{lane_devices}
 use Rattle.frame_table.specs.Seats.{SameSeat}
-use Rattle.buffer_frames.specs.Loading.{met_lane_read}
+use Rattle.buffer_frames.specs.Fetching.{met_lane_read}
 use Rattle.buffer_frames.specs.Stages.{IsReading}
 use Rattle.buffer_frames.specs.Working.{Made}
 use Rattle.buffer_frames.proofs.Keeping.{stands_on}
@@ -19,8 +19,8 @@ use Rattle.buffer_frames.proofs.LaneTrips.{trip_met, trip_quiet, trip_works}
 use Rattle.buffer_frames.proofs.Latching.{may_take_lane}
 use Rattle.buffer_frames.proofs.Links.{given_noted, reading_noted}
 use Rattle.buffer_frames.proofs.Notes.{notes_read}
-use Rattle.buffer_frames.proofs.loading.read_lane.Given.{Over}
-use Rattle.buffer_frames.proofs.loading.read_lane.Goals as goal
+use Rattle.buffer_frames.proofs.fetching.read_lane.Given.{Over}
+use Rattle.buffer_frames.proofs.fetching.read_lane.Goals as goal
 
 pub take_turn-requires-clause-free : goal.take_turn-requires-clause-free
 take_turn-requires-clause-free g c = may_take_lane _ c.requires.stands.quiet
