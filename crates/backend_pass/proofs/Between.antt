@@ -19,7 +19,7 @@ use Rattle.buffer_frames.specs.Tokens.{HeldFrame, IsPinnedFor, Tokens, held_at, 
 use Rattle.buffer_frames.proofs.HeldLists.{less_others}
 use Rattle.backend_pass.specs.declared.manager.Manager.{Manager}
 use Rattle.backend_pass.specs.declared.pinned.Pinned.{Pinned}
-use Rattle.backend_pass.specs.Between.{AllReturn, CanGoBack, GivesOneBack, HasNoLock, HasOnly, HasToken, IsIdle, IsNumber, KeepsHeld, Returns}
+use Rattle.backend_pass.specs.Between.{AllReturn, CanGoBack, GivesOneBack, HasNoLock, HasOnlyToken, HasToken, IsIdlePass, IsNumber, KeepsHeld, Returns}
 use Rattle.backend_pass.specs.Locks.{ChangesLock, HasLock}
 use Rattle.backend_pass.specs.Managers.{AreAll, AreNewPasses, Belongs, IsNewPass, first_in}
 use Rattle.backend_pass.specs.Passes.{KeepsCallers, KeepsLocks, KeepsPass, PassOwn, PassState, SamePass}
@@ -92,22 +92,22 @@ module _ {L G : Type 0} (contents : L → Option Pages) (m : Manager L G) where
   new_unlocked n i p new f = ap (λ (v : View). (link v f).content) new.view
       ∙ ap (λ (l : Link). l.content) (link_new (frames_of m.table) 128 (lanes_in m.table) i (base_of m.table) f)
 
-  pub new_idle : (n i : ℕ) (p : PassState) → IsNewPass contents m n i p → IsIdle contents m p
+  pub new_idle : (n i : ℕ) (p : PassState) → IsNewPass contents m n i p → IsIdlePass contents m p
   new_idle n i p new = record { belongs = new.belongs; spent = new.tokens; unlocked = new_unlocked n i p new }
 
-  pub new_idle_each : (n : ℕ) (ps : List PassState) → AreNewPasses contents m n ps → All (IsIdle contents m) ps
+  pub new_idle_each : (n : ℕ) (ps : List PassState) → AreNewPasses contents m n ps → All (IsIdlePass contents m) ps
   new_idle_each n ps new i d below = let p = there_at ps i below in
-      subst (IsIdle contents m) (sym (standing_or ps i p.0 d p.1)) (new_idle n i p.0 (new.each i p.0 p.1))
+      subst (IsIdlePass contents m) (sym (standing_or ps i p.0 d p.1)) (new_idle n i p.0 (new.each i p.0 p.1))
 
   pub new_goes_back : (n i : ℕ) (p : PassState) → IsNewPass contents m n i p → CanGoBack contents m n i p
   new_goes_back n i p new = record { is = new_number n i p new; free = record { belongs = new.belongs; spent = new.tokens } }
 
   -- a pass that calls left idle
-  pub idle_kept : (p q : PassState) → IsIdle contents m p → Belongs contents m q → q.tokens ≡ p.tokens → KeepsLocks p q → IsIdle contents m q
+  pub idle_kept : (p q : PassState) → IsIdlePass contents m p → Belongs contents m q → q.tokens ≡ p.tokens → KeepsLocks p q → IsIdlePass contents m q
   idle_kept p q idle b tokens locks = record { belongs = b; spent = tokens ∙ idle.spent; unlocked = no_lock_kept p q locks idle.unlocked }
 
   -- a block is pinned
-  pub only_pinned : (tag : Tag) (pinned : Pinned) (p q : PassState) → IsIdle contents m p → pinned.tag ≡ tag → Belongs contents m q → IsPinnedFor tag pinned.frame q.tokens → tokens_less pinned.frame q.tokens ≡ p.tokens → KeepsLocks p q → HasOnly contents m Unlocked pinned q
+  pub only_pinned : (tag : Tag) (pinned : Pinned) (p q : PassState) → IsIdlePass contents m p → pinned.tag ≡ tag → Belongs contents m q → IsPinnedFor tag pinned.frame q.tokens → tokens_less pinned.frame q.tokens ≡ p.tokens → KeepsLocks p q → HasOnlyToken contents m Unlocked pinned q
   only_pinned tag pinned p q idle same b token back locks = record {
     belongs = b;
     token = subst (λ (t : Tag). IsPinnedFor t pinned.frame q.tokens) (sym same) token;
@@ -117,8 +117,8 @@ module _ {L G : Type 0} (contents : L → Option Pages) (m : Manager L G) where
   }
 
   -- the lock of its frame is taken, or released
-  pub only_relocked : {before : Content} (after : Content) (pinned given : Pinned) (p q : PassState) → HasOnly contents m before pinned p → given ≡ pinned → Belongs contents m q → q.tokens ≡ p.tokens → ChangesLock after pinned.frame p q → HasOnly contents m after given q
-  only_relocked after pinned given p q only same b tokens lock = subst (λ (x : Pinned). HasOnly contents m after x q) (sym same) record {
+  pub only_relocked : {before : Content} (after : Content) (pinned given : Pinned) (p q : PassState) → HasOnlyToken contents m before pinned p → given ≡ pinned → Belongs contents m q → q.tokens ≡ p.tokens → ChangesLock after pinned.frame p q → HasOnlyToken contents m after given q
+  only_relocked after pinned given p q only same b tokens lock = subst (λ (x : Pinned). HasOnlyToken contents m after x q) (sym same) record {
     belongs = b;
     token = subst (IsPinnedFor pinned.tag pinned.frame) (sym tokens) only.token;
     last = ap (tokens_less pinned.frame) tokens ∙ only.last;
@@ -127,7 +127,7 @@ module _ {L G : Type 0} (contents : L → Option Pages) (m : Manager L G) where
   }
 
   -- its page is read, or one is put
-  pub only_kept : (lock : Content) (pinned : Pinned) (p q : PassState) → HasOnly contents m lock pinned p → Belongs contents m q → q.tokens ≡ p.tokens → KeepsLocks p q → HasOnly contents m lock pinned q
+  pub only_kept : (lock : Content) (pinned : Pinned) (p q : PassState) → HasOnlyToken contents m lock pinned p → Belongs contents m q → q.tokens ≡ p.tokens → KeepsLocks p q → HasOnlyToken contents m lock pinned q
   only_kept lock pinned p q only b tokens locks = record {
     belongs = b;
     token = subst (IsPinnedFor pinned.tag pinned.frame) (sym tokens) only.token;
@@ -137,7 +137,7 @@ module _ {L G : Type 0} (contents : L → Option Pages) (m : Manager L G) where
   }
 
   -- the token is given back
-  pub idle_released : (pinned : Pinned) (p q : PassState) → HasOnly contents m Unlocked pinned p → Belongs contents m q → q.tokens ≡ tokens_less pinned.frame p.tokens → KeepsLocks p q → IsIdle contents m q
+  pub idle_released : (pinned : Pinned) (p q : PassState) → HasOnlyToken contents m Unlocked pinned p → Belongs contents m q → q.tokens ≡ tokens_less pinned.frame p.tokens → KeepsLocks p q → IsIdlePass contents m q
   idle_released pinned p q only b tokens locks = record {
     belongs = b;
     spent = tokens ∙ only.last;
@@ -150,7 +150,7 @@ module _ {L G : Type 0} (contents : L → Option Pages) (m : Manager L G) where
   returns_on p q r a b = record { same = pass_on p q r a.same b.same; idle = b.idle }
 
   -- a checkpoint by an idle pass
-  pub returns_kept : (p q : PassState) → IsIdle contents m p → Belongs contents m q → KeepsCallers p q → Returns contents m p q
+  pub returns_kept : (p q : PassState) → IsIdlePass contents m p → Belongs contents m q → KeepsCallers p q → Returns contents m p q
   returns_kept p q idle b k = record { same = k.keeps; idle = idle_kept p q idle b k.tokens k.locks }
 
   -- the pass at a place returned once more

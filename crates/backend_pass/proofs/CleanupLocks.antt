@@ -76,15 +76,15 @@ first_locks number f v u (again {u = m} before round) x locks =
     first_locks number f v m before round.looks.under.locked round.looks.under.locks
 
 -- a cleanup lock that was just taken: the frame isn't marked dirty under it
-pub unmarked_cleaned : (number f : ℕ) (v w : View) → GrantsCleanup number f v w
+pub none_unentered_cleaned : (number f : ℕ) (v w : View) → GrantsCleanup number f v w
     → (link v f).content ≡ Unlocked → Looked (exclusive_link (link v f)) (link w f)
     → HoldsNoUnentered (link w f)
-unmarked_cleaned number f v w g none a =
+none_unentered_cleaned number f v w g none a =
     let under = g.grants.under in
     let first = first_locks number f v g.tried g.waits under.locked under.locks in
     holds_unmarked (link w f) (a.dirtied ∙ (bare f v first.0 first.1 none).1)
 
-pub unmarked_tried : (f : ℕ) (v w : View) → GrantsTry f v w → (link v f).content ≡ Unlocked
+pub none_unentered_tried : (f : ℕ) (v w : View) → GrantsTry f v w → (link v f).content ≡ Unlocked
     → Looked (exclusive_link (link v f)) (link w f) → HoldsNoUnentered (link w f)
-unmarked_tried f v w g none a = holds_unmarked (link w f)
+none_unentered_tried f v w g none a = holds_unmarked (link w f)
     (a.dirtied ∙ (bare f v g.locked (locks_waiting exclude f v g.locked g.locks) none).1)

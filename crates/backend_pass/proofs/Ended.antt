@@ -153,9 +153,9 @@ unfolding total
 none_put [] none = refl
 none_put (p ∷ ps) none = omega (arith, writes-both p.view.calls (calls_of_passes ps), none 0 p refl, none_put ps (λ j q at. none (suc j) q at))
 
-unmarked_joined : (v : View) (ps : List PassState) → v.dirtied_or_synced ≡ false → ((j : ℕ) (p : PassState) → get_elem? ps j ≡ some p → p.view.dirtied_or_synced ≡ false) → (joined_views v ps).dirtied_or_synced ≡ false
-unmarked_joined v [] e all = e
-unmarked_joined v (x ∷ xs) e all = unmarked_joined (joined_view v x.view) xs (or_from v.dirtied_or_synced x.view.dirtied_or_synced e (all 0 x refl)) (λ j p at. all (suc j) p at)
+no_mark_joined : (v : View) (ps : List PassState) → v.dirtied_or_synced ≡ false → ((j : ℕ) (p : PassState) → get_elem? ps j ≡ some p → p.view.dirtied_or_synced ≡ false) → (joined_views v ps).dirtied_or_synced ≡ false
+no_mark_joined v [] e all = e
+no_mark_joined v (x ∷ xs) e all = no_mark_joined (joined_view v x.view) xs (or_from v.dirtied_or_synced x.view.dirtied_or_synced e (all 0 x refl)) (λ j p at. all (suc j) p at)
 
 no_items : {A : Type 0} (xs : List A) → length xs ≡ 0 → xs ≡ []
 no_items [] e = refl
@@ -281,12 +281,12 @@ module _ (s : State) (h : Laws s) (w : View) (there : get_elem? s.pool.core.view
       (sym (subst (λ (y : View). get_elem? y.unentered k ≡ some tag) e is))))
       (is_one i u at)
 
-  -- where w has no mark no write failed, and there was no output
-  quiet_where_unmarked : w.dirtied_or_synced ≡ false → AllQuiet s
-  quiet_where_unmarked e = h.marks (total-alone mark_weight s.pool.core.views 0 w there (λ j u n at. ap mark_weight (others j u n at)) ∙ ap flag_weight e)
+  -- if w has no mark, no write failed, and there was no output
+  quiet_without_mark : w.dirtied_or_synced ≡ false → AllQuiet s
+  quiet_without_mark e = h.marks (total-alone mark_weight s.pool.core.views 0 w there (λ j u n at. ap mark_weight (others j u n at)) ∙ ap flag_weight e)
 
-  pub unmarked : (ps : List PassState) → met_by_passes ps ≡ w.met → EachPass (λ p. p.view.had_output ≡ true → w.had_output ≡ true) ps → w.dirtied_or_synced ≡ false → NothingWritten s ps
-  unmarked ps met output e = let q = quiet_where_unmarked e in record {
+  pub nothing_written : (ps : List PassState) → met_by_passes ps ≡ w.met → EachPass (λ p. p.view.had_output ≡ true → w.had_output ≡ true) ps → w.dirtied_or_synced ≡ false → NothingWritten s ps
+  nothing_written ps met output e = let q = quiet_without_mark e in record {
     clean = q.frames;
     unfailed = q.blocks;
     met = ap (λ (m : FailedCalls). m.writes) met ∙ (q.views 0 w there).met;
@@ -333,7 +333,7 @@ module _ {L G : Type 0} where
     device = c.device;
     bytes = λ up. holds_bytes s h w c.first c.others (ap (λ (l : LogHold). l.appended) (j.log ∙ r.quiet.log)) (c.device.down ∙ up);
     torn = λ rests down. torn rests (λ up. down (sym c.device.down ∙ up));
-    unentered = unentered;
+    noted = pass_notes;
     history = subst (IsHistory s.known s.origin s.opened_sizes s.log) (j.calls ∙ ap (λ (u : View). u.calls ++ calls_of_passes (others_in ps)) (sym first)) (history s h w c.first c.others);
     each = each;
     reads_rose = λ more. reads_rose s h w c.first c.others (subst (λ (m : FailedCalls). 0 < m.reads) met more);
@@ -343,7 +343,7 @@ module _ {L G : Type 0} where
     writes_met = λ q inside more. subst (λ (m : FailedCalls). 0 < m.writes) (sym met) (writes_met s h w c.first c.others free quiet q inside more);
     logs_met = λ more. subst (λ (m : FailedCalls). 0 < m.logs) (sym met) (logs_met s h w c.first c.others free quiet more);
     failed_met = λ tag e. subst (λ (m : FailedCalls). 0 < m.writes) (sym met) (failed_met s h w c.first c.others free quiet tag e);
-    unmarked = λ none. unmarked s h w c.first c.others ps met output (no_mark none);
+    no_mark = λ none. nothing_written s h w c.first c.others ps met output (no_mark none);
     without_puts = λ none. without_puts s h w c.first c.others ps (no_write none) each;
     frames = took;
   }
@@ -403,8 +403,8 @@ module _ {L G : Type 0} where
           let o = other_there ps k r.0 r.2 at r.3 in (o.0, r.1, r.2, o.1, r.4))
           (at_both v.unentered (unentered_of_passes (others_in ps)) n tag e)
 
-      unentered : (tag : ℕ) → IsUnentered s tag → PassNotes ps tag
-      unentered tag is = let t = noted s h w c.first c.others tag is in
+      pass_notes : (tag : ℕ) → IsUnentered s tag → PassNotes ps tag
+      pass_notes tag is = let t = noted s h w c.first c.others tag is in
           noted_pass t.0 tag
           (subst (λ (l : List ℕ). get_elem? l t.0 ≡ some tag) j.unentered t.1)
 
@@ -415,7 +415,7 @@ module _ {L G : Type 0} where
           (first_or_other ps k i p at e)
 
       no_mark : ((i : ℕ) (p : PassState) → get_elem? ps i ≡ some p → p.view.dirtied_or_synced ≡ false) → w.dirtied_or_synced ≡ false
-      no_mark none = let f = first_there ps k at in ap (λ (x : View). x.dirtied_or_synced) is ∙ unmarked_joined v (others_in ps)
+      no_mark none = let f = first_there ps k at in ap (λ (x : View). x.dirtied_or_synced) is ∙ no_mark_joined v (others_in ps)
           (ap (λ (x : View). x.dirtied_or_synced) (sym (f.2 ∙ first)) ∙ none k f.0 f.1)
           (λ n p e. let t = other_there ps k n p at e in none t.0 p t.1)
 

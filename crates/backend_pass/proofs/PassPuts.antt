@@ -1,6 +1,6 @@
 -- A pass puts a page.
 use Rattle.std.proofs.Common.{◌≡◌, ◌<◌, ◌≤◌, ℕ, List, Option, Some, Result, Ok, Err, sym, ap, ◌∙◌}
-use Rattle.std.proofs.Common.{subst, true, false, arith}
+use Rattle.std.proofs.Common.{subst, true, false, arith, refl, slice_index_or}
 use Rattle.std.specs.Prelude.{IfErr, IfOk}
 use Rattle.block_tag.specs.declared.catalogue.RelEntry.{RelEntry}
 use Rattle.block_tag.specs.declared.tag.Tag.{Tag}
@@ -12,12 +12,16 @@ use Rattle.pin_core.specs.declared.view.Content.TheVariants.{Exclusive}
 use Rattle.pin_core.specs.declared.view.FailedCalls.{FailedCalls}
 use Rattle.pin_core.specs.declared.view.Link.{Link}
 use Rattle.pin_core.specs.declared.view.View.{View}
-use Rattle.pin_core.specs.State.{Page, link}
+use Rattle.pin_core.specs.State.{Page, idle, link}
+use Rattle.page_core.specs.Kinds.{mark_dirty}
 use Rattle.history_core.specs.Log.{image_record, IsFront}
 use Rattle.table_rule.specs.Blocks.{is_block}
 use Rattle.frame_table.specs.Opened.{WasSoundAtOpening}
-use Rattle.frame_table.specs.Content.{HoldsNoUnentered}
+use Rattle.frame_table.specs.Content.{HoldsNoUnentered, dirtied_link}
+use Rattle.frame_table.specs.FrameSteps.{Looks, again, still}
+use Rattle.frame_table.specs.Kinds.{pages}
 use Rattle.frame_table.specs.Seats.{base_of, frames_of, relations_of}
+use Rattle.frame_table.proofs.Told.{link_is, loads_link}
 use Rattle.frame_table.proofs.Unentered.{holds_entered}
 use Rattle.wal_flush.specs.declared.inserts.InsertError.{InsertError}
 use Rattle.wal_flush.specs.declared.inserts.InsertError.TheVariants.{LogFull, LogDown, LogFault}
@@ -31,7 +35,7 @@ use Rattle.backend_pass.specs.Managers.{Belongs}
 use Rattle.buffer_frames.specs.Outside.{shown_count}
 use Rattle.backend_pass.specs.Passes.{IsNumbered, IsShown, KeepsCalls, PassOwn, PassState}
 use Rattle.backend_pass.specs.Passes.{SameButTorn, own_of, shown_after_put, shown_unput}
-use Rattle.buffer_frames.specs.Puts.{IsDoneOrFull, PutAnswer, PutsAt, met_put}
+use Rattle.buffer_frames.specs.Puts.{IsDoneOrFull, PutAnswer, PutRefused, PutsAt, met_put}
 use Rattle.backend_pass.proofs.BlockReads.{shown_met}
 use Rattle.backend_pass.proofs.Flushed.{shown_logged}
 use Rattle.backend_pass.proofs.Fronts.{front_added, front_kept}
@@ -133,7 +137,36 @@ belongs_put contents m p q table census tokens front end b = record {
 }
 
 -- a put that is done leaves the frame entered, so no block is noted when its lock is given up
-pub entered_put : (l : Link) (r : Result ℕ InsertError) → IfOk r (λ _. l.entered ≡ true)
+pub none_unentered_put : (l : Link) (r : Result ℕ InsertError) → IfOk r (λ _. l.entered ≡ true)
     → IfOk r (λ _. HoldsNoUnentered l)
-entered_put l (Ok lsn) entered = holds_entered l entered
-entered_put l (Err why) entered = tt
+none_unentered_put l (Ok lsn) entered = holds_entered l entered
+none_unentered_put l (Err why) entered = tt
+
+-- loads of the state word leave what was entered under the lock
+entered_looked : (f : ℕ) (v w : View) → Looks f v w → (link w f).entered ≡ (link v f).entered
+entered_looked f v w still = refl
+entered_looked f v w (again {u = u} found before d) =
+    ap (λ (l : Link). l.entered) (loads_link f found u w d) ∙ entered_looked f v u before
+
+-- a put that is refused leaves the frame marked dirty, and entered if it was
+marked_unput : (relations : List RelEntry) (f : ℕ) (tag : Tag) (page : Page) (why : InsertError)
+    (v w : View) (a : PutRefused relations f tag page why v w)
+    → link w f ≡ dirtied_link (link a.marks.0 f)
+marked_unput relations f tag page why v w a =
+    ap (λ (ls : List Link). slice_index_or ls f idle) a.links
+    ∙ link_is (pages mark_dirty) f a.marks.1 a.marks.0 a.marked a.marks.3
+
+pub dirtied_unput : (relations : List RelEntry) (f : ℕ) (tag : Tag) (page : Page) (v w : View)
+    (r : Result ℕ InsertError) → PutAnswer relations f tag page v w r
+    → IfErr r (λ _. (link w f).dirtied ≡ true)
+dirtied_unput relations f tag page v w (Ok lsn) a = tt
+dirtied_unput relations f tag page v w (Err why) a =
+    ap (λ (l : Link). l.dirtied) (marked_unput relations f tag page why v w a)
+
+pub entered_unput : (relations : List RelEntry) (f : ℕ) (tag : Tag) (page : Page) (v w : View)
+    (r : Result ℕ InsertError) → PutAnswer relations f tag page v w r
+    → IfErr r (λ _. (link w f).entered ≡ (link v f).entered)
+entered_unput relations f tag page v w (Ok lsn) a = tt
+entered_unput relations f tag page v w (Err why) a =
+    ap (λ (l : Link). l.entered) (marked_unput relations f tag page why v w a)
+    ∙ entered_looked f v a.marks.0 a.marks.2

@@ -1,14 +1,18 @@
 -- A content lock is taken or given up, or a page is copied under it.
-use Rattle.std.proofs.Common.{◌≡◌, ℕ, false, Option, Some, None, Result, Ok, Err, refl, sym, ap, ◌∙◌, subst, List}
-use Rattle.std.specs.Prelude.{IfErr, IfOk}
+use Rattle.std.proofs.Common.{◌≡◌, ℕ, Bool, false, Option, Some, None, Result, Ok, Err, refl, sym, ap, ◌∙◌, subst}
+use Rattle.std.proofs.Common.{List, [], ◌∷◌, ◌++◌}
+use Rattle.std.specs.Prelude.{IfErr, IfOk, not, ◌&&◌, if◌then◌else◌}
 use Rattle.std.proofs.lemmas.Option.{none-some}
 use Rattle.pin_core.specs.declared.view.Content.{Content}
 use Rattle.pin_core.specs.declared.view.Content.TheVariants.{Unlocked}
 use Rattle.pin_core.specs.declared.view.Role.TheVariants.{HandedOut, Absent}
 use Rattle.pin_core.specs.declared.view.Link.{Link}
 use Rattle.pin_core.specs.declared.view.View.{View}
-use Rattle.pin_core.specs.State.{link}
-use Rattle.page_core.specs.Kinds.{exclude}
+use Rattle.pin_core.specs.State.{Frame, link}
+use Rattle.page_core.specs.Kinds.{exclude, unentered_after, unexclude}
+use Rattle.history_core.specs.Unentered.{HoldsUnentered}
+use Rattle.frame_table.specs.FrameSteps.{Did}
+use Rattle.frame_table.specs.Kinds.{pages}
 use Rattle.frame_table.specs.Content.{CanLock, HoldsNoUnentered, exclusive_link}
 use Rattle.frame_table.proofs.Unentered.{holds_unmarked}
 use Rattle.content_locks.specs.Locks.{LocksContent}
@@ -142,6 +146,25 @@ lock_given_up f a p q e k here = subst (λ (x : PassState). ChangesLock Unlocked
 pub given_up_from : (a p q : PassState) → a ≡ p → SameButUnentered a q → SameButUnentered p q
 given_up_from a p q e same = subst (λ (x : PassState). SameButUnentered x q) e same
 
+-- The block is noted if the frame was marked dirty under the lock and no entry made
+pub noted_given_up : (f was tag : ℕ) (v w : View) → Did (pages unexclude) f v w was
+    → (link v f).tag ≡ Some tag → HoldsUnentered (link v f)
+    → w.unentered ≡ v.unentered ++ tag ∷ []
+noted_given_up f was tag v w d pinned h =
+    ap (λ (x : View). x.unentered) d.after ∙ is
+    ∙ ap (λ (t : ℕ). v.unentered ++ t ∷ [])
+    ((d.laws.invariant.pool.core.grid.cells d.seat v f d.there d.inside).remembers tag pinned).1
+  where
+    fr : Frame
+    fr = d.state.pool.core.frame f
+
+    noted_if : Bool → List ℕ
+    noted_if b = if b then v.unentered ++ fr.tag ∷ [] else v.unentered
+
+    is : unentered_after unexclude fr (link v f) v.unentered ≡ v.unentered ++ fr.tag ∷ []
+    is = ap (λ (b : Bool). noted_if (b && not (link v f).entered)) h.dirtied
+        ∙ ap (λ (b : Bool). noted_if (not b)) h.unentered
+
 -- what a pinned frame that rests allows
 pub can_lock : (o : Option HeldFrame) (h : HeldFrame) (l : Link) → o ≡ Some h → l.content ≡ Unlocked → LinkRests o l → CanLock l
 can_lock o h l e unlocked r = record {
@@ -158,16 +181,16 @@ pub held_same : (t : Tokens) → AreHeld t t
 held_same t g h e = (h, e, refl)
 
 -- an exclusive lock that was just taken: the frame isn't marked dirty under it
-pub unmarked_locked : (f : ℕ) (v w : View) → LocksContent exclude f v w
+pub none_unentered_locked : (f : ℕ) (v w : View) → LocksContent exclude f v w
     → (link v f).content ≡ Unlocked → link w f ≡ exclusive_link (link v f)
     → HoldsNoUnentered (link w f)
-unmarked_locked f v w locks none e = holds_unmarked (link w f)
+none_unentered_locked f v w locks none e = holds_unmarked (link w f)
     (ap (λ (l : Link). l.dirtied) e ∙ (bare f v w locks none).1)
 
 -- and a link that has no other mark and no other entry under the lock
-pub unmarked_still : (l m : Link) → m.content ≡ l.content → m.dirtied ≡ l.dirtied
+pub none_unentered_still : (l m : Link) → m.content ≡ l.content → m.dirtied ≡ l.dirtied
     → m.entered ≡ l.entered → HoldsNoUnentered l → HoldsNoUnentered m
-unmarked_still l m content dirtied entered none h = none record {
+none_unentered_still l m content dirtied entered none h = none record {
   right = sym content ∙ h.right;
   dirtied = sym dirtied ∙ h.dirtied;
   unentered = sym entered ∙ h.unentered;

@@ -32,9 +32,9 @@ unentered_on p q r a b = record {
 }
 
 -- the same pass again if it noted none
-pub same_unnoted : (p q : PassState) → SameButUnentered p q
+pub same_unentered : (p q : PassState) → SameButUnentered p q
     → q.view.unentered ≡ p.view.unentered → SamePass p q
-same_unnoted p q s none = record {
+same_unentered p q s none = record {
   keeps = s.keeps;
   upto = s.upto;
   torn = s.torn;

@@ -20,7 +20,7 @@ pub record HasToken (pinned : Pinned) (p : PassState) : Type 0 where
   pub token : IsPinnedFor pinned.tag pinned.frame p.tokens
   pub unlocked : HasLock Unlocked pinned.frame p
 
--- It is the pass number i of a manager's `passes`, and has taken in none of the others
+-- The pass is number i of a manager's `passes`, and has taken in none of the others
 pub record IsNumber (passes i : ℕ) (p : PassState) : Type 0 where
   pub number : p.view.number ≡ i
   pub joined : p.view.joined ≡ 0
@@ -36,49 +36,49 @@ module _ {L G : Type 0} (contents : L → Option Pages) (m : Manager L G) where
     pub belongs : Belongs contents m p
     pub spent : p.tokens ≡ no_tokens
 
-  -- It is the manager's, and has no content lock
+  -- The pass is the manager's, and has no content lock
   pub record IsUnlocked (p : PassState) : Type 0 where
     pub belongs : Belongs contents m p
     pub unlocked : HasNoLock p
 
-  -- It is the manager's, and has neither a token nor a content lock
-  pub record IsIdle (p : PassState) : Type 0 where
+  -- The pass is the manager's, and has neither a token nor a content lock
+  pub record IsIdlePass (p : PassState) : Type 0 where
     pub belongs : Belongs contents m p
     pub spent : p.tokens ≡ no_tokens
     pub unlocked : HasNoLock p
 
-  -- It is the pass number i of the manager's `passes`, and has no token, so that it can be given
-  -- back with the others
+  -- The pass is number i of the manager's `passes`, and has no token, so that it can be given back
+  -- with the others
   pub record CanGoBack (passes i : ℕ) (p : PassState) : Type 0 where
     pub is : IsNumber passes i p
     pub free : HasNoTokens p
 
-  -- It has this token alone, this content lock of its frame, and no other content lock
-  pub record HasOnly (lock : Content) (pinned : Pinned) (p : PassState) : Type 0 where
+  -- The pass has this token alone, this content lock of its frame, and no other content lock
+  pub record HasOnlyToken (lock : Content) (pinned : Pinned) (p : PassState) : Type 0 where
     pub belongs : Belongs contents m p
     pub token : IsPinnedFor pinned.tag pinned.frame p.tokens
     pub last : tokens_less pinned.frame p.tokens ≡ no_tokens
     pub locked : HasLock lock pinned.frame p
     pub others : (f : ℕ) → f ≢ pinned.frame → HasLock Unlocked f p
 
-  -- Calls left it the same pass, and idle again
+  -- Calls left the pass the same, and idle again
   pub record Returns (p q : PassState) : Type 0 where
     pub same : KeepsPass p q
-    pub idle : IsIdle q
+    pub idle : IsIdlePass q
 
-  -- So it is of each pass
+  -- Calls left each pass of a list the same, and idle again
   abbrev pub AllReturn : List PassState → List PassState → Type 0
   AllReturn ps qs = (i : ℕ) (d : PassState) → i < length ps
       → Returns (slice_index_or ps i d) (slice_index_or qs i d)
 
-  -- Calls left it the same pass, with the tokens and the content locks that it had
+  -- Calls left the pass the same, with the tokens and the content locks that it had
   pub record KeepsHeld (p q : PassState) : Type 0 where
     pub belongs : Belongs contents m q
     pub same : SamePass p q
     pub tokens : q.tokens ≡ p.tokens
     pub locks : KeepsLocks p q
 
-  -- Calls left it the same pass, with all its tokens but one of the frame f, and with its content
+  -- Calls left the pass the same, with all its tokens but one of the frame f, and with its content
   -- locks
   pub record GivesOneBack (f : ℕ) (p q : PassState) : Type 0 where
     pub belongs : Belongs contents m q

@@ -36,29 +36,29 @@ calls_of_passes (p ∷ ps) = p.view.calls ++ calls_of_passes ps
 abbrev pub calls_in_order : List PassState → List Call
 calls_in_order ps = (first_in ps).calls ++ calls_of_passes (others_in ps)
 
--- the records that they failed to append, one pass after the other
+-- the records that passes failed to append, one pass after the other
 abbrev pub torn_of_passes : List PassState → List TornRecord
 torn_of_passes [] = []
 torn_of_passes (p ∷ ps) = p.view.torn ++ torn_of_passes ps
 
--- One of them failed to append the record of the change
+-- One of the passes failed to append the record of the change
 abbrev pub PassTore : List PassState → Change → Type 0
 PassTore ps c =
     (i k : ℕ) × (p : PassState) × (x : TornRecord) × (get_elem? ps i ≡ some p)
     × (get_elem? p.view.torn k ≡ some x) × IsOfPage c x.tag x.page
 
--- the blocks that they noted as unentered, one pass after the other
+-- the blocks that passes noted as unentered, one pass after the other
 abbrev pub unentered_of_passes : List PassState → List ℕ
 unentered_of_passes [] = []
 unentered_of_passes (p ∷ ps) = p.view.unentered ++ unentered_of_passes ps
 
--- One of them noted the block as unentered
+-- One of the passes noted the block as unentered
 abbrev pub PassNotes : List PassState → ℕ → Type 0
 PassNotes ps tag =
     (i k : ℕ) × (p : PassState) × (get_elem? ps i ≡ some p)
     × (get_elem? p.view.unentered k ≡ some tag)
 
--- the faults that they met, in all
+-- the faults that passes met, in all
 abbrev pub met_by_passes : List PassState → FailedCalls
 met_by_passes [] = record { reads = 0; writes = 0; logs = 0 }
 met_by_passes (p ∷ ps) = sum_of_met p.view.met (met_by_passes ps)
@@ -150,7 +150,8 @@ module _ {L G : Type 0} where
     pub counted : length lanes ≡ o.config.lanes
     pub lane : (q : ℕ) (l : L) → get_elem? lanes q ≡ some l
         → IsLane d o.catalog.value state.lanes q (lane_opened d o q) l (state.lane q)
-    -- if all that the lanes held as they were opened was their own, so is all that they hold now
+    -- if each lane whose contents were known as it was opened held blocks of its own alone, so does
+    -- each whose contents are known now
     pub theirs : HoldTheirs (map d.contents o.lanes.value.items)
         → HoldTheirs (map d.contents lanes)
     -- if a block isn't in a lane's list of unsynced blocks, the lane was synced after the last of
@@ -168,7 +169,7 @@ module _ {L G : Type 0} where
     pub torn : (some : laws.rest.behind.rest ≢ []) → mark ≢ None
         → PassTore ps (laws.rest.behind.begins some).entry.change
     -- a block that a backend noted as unentered is one that one of the passes noted
-    pub unentered : (tag : ℕ) → IsUnentered state tag → PassNotes ps tag
+    pub noted : (tag : ℕ) → IsUnentered state tag → PassNotes ps tag
     pub history : IsHistory state.known state.origin state.opened_sizes state.log
         (calls_in_order ps)
     pub each : EachPass (ClosesPass state) ps
@@ -189,7 +190,7 @@ module _ {L G : Type 0} where
     pub logs_met : state.log_faults < state.device.faults → 0 < (met_by_passes ps).logs
     -- if a block's last write failed, a fault of writing was met
     pub failed_met : (tag : ℕ) → failed state tag ≡ true → 0 < (met_by_passes ps).writes
-    pub unmarked : EachPass HasNoMark ps → NothingWritten state ps
+    pub no_mark : EachPass HasNoMark ps → NothingWritten state ps
     pub without_puts : EachPass PutNothing ps → NothingPut state ps
     -- the passes took each frame from the free list once, and once more for each push, but for
     -- those that it still had

@@ -57,7 +57,7 @@ impl Pass {
         ensures token { IfOk result (λ taken. taken.pinned ≡ pinned) }
         ensures lock { IfOk result
             (λ _. ChangesLock lock.Exclusive pinned.frame self.old self.new) }
-        ensures unmarked { IfOk result
+        ensures none_unentered { IfOk result
             (λ _. HoldsNoUnentered (link self.new.view pinned.frame)) }
         ensures granted { IfOk result
             (λ _. GrantsCleanup self.old.view.number pinned.frame self.old.view self.new.view) }
@@ -103,7 +103,7 @@ impl Pass {
         ensures token { IfOk result (λ taken. taken.pinned ≡ pinned) }
         ensures lock { IfOk result
             (λ _. ChangesLock lock.Exclusive pinned.frame self.old self.new) }
-        ensures unmarked { IfOk result
+        ensures none_unentered { IfOk result
             (λ _. HoldsNoUnentered (link self.new.view pinned.frame)) }
         ensures granted { IfOk result (λ _. GrantsTry pinned.frame self.old.view self.new.view) }
         ensures back { IfErr result (λ refused. refused.pinned ≡ pinned) }

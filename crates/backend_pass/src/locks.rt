@@ -16,10 +16,12 @@ use segment_store::BlockLane;
 use std::sync::Wait;
 
 impl Pass {
-    ghost use Rattle.std.specs.Prelude.{◌≡◌, ◌≢◌, ℕ, IfErr, IfOk};
+    ghost use Rattle.std.specs.Prelude.{◌≡◌, ◌≢◌, ◌++◌, ◌∷◌, [], ℕ, IfErr, IfOk};
+    ghost use Rattle.block_tag.specs.Names.{packed_tag};
     ghost use Rattle.pin_core.specs.declared.view.Content.TheVariants as lock;
     ghost use Rattle.pin_core.specs.State.{link};
     ghost use Rattle.page_core.specs.Kinds as kinds;
+    ghost use Rattle.history_core.specs.Unentered.{HoldsUnentered};
     ghost use Rattle.frame_table.specs.Content.{HoldsNoUnentered};
     ghost use Rattle.frame_table.specs.FrameSteps.{Did};
     ghost use Rattle.frame_table.specs.Kinds.{pages};
@@ -80,7 +82,7 @@ impl Pass {
         ensures devices { KeepsDevices self.old self.new }
         ensures token { result.pinned ≡ pinned }
         ensures lock { ChangesLock lock.Exclusive pinned.frame self.old self.new }
-        ensures unmarked { HoldsNoUnentered (link self.new.view pinned.frame) }
+        ensures none_unentered { HoldsNoUnentered (link self.new.view pinned.frame) }
         ensures did { LocksContent kinds.exclude pinned.frame self.old.view self.new.view }
     {
         let mut seat = take_seat::<L, G>(&mut self.seat);
@@ -147,7 +149,7 @@ impl Pass {
         ensures token { IfOk result (λ taken. taken.pinned ≡ pinned) }
         ensures lock { IfOk result
             (λ _. ChangesLock lock.Exclusive pinned.frame self.old self.new) }
-        ensures unmarked { IfOk result
+        ensures none_unentered { IfOk result
             (λ _. HoldsNoUnentered (link self.new.view pinned.frame)) }
         ensures did { IfOk result
             (λ _. LocksAtOnce kinds.exclude pinned.frame self.old.view self.new.view) }
@@ -196,8 +198,8 @@ impl Pass {
         pinned
     }
 
-    /// Releases the exclusive lock and returns the token. If the last put under it was refused, and
-    /// none before it was done, the pass notes the block as unentered.
+    /// Releases the exclusive lock and returns the token. If puts were made under it and none was
+    /// done, the pass notes the block as unentered.
     pub fn unexclusive<L: BlockLane, G: LogDevice>(
         &mut self,
         manager: &Manager<L, G>,
@@ -208,7 +210,13 @@ impl Pass {
         requires locked { HasLock lock.Exclusive exclusive.pinned.frame self.old }
         ensures belongs { Belongs L.contents manager.now self.new }
         ensures same { SameButUnentered self.old self.new }
-        ensures unnoted { HoldsNoUnentered (link self.old.view exclusive.pinned.frame)
+
+        // The block is noted as unentered exactly if the frame was marked dirty under the lock and
+        // no entry made.
+        ensures noted { HoldsUnentered (link self.old.view exclusive.pinned.frame)
+            → self.new.view.unentered
+            ≡ self.old.view.unentered ++ packed_tag exclusive.pinned.tag ∷ [] }
+        ensures unentered { HoldsNoUnentered (link self.old.view exclusive.pinned.frame)
             → self.new.view.unentered ≡ self.old.view.unentered }
         ensures lookups { KeepsLookups self.old self.new }
         ensures tokens { self.new.tokens ≡ self.old.tokens }

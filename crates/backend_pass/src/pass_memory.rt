@@ -15,7 +15,7 @@ pub(crate) struct PassMemory {
     pub(crate) marked: Vec<MarkedFrame>,
     pub(crate) page: Page,
     ghost empty: { held ≡ [] },
-    ghost unmarked: { marked.items ≡ [] },
+    ghost no_frame_marked: { marked.items ≡ [] },
     ghost room: { census.frames ≤ vec_capacity marked },
 }
 

@@ -85,10 +85,19 @@ impl Pass {
         ensures torn { AddsTorn (packed_tag exclusive.old.pinned.tag) page.now result
             self.old.view.torn self.new.view.torn }
 
-        // If it is done, the block isn't noted as unentered when the lock is released.
         ensures unentered { self.new.view.unentered ≡ self.old.view.unentered }
-        ensures entered { IfOk result
+
+        // If it is done, the block isn't noted as unentered when the lock is released.
+        ensures none_unentered { IfOk result
             (λ _. HoldsNoUnentered (link self.new.view exclusive.old.pinned.frame)) }
+
+        // If it is refused, the frame is marked dirty under the lock, and has an entry made under
+        // it only if it had one before.
+        ensures dirtied { IfErr result
+            (λ _. (link self.new.view exclusive.old.pinned.frame).dirtied ≡ true) }
+        ensures entered { IfErr result
+            (λ _. (link self.new.view exclusive.old.pinned.frame).entered
+            ≡ (link self.old.view exclusive.old.pinned.frame).entered) }
         ensures refused { IfErr result (λ _. KeepsCalls self.old self.new) }
         ensures place_loads { self.new.view.place_loads ≡ self.old.view.place_loads }
 

@@ -50,7 +50,7 @@ impl Pass {
             self.old.view self.new.view }
         ensures did { ReadsUnder (link self.old.view pinned.now.frame).content pinned.now.frame
             page.new result self.old.view self.new.view }
-        ensures unmarked { HoldsNoUnentered (link self.old.view pinned.now.frame)
+        ensures none_unentered { HoldsNoUnentered (link self.old.view pinned.now.frame)
             → HoldsNoUnentered (link self.new.view pinned.now.frame) }
     {
         let frame = pinned.frame;
@@ -155,7 +155,7 @@ impl Pass {
             → link self.new.view g ≡ link self.old.view g }
         ensures reads { ReadsPage L.contents manager.now.table exclusive.now.pinned.tag page.new
             result self.old.view self.new.view }
-        ensures unmarked { HoldsNoUnentered (link self.old.view exclusive.now.pinned.frame)
+        ensures none_unentered { HoldsNoUnentered (link self.old.view exclusive.now.pinned.frame)
             → HoldsNoUnentered (link self.new.view exclusive.now.pinned.frame) }
         ensures did { ReadsUnder lock.Exclusive exclusive.now.pinned.frame page.new result
             self.old.view self.new.view }

@@ -11,7 +11,7 @@ use Rattle.backend_pass.specs.Passes.{KeepsCallers, KeepsLocks, KeepsPass, PassS
 use Rattle.grid.specs.Shape.{total}
 use Rattle.backend_pass.proofs.Between.{idle_kept, new_idle, new_number, number_kept, only_kept, only_relocked}
 use Rattle.backend_pass.proofs.Joining.{first_here, first_past}
-use Rattle.manager_bench.specs.Bench.{HoldsOnly, IsFree}
+use Rattle.manager_bench.specs.Bench.{IsHolding, IsFree}
 
 -- a list of three, from its end
 length_three : (xs : List PassState) (a b c : PassState) → length (((xs ++ a ∷ []) ++ b ∷ []) ++ c ∷ []) ≡ length xs + 3
@@ -60,17 +60,17 @@ module _ {L G : Type 0} (contents : L → Option Pages) (m : Manager L G) where
   free_on i p q free b k = record { is = number_kept 3 i p q free.is k.keeps; idle = idle_kept contents m p q free.idle b k.tokens k.locks }
 
   -- a call that keeps tokens and locks
-  holds_kept : (lock : Content) (pinned : Pinned) (i : ℕ) (p q : PassState) → HoldsOnly contents lock pinned m i p → Belongs contents m q → KeepsPass p q → q.tokens ≡ p.tokens → KeepsLocks p q → HoldsOnly contents lock pinned m i q
+  holds_kept : (lock : Content) (pinned : Pinned) (i : ℕ) (p q : PassState) → IsHolding contents lock pinned m i p → Belongs contents m q → KeepsPass p q → q.tokens ≡ p.tokens → KeepsLocks p q → IsHolding contents lock pinned m i q
   holds_kept lock pinned i p q o b k tokens locks = record { is = number_kept 3 i p q o.is k; only = only_kept contents m lock pinned p q o.only b tokens locks }
 
-  pub holds_on : (lock : Content) (pinned : Pinned) (i : ℕ) (p q : PassState) → HoldsOnly contents lock pinned m i p → Belongs contents m q → SamePass p q → q.tokens ≡ p.tokens → KeepsLocks p q → HoldsOnly contents lock pinned m i q
+  pub holds_on : (lock : Content) (pinned : Pinned) (i : ℕ) (p q : PassState) → IsHolding contents lock pinned m i p → Belongs contents m q → SamePass p q → q.tokens ≡ p.tokens → KeepsLocks p q → IsHolding contents lock pinned m i q
   holds_on lock pinned i p q o b s tokens locks = holds_kept lock pinned i p q o b s.keeps tokens locks
 
   -- a put
-  pub holds_put : (lock : Content) (pinned : Pinned) (i : ℕ) (p q : PassState) → HoldsOnly contents lock pinned m i p → Belongs contents m q → SameButTorn p q → q.tokens ≡ p.tokens → KeepsLocks p q → HoldsOnly contents lock pinned m i q
+  pub holds_put : (lock : Content) (pinned : Pinned) (i : ℕ) (p q : PassState) → IsHolding contents lock pinned m i p → Belongs contents m q → SameButTorn p q → q.tokens ≡ p.tokens → KeepsLocks p q → IsHolding contents lock pinned m i q
   holds_put lock pinned i p q o b s tokens locks = holds_kept lock pinned i p q o b s.keeps tokens locks
 
   -- a call that changes the lock of the frame alone
   pub holds_relocked : (lock : Content) (pinned given : Pinned) (i : ℕ) (p q : PassState) {before : Content}
-      → HoldsOnly contents before pinned m i p → given ≡ pinned → Belongs contents m q → KeepsPass p q → q.tokens ≡ p.tokens → ChangesLock lock pinned.frame p q → HoldsOnly contents lock given m i q
+      → IsHolding contents before pinned m i p → given ≡ pinned → Belongs contents m q → KeepsPass p q → q.tokens ≡ p.tokens → ChangesLock lock pinned.frame p q → IsHolding contents lock given m i q
   holds_relocked lock pinned given i p q o e b s tokens changes = record { is = number_kept 3 i p q o.is s; only = only_relocked contents m lock pinned given p q o.only e b tokens changes }

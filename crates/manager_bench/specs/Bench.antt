@@ -4,20 +4,20 @@ use Rattle.segment_store.specs.Contents.{Pages}
 use Rattle.pin_core.specs.declared.view.Content.{Content}
 use Rattle.backend_pass.specs.declared.manager.Manager.{Manager}
 use Rattle.backend_pass.specs.declared.pinned.Pinned.{Pinned}
-use Rattle.backend_pass.specs.Between.{HasOnly, IsIdle, IsNumber}
+use Rattle.backend_pass.specs.Between.{HasOnlyToken, IsIdlePass, IsNumber}
 use Rattle.backend_pass.specs.Passes.{PassState}
 
 module _ {L G : Type 0} (contents : L → Option Pages) where
   -- The pass is number i of the manager's three, and idle
   pub record IsFree (m : Manager L G) (i : ℕ) (p : PassState) : Type 0 where
     pub is : IsNumber 3 i p
-    pub idle : IsIdle contents m p
+    pub idle : IsIdlePass contents m p
 
   -- The pass is number i of the three, and has this token alone, with this content lock
-  pub record HoldsOnly (lock : Content) (pinned : Pinned) (m : Manager L G) (i : ℕ)
+  pub record IsHolding (lock : Content) (pinned : Pinned) (m : Manager L G) (i : ℕ)
       (p : PassState) : Type 0 where
     pub is : IsNumber 3 i p
-    pub only : HasOnly contents m lock pinned p
+    pub only : HasOnlyToken contents m lock pinned p
 
 module _ {L G : Type 0} where
   -- The pass is free in a manager over lanes that don't tell what they hold

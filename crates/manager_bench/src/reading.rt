@@ -1,7 +1,7 @@
 //! Blocks that are read.
 ghost use Rattle.std.specs.Prelude.{IfErr, IfOk};
 ghost use Rattle.pin_core.specs.declared.view.Content.TheVariants.{Unlocked};
-ghost use Rattle.manager_bench.specs.Bench.{HoldsOnly, IsFree};
+ghost use Rattle.manager_bench.specs.Bench.{IsHolding, IsFree};
 
 use access_rings::Ring;
 use backend_pass::{Manager, Pass, Pinned, ReadError};
@@ -29,7 +29,7 @@ pub fn pin<L: BlockLane, G: LogDevice, R: Wait>(
 ) -> Result<Pinned, ReadError>
     requires { IsFree L.contents manager.now _number pass.old }
     ensures pinned { IfOk result (λ pinned.
-        HoldsOnly L.contents Unlocked pinned manager.now _number pass.new) }
+        IsHolding L.contents Unlocked pinned manager.now _number pass.new) }
     ensures refused { IfErr result (λ _. IsFree L.contents manager.now _number pass.new) }
 {
     pass.read_buffer(manager, rt, tag, ring)
@@ -43,7 +43,7 @@ pub fn unpin<L: BlockLane, G: LogDevice, R: Wait>(
     _number: u32,
     pinned: Pinned,
 )
-    requires { HoldsOnly L.contents Unlocked pinned manager.now _number pass.old }
+    requires { IsHolding L.contents Unlocked pinned manager.now _number pass.old }
     ensures { IsFree L.contents manager.now _number pass.new }
 {
     pass.release(manager, rt, pinned);

@@ -1,6 +1,6 @@
 //! Content locks that are refused.
 ghost use Rattle.pin_core.specs.declared.view.Content.TheVariants.{Unlocked};
-ghost use Rattle.manager_bench.specs.Bench.{HoldsOnly, IsFree};
+ghost use Rattle.manager_bench.specs.Bench.{IsHolding, IsFree};
 
 use backend_pass::{Manager, Pass, Pinned, Refused, TryLock};
 use block_tag::Tag;
@@ -23,8 +23,8 @@ fn share_now<L: BlockLane, G: LogDevice>(
     _number: u32,
     pinned: Pinned,
 ) -> (Pinned, Option<TryLock>)
-    requires { HoldsOnly L.contents Unlocked pinned manager.now _number pass.old }
-    ensures { HoldsOnly L.contents Unlocked result.0 manager.now _number pass.new }
+    requires { IsHolding L.contents Unlocked pinned manager.now _number pass.old }
+    ensures { IsHolding L.contents Unlocked result.0 manager.now _number pass.new }
 {
     match pass.try_share(manager, pinned) {
         Ok(shared) => (pass.unshare(manager, shared), None),
@@ -39,8 +39,8 @@ fn exclude_now<L: BlockLane, G: LogDevice>(
     _number: u32,
     pinned: Pinned,
 ) -> (Pinned, Option<TryLock>)
-    requires { HoldsOnly L.contents Unlocked pinned manager.now _number pass.old }
-    ensures { HoldsOnly L.contents Unlocked result.0 manager.now _number pass.new }
+    requires { IsHolding L.contents Unlocked pinned manager.now _number pass.old }
+    ensures { IsHolding L.contents Unlocked result.0 manager.now _number pass.new }
 {
     match pass.try_exclusive(manager, pinned) {
         Ok(exclusive) => (pass.unexclusive(manager, exclusive), None),

@@ -74,7 +74,7 @@ module _ {L G : Type 0} (d : Devices L G) (m : Manager L G) (fork : Fork) (block
   more = several
 
   written : NothingWritten closed.state qs
-  written = closed.unmarked (backends.none_marked d.contents m fork (length ps) ps qs new more parts last)
+  written = closed.no_mark (backends.none_marked d.contents m fork (length ps) ps qs new more parts last)
 
   nothing_put : NothingPut closed.state qs
   nothing_put = closed.without_puts (backends.nothing_put d.contents m fork (length ps) ps qs new more parts last)

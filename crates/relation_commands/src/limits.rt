@@ -1,5 +1,6 @@
 //! The log positions of a rewrite: where its log begins, and the last one.
 ghost use Rattle.std.specs.Prelude.{◌≡◌, ◌≤◌, ◌*◌, ◌+◌, IfErr, IfOk, Some};
+ghost use Rattle.history_core.specs.Log.{record_size};
 ghost use Rattle.history_core.specs.State.{last_position};
 ghost use Rattle.relation_commands.specs.Limits.{PassesLimit, rounded_up};
 ghost use Rattle.relation_commands.specs.Status.{position_limit_text};
@@ -48,7 +49,7 @@ impl fmt::Display for PositionLimit {
 /// could pass the last position.
 pub(crate) fn log_base(largest: Lsn, blocks: u32) -> Result<Lsn, PositionLimit>
     ensures base { IfOk result
-        (λ base. (base ≡ rounded_up largest) × (base + 8224 * blocks ≤ last_position)) }
+        (λ base. (base ≡ rounded_up largest) × (base + record_size * blocks ≤ last_position)) }
     ensures over { IfErr result
         (λ limit. (limit ≡ PositionLimit.OfPages largest blocks) × PassesLimit largest blocks) }
 {

@@ -226,8 +226,8 @@ fn put_totals<O: Sink>(
     out: &mut O,
 ) -> Result<(), RewriteError>
     ensures text { base + record_size * totals.now.changed < 2 ^ 64
-        → Puts (rewrite_lines totals.now base (base + 8224 * totals.now.changed)) (O.bytes out.old)
-        (O.bytes out.new) result }
+        → Puts (rewrite_lines totals.now base (base + record_size * totals.now.changed))
+        (O.bytes out.old) (O.bytes out.new) result }
     ensures later { O.faults out.old ≤ O.faults out.new }
     ensures quiet { OnOk result (O.faults out.new ≡ O.faults out.old) }
     ensures cause { IfErr result (IsPutRefusal (O.faults out.old) (O.faults out.new)) }

@@ -10,7 +10,7 @@ use Rattle.backend_pass.specs.Locks.{HasLock}
 use Rattle.backend_pass.specs.Managers.{Belongs}
 use Rattle.backend_pass.specs.Passes.{IsNumbered, PassState, view_in}
 use Rattle.backend_pass.proofs.Releasing.{belongs_touched, numbered_self, same_touched, shown_self}
-use Rattle.backend_pass.proofs.Relocking.{Relocks, beside_lock, changes_lock, held_same, rests_relocked, unmarked_locked}
+use Rattle.backend_pass.proofs.Relocking.{Relocks, beside_lock, changes_lock, held_same, rests_relocked, none_unentered_locked}
 use Rattle.backend_pass.proofs.Seated.{moved, moved_one, same_from}
 use Rattle.backend_pass.proofs.pass.Pass.exclusive.Given.{Over}
 use Rattle.backend_pass.proofs.pass.Pass.exclusive.Goals as goal
@@ -53,8 +53,8 @@ returns-clause-same g c =
 pub returns-clause-lock : goal.returns-clause-lock
 returns-clause-lock g c = changes_lock Exclusive c.args.pinned.frame _ _ _ c.self.view_is (relocked g c) (moved_one (λ (w : View). (link w c.args.pinned.frame).content ≡ Exclusive) _ _ c.return_seat.ensures.view (ap (λ (l : Link). l.content) c.exclusive.ensures.exclusive))
 
-pub returns-clause-unmarked : goal.returns-clause-unmarked
-returns-clause-unmarked g c =
+pub returns-clause-none_unentered : goal.returns-clause-none_unentered
+returns-clause-none_unentered g c =
     let f = c.args.pinned.frame in
     let e = c.exclusive.ensures in
     let before = c.take_seat-seat.ensures.view in
@@ -64,4 +64,4 @@ returns-clause-unmarked g c =
     c.requires.unlocked)
     in
     moved_one (λ (w : View). HoldsNoUnentered (link w f)) _ _ c.return_seat.ensures.view
-    (unmarked_locked f c.take_seat-seat.result.me.0 c.exclusive.new.seat.me.0 e.did none e.exclusive)
+    (none_unentered_locked f c.take_seat-seat.result.me.0 c.exclusive.new.seat.me.0 e.did none e.exclusive)

@@ -11,8 +11,9 @@ use Rattle.buffer_frames.specs.Tokens.{IsPinnedFor}
 use Rattle.backend_pass.specs.Managers.{Belongs}
 use Rattle.backend_pass.specs.Passes.{IsNumbered, IsShown, PassState, shown_after_put, view_in}
 use Rattle.backend_pass.proofs.Flushed.{block_of_token, frame_of_token}
-use Rattle.backend_pass.proofs.PassPuts.{belongs_put, calls_unput, entered_put, front_put, locks_put}
-use Rattle.backend_pass.proofs.PassPuts.{numbered_put, put_complete, same_put, shown_by_put}
+use Rattle.backend_pass.proofs.PassPuts.{belongs_put, calls_unput, dirtied_unput, entered_unput}
+use Rattle.backend_pass.proofs.PassPuts.{front_put, locks_put, none_unentered_put, numbered_put}
+use Rattle.backend_pass.proofs.PassPuts.{put_complete, same_put, shown_by_put}
 use Rattle.backend_pass.proofs.SeatWork.{PutsOne, frame_worked}
 use Rattle.backend_pass.proofs.Seated.{Worked, put_from}
 use Rattle.backend_pass.proofs.pass.Pass.put.Given.{Over}
@@ -184,8 +185,20 @@ pub returns-clause-unentered : goal.returns-clause-unentered
 returns-clause-unentered g c = ap (λ (x : View). x.unentered)
     (puts g (goal.at.returns-clause-unentered g c).After-return_seat).puts.kept
 
-pub returns-clause-entered : goal.returns-clause-entered
-returns-clause-entered g c = entered_put
+pub returns-clause-none_unentered : goal.returns-clause-none_unentered
+returns-clause-none_unentered g c = none_unentered_put
     (link (view_in c.return_seat.new.badge.views) c.args.exclusive.now.pinned.frame)
     c.put_locked-answer.result
-    (puts g (goal.at.returns-clause-entered g c).After-return_seat).entered
+    (puts g (goal.at.returns-clause-none_unentered g c).After-return_seat).entered
+
+pub returns-clause-dirtied : goal.returns-clause-dirtied
+returns-clause-dirtied g c = dirtied_unput (relations_of c.args.manager.now.table)
+    c.args.exclusive.now.pinned.frame c.args.exclusive.now.pinned.tag c.args.page.now _ _
+    c.put_locked-answer.result
+    (puts g (goal.at.returns-clause-dirtied g c).After-return_seat).answer
+
+pub returns-clause-entered : goal.returns-clause-entered
+returns-clause-entered g c = entered_unput (relations_of c.args.manager.now.table)
+    c.args.exclusive.now.pinned.frame c.args.exclusive.now.pinned.tag c.args.page.now _ _
+    c.put_locked-answer.result
+    (puts g (goal.at.returns-clause-entered g c).After-return_seat).answer

@@ -15,7 +15,7 @@ use Rattle.buffer_frames.specs.PageReads.{OnlyReads, ReadsPage, ReadsUnder}
 use Rattle.backend_pass.specs.Passes.{IsNumbered, PassState, view_in}
 use Rattle.buffer_frames.proofs.PageReading.{can_copy_locked}
 use Rattle.backend_pass.proofs.PassReading.{belongs_read, numbered_read, rests_read, same_read, shown_read, tag_pinned}
-use Rattle.backend_pass.proofs.Relocking.{beside_lock, unmarked_still}
+use Rattle.backend_pass.proofs.Relocking.{beside_lock, none_unentered_still}
 use Rattle.backend_pass.proofs.Seated.{moved, moved_one, same_from}
 use Rattle.backend_pass.proofs.pass.Pass.read_locked.Goals as goal
 
@@ -103,14 +103,14 @@ returns-clause-did g c =
     let after = c.return_seat.ensures.view in
     subst (λ (p : PassState). ReadsUnder (link p.view f).content f c.read_copy-place.new.page c.read_copy-place.result p.view (view_in c.return_seat.new.badge.views)) c.self.view_is (moved (λ v w. ReadsUnder (link v f).content f c.read_copy-place.new.page c.read_copy-place.result v w) (view_in c.self.inside.seat.views) (view_in c.return_seat.new.badge.views) _ _ before after c.read_copy-place.ensures.did)
 
-pub returns-clause-unmarked : goal.returns-clause-unmarked
-returns-clause-unmarked g c =
+pub returns-clause-none_unentered : goal.returns-clause-none_unentered
+returns-clause-none_unentered g c =
     let f = c.args.pinned.now.frame in
     let e = c.read_copy-place.ensures.link in
     subst (λ (p : PassState). HoldsNoUnentered (link p.view f)
     → HoldsNoUnentered (link (view_in c.return_seat.new.badge.views) f)) c.self.view_is
     (moved (λ v w. HoldsNoUnentered (link v f) → HoldsNoUnentered (link w f)) _ _ _ _
     c.take_seat-seat.ensures.view c.return_seat.ensures.view
-    (unmarked_still (link c.take_seat-seat.result.me.0 f) (link c.read_copy-place.new.seat.me.0 f)
+    (none_unentered_still (link c.take_seat-seat.result.me.0 f) (link c.read_copy-place.new.seat.me.0 f)
     (ap (λ (l : Link). l.content) e) (ap (λ (l : Link). l.dirtied) e)
     (ap (λ (l : Link). l.entered) e)))

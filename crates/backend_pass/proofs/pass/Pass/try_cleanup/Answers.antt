@@ -11,7 +11,7 @@ use Rattle.backend_pass.specs.Locks.{HasLock}
 use Rattle.backend_pass.specs.Managers.{Belongs}
 use Rattle.backend_pass.specs.Passes.{IsNumbered, PassState, view_in}
 use Rattle.backend_pass.proofs.Releasing.{belongs_touched, numbered_self, same_touched, shown_self}
-use Rattle.backend_pass.proofs.CleanupLocks.{Cleans, cleans_tried, rests_cleaned, rests_tagged, unmarked_tried}
+use Rattle.backend_pass.proofs.CleanupLocks.{Cleans, cleans_tried, rests_cleaned, rests_tagged, none_unentered_tried}
 use Rattle.backend_pass.proofs.Relocking.{held_same, kept_refused, kept_taken, lock_refused, lock_taken}
 use Rattle.backend_pass.proofs.Seated.{moved, moved_one, same_from}
 use Rattle.backend_pass.proofs.pass.Pass.try_cleanup.Goals.{in-Ok, in-Err}
@@ -71,19 +71,19 @@ returns-clause-kept g c =
           kept_refused (SameLocks c.args.self.now.view (view_in c.return_seat.new.badge.views)) c.match-answer.result _ w.result-is (subst (λ (p : PassState). SameLocks p.view (view_in c.return_seat.new.badge.views)) c.self.view_is (same_locks_at f (view_in c.self.inside.seat.views) (view_in c.return_seat.new.badge.views) others here))
     ]
 
-pub returns-clause-unmarked : goal.returns-clause-unmarked
-returns-clause-unmarked g c =
+pub returns-clause-none_unentered : goal.returns-clause-none_unentered
+returns-clause-none_unentered g c =
     let f = c.args.pinned.frame in
     let none : (link c.take_seat-seat.result.me.0 f).content ≡ Unlocked =
     subst (λ (v : View). (link v f).content ≡ Unlocked) c.take_seat-seat.ensures.view
     (subst (λ (p : PassState). HasLock Unlocked f p) (sym c.self.view_is)
     c.requires.unlocked)
     in
-    let Unmarked = HoldsNoUnentered (link (view_in c.return_seat.new.badge.views) f) in
+    let NoneUnentered = HoldsNoUnentered (link (view_in c.return_seat.new.badge.views) f) in
     elim c.match-answer.branch [
-      | in-Ok w ↦ lock_taken Unmarked c.match-answer.result _ w.result-is
+      | in-Ok w ↦ lock_taken NoneUnentered c.match-answer.result _ w.result-is
           (moved_one (λ (v : View). HoldsNoUnentered (link v f)) _ _ c.return_seat.ensures.view
-          (unmarked_tried f c.take_seat-seat.result.me.0 c.try_lock-answer.new.seat.me.0
+          (none_unentered_tried f c.take_seat-seat.result.me.0 c.try_lock-answer.new.seat.me.0
           w.in-Ok.ensures.granted none w.in-Ok.ensures.locked))
-      | in-Err w ↦ lock_refused Unmarked c.match-answer.result _ w.result-is
+      | in-Err w ↦ lock_refused NoneUnentered c.match-answer.result _ w.result-is
     ]

@@ -15,7 +15,7 @@ use Rattle.backend_pass.specs.Locks.{HasLock}
 use Rattle.backend_pass.specs.Managers.{Belongs}
 use Rattle.backend_pass.specs.Passes.{IsNumbered, PassState, view_in}
 use Rattle.backend_pass.proofs.Releasing.{belongs_touched, numbered_self, same_touched, shown_self}
-use Rattle.backend_pass.proofs.Relocking.{Relocks, held_same, kept_refused, kept_taken, lock_refused, lock_taken, relocks_tried, rests_relocked, unmarked_locked}
+use Rattle.backend_pass.proofs.Relocking.{Relocks, held_same, kept_refused, kept_taken, lock_refused, lock_taken, relocks_tried, rests_relocked, none_unentered_locked}
 use Rattle.backend_pass.proofs.Seated.{moved, moved_one, same_from}
 use Rattle.backend_pass.proofs.pass.Pass.try_exclusive.Goals.{in-Ok, in-Err}
 use Rattle.backend_pass.proofs.pass.Pass.try_exclusive.Goals as goal
@@ -77,19 +77,19 @@ returns-clause-did g c =
       | in-Err w ↦ lock_refused (LocksAtOnce kinds.exclude f c.args.self.now.view (view_in c.return_seat.new.badge.views)) c.match-answer.result _ w.result-is
     ]
 
-pub returns-clause-unmarked : goal.returns-clause-unmarked
-returns-clause-unmarked g c =
+pub returns-clause-none_unentered : goal.returns-clause-none_unentered
+returns-clause-none_unentered g c =
     let f = c.args.pinned.frame in
     let none : (link c.take_seat-seat.result.me.0 f).content ≡ Unlocked =
     subst (λ (v : View). (link v f).content ≡ Unlocked) c.take_seat-seat.ensures.view
     (subst (λ (p : PassState). HasLock Unlocked f p) (sym c.self.view_is)
     c.requires.unlocked)
     in
-    let Unmarked = HoldsNoUnentered (link (view_in c.return_seat.new.badge.views) f) in
+    let NoneUnentered = HoldsNoUnentered (link (view_in c.return_seat.new.badge.views) f) in
     elim c.match-answer.branch [
-      | in-Ok w ↦ lock_taken Unmarked c.match-answer.result _ w.result-is
+      | in-Ok w ↦ lock_taken NoneUnentered c.match-answer.result _ w.result-is
           (moved_one (λ (v : View). HoldsNoUnentered (link v f)) _ _ c.return_seat.ensures.view
-          (unmarked_locked f c.take_seat-seat.result.me.0 c.try_exclusive-answer.new.seat.me.0
+          (none_unentered_locked f c.take_seat-seat.result.me.0 c.try_exclusive-answer.new.seat.me.0
           (locks_waiting kinds.exclude _ _ _ w.in-Ok.ensures.did) none w.in-Ok.ensures.exclusive))
-      | in-Err w ↦ lock_refused Unmarked c.match-answer.result _ w.result-is
+      | in-Err w ↦ lock_refused NoneUnentered c.match-answer.result _ w.result-is
     ]

@@ -1,14 +1,17 @@
-use Rattle.std.proofs.Common.{◌≡◌, ◌∙◌, ℕ, Some, refl, sym, ap, subst}
-use Rattle.buffer_frames.specs.Tokens.{held_at}
+use Rattle.std.proofs.Common.{◌≡◌, ◌∙◌, ℕ, [], ◌∷◌, ◌++◌, Some, refl, sym, ap, subst}
+use Rattle.block_tag.specs.Names.{packed_tag}
+use Rattle.buffer_frames.specs.Tokens.{IsPinnedFor, held_at}
 use Rattle.pin_core.specs.declared.view.Content.TheVariants.{Unlocked}
 use Rattle.pin_core.specs.declared.view.Link.{Link}
 use Rattle.pin_core.specs.declared.view.View.{View}
 use Rattle.pin_core.specs.State.{link}
+use Rattle.history_core.specs.Unentered.{HoldsUnentered}
 use Rattle.frame_table.specs.Content.{HoldsNoUnentered}
 use Rattle.buffer_frames.specs.Outside.{shown_count}
 use Rattle.backend_pass.specs.Managers.{Belongs}
 use Rattle.backend_pass.specs.Passes.{IsNumbered, PassState, view_in}
-use Rattle.backend_pass.proofs.Relocking.{GivesUp, belongs_given_up, beside_lock, given_up_from, held_same, lock_given_up, numbered_given_up, rests_given_up, same_given_up, shown_given_up}
+use Rattle.backend_pass.proofs.CleanupLocks.{rests_tagged}
+use Rattle.backend_pass.proofs.Relocking.{GivesUp, belongs_given_up, beside_lock, given_up_from, held_same, lock_given_up, noted_given_up, numbered_given_up, rests_given_up, same_given_up, shown_given_up}
 use Rattle.backend_pass.proofs.Seated.{moved, moved_one}
 use Rattle.backend_pass.proofs.pass.Pass.unexclusive.Given.{Over}
 use Rattle.backend_pass.proofs.pass.Pass.unexclusive.Goals as goal
@@ -51,8 +54,26 @@ returns-clause-same g c =
 pub returns-clause-lock : goal.returns-clause-lock
 returns-clause-lock g c = lock_given_up c.args.exclusive.pinned.frame _ _ _ c.self.view_is (relocked g c) (moved_one (λ (w : View). (link w c.args.exclusive.pinned.frame).content ≡ Unlocked) _ _ c.return_seat.ensures.view (ap (λ (l : Link). l.content) c.unexclusive.ensures.unexclusive))
 
-pub returns-clause-unnoted : goal.returns-clause-unnoted
-returns-clause-unnoted g c =
+pub returns-clause-noted : goal.returns-clause-noted
+returns-clause-noted g c =
+    let f = c.args.exclusive.pinned.frame in
+    let tag = c.args.exclusive.pinned.tag in
+    let did = c.unexclusive.ensures.did in
+    let pinned : IsPinnedFor tag f c.self.inside.held =
+    subst (λ (p : PassState). IsPinnedFor tag f p.tokens) (sym c.self.view_is) c.requires.pinned in
+    let tagged : (link c.take_seat-seat.result.me.0 f).tag ≡ Some (packed_tag tag) =
+    subst (λ (v : View). (link v f).tag ≡ Some (packed_tag tag)) c.take_seat-seat.ensures.view
+    (rests_tagged tag f c.self.inside.held _ pinned c.self.invariant.1) in
+    subst (λ (p : PassState). HoldsUnentered (link p.view f)
+    → (view_in c.return_seat.new.badge.views).unentered ≡ p.view.unentered ++ packed_tag tag ∷ [])
+    c.self.view_is
+    (moved (λ v w. HoldsUnentered (link v f) → w.unentered ≡ v.unentered ++ packed_tag tag ∷ [])
+    _ _ _ _ c.take_seat-seat.ensures.view c.return_seat.ensures.view
+    (noted_given_up f did.0 (packed_tag tag) c.take_seat-seat.result.me.0
+    c.unexclusive.new.seat.me.0 did.1 tagged))
+
+pub returns-clause-unentered : goal.returns-clause-unentered
+returns-clause-unentered g c =
     let f = c.args.exclusive.pinned.frame in
     subst (λ (p : PassState). HoldsNoUnentered (link p.view f)
     → (view_in c.return_seat.new.badge.views).unentered ≡ p.view.unentered) c.self.view_is
