@@ -1,14 +1,15 @@
-//! Three backends, each in a thread of its own, over lanes and a log of any kind.
+//! Backends over lanes and a log of any kind: three at once, each in a thread of its own, or the
+//! first one without the others.
 ghost use Rattle.std.specs.Prelude.{◌≡◌, All, IfErr, IfOk, List, length};
 ghost use Rattle.pin_core.specs.declared.view.Content.TheVariants as lock;
 ghost use Rattle.pin_core.specs.State.{link};
 ghost use Rattle.frame_table.specs.Content.{HoldsNoUnentered};
 ghost use Rattle.table_rule.specs.Shows.{devices};
-ghost use Rattle.backend_pass.specs.Between.{AllReturn, HasOnly, IsIdle, Returns};
-ghost use Rattle.backend_pass.specs.Closing.{ClosesAll};
+ghost use Rattle.backend_pass.specs.Between.{AllReturn, HasOnlyToken, IsIdlePass, Returns};
 ghost use Rattle.backend_pass.specs.Managers.{AreNewPasses};
 ghost use Rattle.backend_pass.specs.Passes.{KeepsPass, PassState};
-ghost use Rattle.library_example.specs.Passes.{NotesNone, RedoesEach};
+ghost use Rattle.library_example.specs.Passes.{AllNoteNone, ClosesReturned, LogTakesMore};
+ghost use Rattle.library_example.specs.Passes.{NotesNone, RedoesEach, SawLogTakesMore};
 
 use crate::counters::{Change, Pages};
 use crate::files::block;
@@ -48,12 +49,14 @@ fn lock_for<L: BlockLane, G: LogDevice, R: Wait>(
     pinned: Pinned,
     change: Change,
 ) -> Result<Exclusive, BackendError>
-    requires { HasOnly L.contents manager.now lock.Unlocked pinned pass.old }
+    requires { HasOnlyToken L.contents manager.now lock.Unlocked pinned pass.old }
     ensures same { KeepsPass pass.old pass.new }
-    ensures noted { NotesNone pass.old pass.new }
+    ensures unentered { NotesNone pass.old pass.new }
     ensures locked { IfOk result (λ locked.
-        HasOnly L.contents manager.now lock.Exclusive locked.pinned pass.new) }
-    ensures refused { IfErr result (λ _. IsIdle L.contents manager.now pass.new) }
+        HasOnlyToken L.contents manager.now lock.Exclusive locked.pinned pass.new) }
+    ensures none_unentered { IfOk result (λ locked.
+        HoldsNoUnentered (link pass.new.view locked.pinned.frame)) }
+    ensures refused { IfErr result (λ _. IsIdlePass L.contents manager.now pass.new) }
 {
     match change {
         Change::Count => Ok(pass.exclusive(manager, rt, pinned)),
@@ -76,11 +79,15 @@ fn put_changed<L: BlockLane, G: LogDevice, R: Wait>(
     change: Change,
     pages: &mut Pages,
 ) -> Result<(), BackendError>
-    requires { HasOnly L.contents manager.now lock.Exclusive locked.old.pinned pass.old }
+    requires only { HasOnlyToken L.contents manager.now lock.Exclusive locked.old.pinned pass.old }
+    requires none_unentered { HoldsNoUnentered (link pass.old.view locked.old.pinned.frame) }
     ensures same { KeepsPass pass.old pass.new }
-    ensures only { HasOnly L.contents manager.now lock.Exclusive locked.new.pinned pass.new }
-    ensures entered { IfOk result (λ _. NotesNone pass.old pass.new
-        × HoldsNoUnentered (link pass.new.view locked.new.pinned.frame)) }
+    ensures only { HasOnlyToken L.contents manager.now lock.Exclusive locked.new.pinned pass.new }
+    ensures unentered { NotesNone pass.old pass.new }
+    ensures none_unentered { IfOk result (λ _.
+        HoldsNoUnentered (link pass.new.view locked.new.pinned.frame)) }
+    ensures takes_more { SawLogTakesMore pass.new
+        → HoldsNoUnentered (link pass.new.view locked.new.pinned.frame) }
 {
     pass.read_exclusive(manager, rt, locked, &mut pages.read);
     if !pages.change(change) {
@@ -91,7 +98,7 @@ fn put_changed<L: BlockLane, G: LogDevice, R: Wait>(
 }
 
 /// Changes the page of a block. Whatever goes wrong, its token is given back. If the put is done,
-/// the pass doesn't note the block as unentered.
+/// or the log was seen neither down nor full, the pass doesn't note the block as unentered.
 fn change_block<L: BlockLane, G: LogDevice, R: Wait>(
     manager: &Manager<L, G>,
     rt: &R,
@@ -100,9 +107,10 @@ fn change_block<L: BlockLane, G: LogDevice, R: Wait>(
     change: Change,
     pages: &mut Pages,
 ) -> Result<(), BackendError>
-    requires { IsIdle L.contents manager.now pass.old }
+    requires { IsIdlePass L.contents manager.now pass.old }
     ensures back { Returns L.contents manager.now pass.old pass.new }
-    ensures noted { IfOk result (λ _. NotesNone pass.old pass.new) }
+    ensures unentered { IfOk result (λ _. NotesNone pass.old pass.new) }
+    ensures takes_more { SawLogTakesMore pass.new → NotesNone pass.old pass.new }
 {
     let pinned = pass.read_buffer(manager, rt, tag, &mut None)?;
     let mut locked = lock_for(manager, rt, pass, pinned, change)?;
@@ -120,9 +128,10 @@ fn count_blocks<L: BlockLane, G: LogDevice, R: Wait>(
     rel: RelNo,
     pages: &mut Pages,
 ) -> Result<(), BackendError>
-    requires { IsIdle L.contents manager.now pass.old }
+    requires { IsIdlePass L.contents manager.now pass.old }
     ensures back { Returns L.contents manager.now pass.old pass.new }
-    ensures noted { IfOk result (λ _. NotesNone pass.old pass.new) }
+    ensures unentered { IfOk result (λ _. NotesNone pass.old pass.new) }
+    ensures takes_more { SawLogTakesMore pass.new → NotesNone pass.old pass.new }
 {
     for number in 0..manager.blocks(rel, Fork::Main) {
         change_block(manager, rt, pass, block(rel, number), Change::Count, pages)?;
@@ -138,9 +147,10 @@ fn work<L: BlockLane, G: LogDevice, R: Wait>(
     pass: &mut Pass,
     number: usize,
 ) -> Result<(), BackendError>
-    requires { IsIdle L.contents manager.now pass.old }
+    requires { IsIdlePass L.contents manager.now pass.old }
     ensures back { Returns L.contents manager.now pass.old pass.new }
-    ensures noted { IfOk result (λ _. NotesNone pass.old pass.new) }
+    ensures unentered { IfOk result (λ _. NotesNone pass.old pass.new) }
+    ensures takes_more { SawLogTakesMore pass.new → NotesNone pass.old pass.new }
 {
     let mut pages = Pages::new(alloc)?;
     count_blocks(manager, rt, pass, RelNo(0), &mut pages)?;
@@ -158,8 +168,9 @@ fn backend<L: BlockLane, G: LogDevice, R: Wait>(
     pass: &mut Pass,
     number: usize,
 )
-    requires { IsIdle L.contents manager.now pass.old }
-    ensures { Returns L.contents manager.now pass.old pass.new }
+    requires { IsIdlePass L.contents manager.now pass.old }
+    ensures back { Returns L.contents manager.now pass.old pass.new }
+    ensures takes_more { SawLogTakesMore pass.new → NotesNone pass.old pass.new }
 {
     if let Err(why) = work(manager, rt, alloc, pass, number) {
         *stopped.lock(rt) = Some(why);
@@ -174,9 +185,10 @@ fn run_backends<L: BlockLane + Send, G: LogDevice + Send, R: Threads + Wait + Sy
     stopped: &Mutex<Option<BackendError>>,
     passes: &mut Vec<Pass>,
 )
-    requires { All (IsIdle L.contents manager.now) passes.old.items }
+    requires { All (IsIdlePass L.contents manager.now) passes.old.items }
     ensures count { length passes.new.items ≡ length passes.old.items }
-    ensures passes { AllReturn L.contents manager.now passes.old.items passes.new.items }
+    ensures back { AllReturn L.contents manager.now passes.old.items passes.new.items }
+    ensures takes_more { AllNoteNone passes.old.items passes.new.items }
 {
     thread::for_each_mut(
         rt,
@@ -186,7 +198,9 @@ fn run_backends<L: BlockLane + Send, G: LogDevice + Send, R: Threads + Wait + Sy
     );
 }
 
-/// Lets the backends work, makes a checkpoint, and closes the manager.
+/// Lets the backends work, makes a checkpoint, and closes the manager. If the log is neither down
+/// nor full then, no pass noted a block as unentered: so redo excepts none, if a crash finds the
+/// devices so.
 pub fn work_and_close<
     L: BlockLane + Send + Drop,
     G: LogDevice + Send + Drop,
@@ -198,6 +212,9 @@ pub fn work_and_close<
     mut passes: Vec<Pass>,
 ) -> anyhow::Result<(Vec<L>, G)>
     requires { AreNewPasses L.contents manager BACKENDS passes.items }
+    ensures { IfOk result (λ given. (ps : List PassState)
+        × (c : ClosesReturned (devices L.BlockLane G.LogDevice) manager passes.items ps
+        given.0.items given.1) × (LogTakesMore c.closed.state → RedoesEach c.closed.state)) }
 {
     let stopped = Mutex::new(None);
     run_backends(&manager, rt, alloc, &stopped, &mut passes);
@@ -210,8 +227,9 @@ pub fn work_and_close<
     Ok(devices)
 }
 
-/// One backend works alone, and the manager is closed. If each put was done, no pass noted a block
-/// as unentered: so redo excepts none, if a crash finds the devices so.
+/// Lets the first backend work without the others, and closes the manager. If it is Ok, each put
+/// was done, and no pass noted a block as unentered: so redo excepts none, if a crash finds the
+/// devices so.
 pub fn work_alone_and_close<L: BlockLane + Drop, G: LogDevice + Drop, R: Wait>(
     manager: Manager<L, G>,
     rt: &R,
@@ -220,8 +238,8 @@ pub fn work_alone_and_close<L: BlockLane + Drop, G: LogDevice + Drop, R: Wait>(
 ) -> Result<(Vec<L>, G), BackendError>
     requires { AreNewPasses L.contents manager BACKENDS passes.items }
     ensures { IfOk result (λ given. (ps : List PassState)
-        × (closed : ClosesAll (devices L.BlockLane G.LogDevice) manager.table.table.shared.key ps
-        given.0.items given.1) × RedoesEach closed.state) }
+        × (c : ClosesReturned (devices L.BlockLane G.LogDevice) manager passes.items ps
+        given.0.items given.1) × RedoesEach c.closed.state) }
 {
     let done = work(&manager, rt, alloc, &mut passes[0], 0);
     let given = manager.close(passes);

@@ -1,8 +1,10 @@
-//! A small engine over the buffer manager, in memory: three backends change the pages of two
-//! relations, a checkpoint writes them, and then the log alone redoes them on the old files.
+//! A small engine over the buffer manager, in memory. Three backends change the pages of two
+//! relations, a checkpoint writes them, and the log redoes them on the old files. Then one backend
+//! changes pages without the others and without a checkpoint, and its log redoes them on the lanes
+//! that the manager gives back.
 #![tactic(auto)]
 
-ghost use Rattle.std.specs.Prelude.{◌<◌, map, vec_len};
+ghost use Rattle.std.specs.Prelude.{◌<◌, IfOk, map, vec_len};
 ghost use Rattle.segment_store.specs.Lanes.{HoldTheirs};
 ghost use Rattle.table_rule.specs.Shows.{AreLanes, devices};
 
@@ -29,8 +31,9 @@ const BASE: Lsn = 4096;
 
 const ROOM: usize = 1_000_000;
 
-/// Starts a manager over these lanes and a new log, and lets the backends work, or one alone. The
-/// lanes and the log afterwards.
+/// Starts a manager over these lanes and a new log, and lets three backends work, or the first one
+/// without the others. The lanes and the log afterwards: the log can be redone on the lanes, as on
+/// these before.
 fn run<R: Threads + Wait + Sync>(
     rt: &R,
     alloc: Global,
@@ -38,8 +41,12 @@ fn run<R: Threads + Wait + Sync>(
     lanes: Vec<MemLane>,
     alone: bool,
 ) -> anyhow::Result<(Vec<MemLane>, MemLog)>
-    requires { AreLanes (devices ⟦<MemLane as BlockLane>⟧ ⟦<MemLog as LogDevice>⟧)
+    requires complete { AreLanes (devices ⟦<MemLane as BlockLane>⟧ ⟦<MemLog as LogDevice>⟧)
         catalog lanes.items }
+    requires placed { HoldTheirs (map ⟦<MemLane as BlockLane>⟧.contents lanes.items) }
+    ensures some { IfOk result (λ given. 0 < vec_len given.0) }
+    ensures placed { IfOk result (λ given.
+        HoldTheirs (map ⟦<MemLane as BlockLane>⟧.contents given.0.items)) }
 {
     let mut log = MemLog::new(alloc, ROOM, LogPlan::none(alloc))?;
     begin_log(&mut log, BASE)?;
@@ -62,7 +69,7 @@ fn run<R: Threads + Wait + Sync>(
     }
 }
 
-/// Redoes a log on the old files.
+/// Redoes a log on lanes.
 fn redo(
     alloc: Global,
     catalog: &Catalog,
@@ -126,10 +133,15 @@ fn main(rt: HostRuntime) -> anyhow::Result<()> {
         )?;
     }
     let lanes = old_lanes(alloc, &relations)?;
-    let (_lanes, log) = run(&rt, alloc, catalog(alloc)?, lanes, true)?;
+    let (mut lanes, log) = run(&rt, alloc, catalog(alloc)?, lanes, true)?;
     println!(rt;
         "after one backend alone the log has {} bytes",
         log.bytes().len()
+    )?;
+    let redone = redo(alloc, &relations, &log, &mut lanes)?;
+    println!(rt;
+        "redo on the lanes given back wrote {} entries to {} blocks",
+        redone.entries, redone.blocks
     )?;
     Ok(())
 }

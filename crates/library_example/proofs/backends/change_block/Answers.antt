@@ -3,6 +3,7 @@ use Rattle.std.proofs.lemmas.Result.{on_ok_weaker}
 use Rattle.pin_core.specs.declared.view.Content.TheVariants as lock
 use Rattle.backend_pass.proofs.Keeping.{pass_on}
 use Rattle.backend_pass.proofs.Between.{idle_released, only_relocked}
+use Rattle.library_example.proofs.Returning.{saw_before}
 use Rattle.library_example.proofs.backends.change_block.Goals as goal
 
 pub returns-clause-back : goal.returns-clause-back
@@ -30,8 +31,25 @@ returns-in_err-locked-clause-back g c = record {
   idle = c.in_err-locked.ensures.refused;
 }
 
-pub returns-clause-noted : goal.returns-clause-noted
-returns-clause-noted g c = on_ok_weaker c.put_changed-done.result
-    (λ d. c.release.ensures.same.unentered ∙ c.unexclusive-pinned.ensures.unnoted d.1 ∙ d.0
-    ∙ c.in_ok-locked.ensures.noted ∙ c.in_ok-pinned.ensures.same.unentered)
-    c.put_changed-done.ensures.entered
+pub returns-in_err-locked-clause-takes_more : goal.returns-in_err-locked-clause-takes_more
+returns-in_err-locked-clause-takes_more g c saw =
+    c.lock_for.ensures.unentered ∙ c.in_ok-pinned.ensures.same.unentered
+
+pub returns-clause-unentered : goal.returns-clause-unentered
+returns-clause-unentered g c = on_ok_weaker c.put_changed-done.result
+    (λ none. c.release.ensures.same.unentered ∙ c.unexclusive-pinned.ensures.unentered none
+    ∙ c.put_changed-done.ensures.unentered ∙ c.in_ok-locked.ensures.unentered
+    ∙ c.in_ok-pinned.ensures.same.unentered)
+    c.put_changed-done.ensures.none_unentered
+
+pub returns-clause-takes_more : goal.returns-clause-takes_more
+returns-clause-takes_more g c saw =
+    let s = c.put_changed-done.new.pass in
+    let t = c.unexclusive-pinned.new.self in
+    let z = c.release.new.self in
+    let u = c.unexclusive-pinned.ensures in
+    let v = c.release.ensures in
+    let put = saw_before s t u.same.keeps (saw_before t z v.same.keeps saw) in
+    v.same.unentered ∙ u.unentered (c.put_changed-done.ensures.takes_more put)
+    ∙ c.put_changed-done.ensures.unentered ∙ c.in_ok-locked.ensures.unentered
+    ∙ c.in_ok-pinned.ensures.same.unentered
