@@ -91,8 +91,8 @@ impl Pass {
         ensures none_unentered { IfOk result
             (λ _. HoldsNoUnentered (link self.new.view exclusive.old.pinned.frame)) }
 
-        // If it is refused, the frame is marked dirty under the lock, and has an entry made under
-        // it only if it had one before.
+        // If it is refused, the frame is marked dirty under the lock, and an entry was made under
+        // it exactly if one was before.
         ensures dirtied { IfErr result
             (λ _. (link self.new.view exclusive.old.pinned.frame).dirtied ≡ true) }
         ensures entered { IfErr result
