@@ -1,0 +1,6 @@
+pub mod Counts
+pub mod Additions
+pub mod Totals
+pub mod Sums
+pub mod Found
+pub mod Small

@@ -1,0 +1,6 @@
+pub mod Counts
+pub mod Tallies
+pub mod Additions
+pub mod Totals
+pub mod Sums
+pub mod Found
