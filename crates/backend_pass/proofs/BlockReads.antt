@@ -15,6 +15,8 @@ use Rattle.pin_core.specs.declared.view.Content.TheVariants.{Unlocked}
 use Rattle.pin_core.specs.State.{link}
 use Rattle.table_rule.specs.Blocks.{has_block, has_named, is_block}
 use Rattle.table_rule.proofs.Tags.{packed_is}
+use Rattle.io_counts.specs.declared.contexts.ContextCounts.{ContextCounts}
+use Rattle.io_counts.specs.Counts.{context_of, counts_sum, no_counts}
 use Rattle.clock_sweep.specs.CensusList.{CensusList}
 use Rattle.frame_table.specs.declared.table.FrameTable.{FrameTable}
 use Rattle.frame_table.specs.Opened.{WasSoundAtOpening}
@@ -32,8 +34,10 @@ use Rattle.buffer_frames.specs.declared.reading.BlockError.{BlockError}
 use Rattle.buffer_frames.specs.declared.reading.BlockError.TheVariants as block
 use Rattle.buffer_frames.specs.declared.fetching.FetchedPage.{FetchedPage}
 use Rattle.buffer_frames.specs.declared.fetching.FetchError.TheVariants as fetch
-use Rattle.buffer_frames.specs.Fetching.{fetched_by, fetch_calls}
-use Rattle.buffer_frames.specs.Reads.{CensusRead, Locates, ReadAnswer, ReadCalls, met_read_block}
+use Rattle.buffer_frames.specs.Fetching.{fetched_by}
+use Rattle.buffer_frames.specs.Reads.{CensusRead, ReadAnswer, ReadCalls, ReadsAndCounts, met_read_block, read_by}
+use Rattle.buffer_frames.proofs.Counting.{counts_as}
+use Rattle.buffer_frames.proofs.Locating.{LocatesAndCounts}
 use Rattle.buffer_frames.specs.Stages.{Pins}
 use Rattle.buffer_frames.specs.VictimChoices.{ChoiceState, choice_state}
 use Rattle.clock_sweep.proofs.FreeLists.{list_same}
@@ -48,7 +52,7 @@ use Rattle.buffer_frames.specs.Outside.{shown_count}
 use Rattle.backend_pass.specs.Passes.{IsNumbered, IsShown, KeepsCalls, PassState, SamePass, PassOwn, own_of}
 use Rattle.buffer_frames.specs.declared.victims.VictimError.{VictimError}
 use Rattle.buffer_frames.specs.Victims.{VictimRefused}
-use Rattle.backend_pass.specs.Reading.{LacksFrame, ReadingCalls, ReadingCensus, ReadingRefused, ReadsBlock, met_read_refused, read_refusal, shown_after}
+use Rattle.backend_pass.specs.Reading.{LacksFrame, ReadingCalls, ReadingCensus, ReadingRefused, ReadsBlock, met_read_refused, read_refusal, reading_by, shown_after}
 
 -- the number, and what is shown
 pub numbered_kept : (number id : ℕ) (v w : View) → w.number ≡ v.number → IsNumbered number id v → IsNumbered number id w
@@ -122,6 +126,17 @@ module _ {L G : Type 0} (contents : L → Option Pages) (t : FrameTable L G) (ta
   calls_of_refusal (block.NoFrame (victim.Flush (flush.Log (log.LogShort lsn end)))) x = x
   calls_of_refusal (block.Unread fetch.ReadFault) x = x
   calls_of_refusal (block.Unread fetch.Unsound) x = x
+
+  -- and what is counted of them
+  pub counts_of_refusal : (why : BlockError) (x : ReadCalls contents t tag held ring seen c d lane v w (Err why)) → read_by contents t tag held ring seen c d lane v w (Err why) x ≡ reading_by contents t tag held ring seen c d lane v w (Err (read_refusal tag why)) (calls_of_refusal why x)
+  unfolding calls_of_refusal
+  counts_of_refusal (block.NoFrame (victim.NoUnpinned frames)) x = refl
+  counts_of_refusal (block.NoFrame (victim.Flush (flush.WriteFault failed))) x = refl
+  counts_of_refusal (block.NoFrame (victim.Flush (flush.Log log.LogFault))) x = refl
+  counts_of_refusal (block.NoFrame (victim.Flush (flush.Log (log.LogDown at)))) x = refl
+  counts_of_refusal (block.NoFrame (victim.Flush (flush.Log (log.LogShort lsn end)))) x = refl
+  counts_of_refusal (block.Unread fetch.ReadFault) x = refl
+  counts_of_refusal (block.Unread fetch.Unsound) x = refl
 
 -- what rests after a read
 pub rests_pinned : (tag f : ℕ) (t : Tokens) (w : View) → HasNoDevice w → HasNoLatch w → Pins tag f t w → (link w f).seen_valid ≡ true → OnlyTokens (tokens_with f tag t) w
@@ -197,19 +212,30 @@ module _ {L G : Type 0} (contents : L → Option Pages) (t : FrameTable L G) whe
   refused_as tag ring after p q (block.Unread fetch.Unsound) a x = (refl, a.1)
 
   pub refused_reads : (tag : Tag) (ring after : Option RingState) (a p q : PassState) (why : BlockError) (answer : ReadError) → a ≡ p → answer ≡ read_refusal tag why → q.tokens ≡ a.tokens → ReadAnswer contents t tag a.tokens a.view q.view (Err why)
-      → ReadCalls contents t tag a.tokens (is_some ring) q.hint (choice_state a.queue ring a.census) (choice_state q.queue after q.census) (lane_number tag (lanes_in t)) a.view q.view (Err why) → ReadsBlock contents t tag ring after p q (Err answer)
-  refused_reads tag ring after a p q why answer same is tokens r calls = subst (λ (x : PassState). ReadsBlock contents t tag ring after x q (Err answer)) same (subst (λ (y : ReadError). ReadsBlock contents t tag ring after a q (Err y)) (sym is) record {
-    answer = (tokens, refused_as tag ring after a q why r calls);
-    calls = calls_of_refusal contents t tag a.tokens (is_some ring) q.hint _ _ (lane_number tag (lanes_in t)) a.view q.view why calls;
-  })
+      → ReadsAndCounts contents t tag a.tokens (is_some ring) q.hint (choice_state a.queue ring a.census) (choice_state q.queue after q.census) (context_of ring) (lane_number tag (lanes_in t)) a.view q.view a.io q.io (Err why) → ReadsBlock contents t tag ring after p q (Err answer)
+  refused_reads tag ring after a p q why answer same is tokens r x =
+      let c = choice_state a.queue ring a.census in
+      let d = choice_state q.queue after q.census in
+      let lane = lane_number tag (lanes_in t) in
+      subst (λ (y : PassState). ReadsBlock contents t tag ring after y q (Err answer)) same (subst (λ (y : ReadError). ReadsBlock contents t tag ring after a q (Err y)) (sym is) record {
+        answer = (tokens, refused_as tag ring after a q why r x.reads);
+        calls = calls_of_refusal contents t tag a.tokens (is_some ring) q.hint c d lane a.view q.view why x.reads;
+        counts = counts_as (context_of ring)
+            (counts_sum (read_by contents t tag a.tokens (is_some ring) q.hint c d lane a.view q.view (Err why) x.reads) no_counts)
+            (counts_sum (reading_by contents t tag a.tokens (is_some ring) q.hint c d lane a.view q.view (Err (read_refusal tag why)) (calls_of_refusal contents t tag a.tokens (is_some ring) q.hint c d lane a.view q.view why x.reads)) no_counts)
+            a.view q.view a.io q.io (ap (λ (events : ContextCounts). counts_sum events no_counts) (counts_of_refusal contents t tag a.tokens (is_some ring) q.hint c d lane a.view q.view why x.reads)) x.counts;
+      })
 
   -- and a block that was pinned
   pub first_reads : (tag : Tag) (ring after : Option RingState) (a p q : PassState) (block : PinnedBlock) (frame : ℕ) (hit : Bool) → a ≡ p → fetched_by hit ≡ block.fetched → frame ≡ block.pin.frame → q.tokens ≡ tokens_with block.pin.frame (packed_tag tag) a.tokens → ReadAnswer contents t tag a.tokens a.view q.view (Ok block)
-      → ReadCalls contents t tag a.tokens (is_some ring) q.hint (choice_state a.queue ring a.census) (choice_state q.queue after q.census) (lane_number tag (lanes_in t)) a.view q.view (Ok block) → ReadsBlock contents t tag ring after p q (Ok (record { frame = frame; tag = tag; hit = hit }))
-  first_reads tag ring after a p q block frame hit same by is tokens r calls = subst (λ (x : PassState). ReadsBlock contents t tag ring after x q (Ok (record { frame = frame; tag = tag; hit = hit }))) same (subst (λ (f : ℕ). ReadsBlock contents t tag ring after a q (Ok (record { frame = f; tag = tag; hit = hit }))) (sym is) record {
-    answer = record { named = refl; tokens = tokens; new = r.1.new; inside = r.0; seen = r.2; unlocked = r.1.unlocked; sound = r.3 };
-    calls = subst (λ (l : FetchedPage). Locates contents t tag a.tokens (is_some ring) q.hint (choice_state a.queue ring a.census) (choice_state q.queue after q.census) block.pin.frame (fetch_calls (lane_number tag (lanes_in t)) (packed_tag tag) (Ok l)) a.view q.view) (sym by) calls;
-  })
+      → ReadsAndCounts contents t tag a.tokens (is_some ring) q.hint (choice_state a.queue ring a.census) (choice_state q.queue after q.census) (context_of ring) (lane_number tag (lanes_in t)) a.view q.view a.io q.io (Ok block) → ReadsBlock contents t tag ring after p q (Ok (record { frame = frame; tag = tag; hit = hit }))
+  first_reads tag ring after a p q block frame hit same by is tokens r x =
+      let located : LocatesAndCounts contents t tag a.tokens (is_some ring) q.hint (choice_state a.queue ring a.census) (choice_state q.queue after q.census) (context_of ring) (lane_number tag (lanes_in t)) block.pin (Ok (fetched_by hit)) a.view q.view a.io q.io = subst (λ (l : FetchedPage). LocatesAndCounts contents t tag a.tokens (is_some ring) q.hint (choice_state a.queue ring a.census) (choice_state q.queue after q.census) (context_of ring) (lane_number tag (lanes_in t)) block.pin (Ok l) a.view q.view a.io q.io) (sym by) record { located = x.reads; counts = x.counts } in
+      subst (λ (y : PassState). ReadsBlock contents t tag ring after y q (Ok (record { frame = frame; tag = tag; hit = hit }))) same (subst (λ (f : ℕ). ReadsBlock contents t tag ring after a q (Ok (record { frame = f; tag = tag; hit = hit }))) (sym is) record {
+        answer = record { named = refl; tokens = tokens; new = r.1.new; inside = r.0; seen = r.2; unlocked = r.1.unlocked; sound = r.3 };
+        calls = located.located;
+        counts = located.counts;
+      })
 
   -- what is told of a read is no matter of the hint that the pass had
   freed_hinted : (p q : PassState) (seen : HintSeen) (why : VictimError) → LacksFrame contents t (record p { hint = seen }) q why → LacksFrame contents t p q why
@@ -230,8 +256,9 @@ module _ {L G : Type 0} (contents : L → Option Pages) (t : FrameTable L G) whe
   reads_hinted tag ring after p q seen (Ok pinned) b = let a = b.answer in record {
     answer = record { named = a.named; tokens = a.tokens; new = a.new; inside = a.inside; seen = a.seen; unlocked = a.unlocked; sound = a.sound };
     calls = b.calls;
+    counts = b.counts;
   }
-  reads_hinted tag ring after p q seen (Err why) b = record { answer = (b.answer.0, refused_hinted tag p q seen why b.answer.1); calls = b.calls }
+  reads_hinted tag ring after p q seen (Err why) b = record { answer = (b.answer.0, refused_hinted tag p q seen why b.answer.1); calls = b.calls; counts = b.counts }
 
   pub links_refused : (tag : Tag) (held : Tokens) (v w : View) (why : BlockError) → ReadAnswer contents t tag held v w (Err why) → LinksRest held w
   links_refused tag held v w (block.NoFrame why) a = a

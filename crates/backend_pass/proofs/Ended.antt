@@ -15,8 +15,8 @@ use Rattle.pin_core.specs.declared.view.FailedCalls.{FailedCalls}
 use Rattle.pin_core.specs.declared.view.TornRecord.{TornRecord}
 use Rattle.pin_core.specs.declared.view.View.{View}
 use Rattle.pin_core.specs.State.{emptied_view, joined_view, kept_checkpoint, lane_hold, no_lane, sum_of_met}
-use Rattle.pin_core.specs.Steps.{HoldsNothing}
 use Rattle.pin_core.specs.Tallies.{flag_weight}
+use Rattle.history_core.specs.Balances.{added_to}
 use Rattle.history_core.specs.Log.{IsFront, end_from, log_bytes, writes_in}
 use Rattle.history_core.specs.Rest.{NoneAppended}
 use Rattle.history_core.specs.State.{State, failed}
@@ -28,6 +28,7 @@ use Rattle.history_core.specs.Laws.{Laws}
 use Rattle.history_core.specs.TornRecords.{IsOfPage, NotesTorn}
 use Rattle.history_core.specs.Swept.{has_swept}
 use Rattle.history_core.proofs.Calls.{at_both}
+use Rattle.history_core.proofs.Counters.{counters_sums}
 use Rattle.history_core.proofs.History.{ends_in_history}
 use Rattle.history_core.proofs.EntryBlocks.{entries_of_blocks}
 use Rattle.history_core.proofs.Histories.{loaded_flushed}
@@ -43,7 +44,8 @@ use Rattle.buffer_frames.proofs.Resting.{rests_hold_nothing}
 use Rattle.backend_pass.specs.Passes.{PassState}
 use Rattle.backend_pass.specs.Managers.{AreFronted, IsFirstAt, first_in, others_in}
 use Rattle.history_core.specs.Unentered.{IsUnentered}
-use Rattle.backend_pass.specs.Closing.{ClosesAll, ClosesPass, EachPass, NothingPut, NothingWritten, PassNotes, PutNothing, PassTore, TookEach, calls_of_passes, joined_views, met_by_passes, torn_of_passes, unentered_of_passes}
+use Rattle.backend_pass.specs.Closing.{ClosesAll, ClosesPass, EachPass, NothingPut, NothingWritten, PassNotes, PutNothing, PassTore, TookEach, but_published, calls_of_passes, joined_views, met_by_passes, torn_of_passes, unentered_of_passes}
+use Rattle.backend_pass.proofs.AddedUp.{added_by_all, added_counted, added_first, counters_same}
 use Rattle.backend_pass.proofs.Fronts.{at_last}
 use Rattle.backend_pass.proofs.Joining.{Joins, at_later, first_here, first_past, joined_hold_nothing, joins, others_here, others_past}
 
@@ -160,6 +162,11 @@ no_mark_joined v (x ∷ xs) e all = no_mark_joined (joined_view v x.view) xs (or
 no_items : {A : Type 0} (xs : List A) → length xs ≡ 0 → xs ≡ []
 no_items [] e = refl
 no_items (x ∷ xs) e = absurd (omega arith)
+
+-- an emptied view has added nothing to the counters
+none_added : (n : ℕ) → added_to n emptied_view ≡ 0
+unfolding total
+none_added n = refl
 
 -- what a checkpoint keeps of a view
 kept_swept : (u : View) (n : ℕ) → has_swept (kept_checkpoint u) n ≡ (lane_hold u n).swept
@@ -319,8 +326,10 @@ module _ {L G : Type 0} where
     state = s;
     laws = h;
     opened = c.opened;
-    first = c.first ∙ ap (λ (x : View). some x) joined;
-    free = subst HoldsNothing joined (joined_hold_nothing v w (others_in ps) j (rests_hold_nothing v r));
+    view = w;
+    first = c.first;
+    joined = ap but_published joined;
+    free = joined_hold_nothing v w (others_in ps) j (rests_hold_nothing v r);
     others = c.others;
     counted = c.counted;
     lane = c.lane;
@@ -346,6 +355,7 @@ module _ {L G : Type 0} where
     no_mark = λ none. nothing_written s h w c.first c.others ps met output (no_mark none);
     without_puts = λ none. without_puts s h w c.first c.others ps (no_write none) each;
     frames = took;
+    counters = λ told. counters_same s.counter (added_by_all ps) added ∙ added_counted ps told;
   }
     where
       s : State
@@ -359,6 +369,11 @@ module _ {L G : Type 0} where
 
       joined : w ≡ joined_views (first_in ps) (others_in ps)
       joined = is ∙ ap (λ (x : View). joined_views x (others_in ps)) (sym first)
+
+      added : (n : ℕ) → s.counter n ≡ added_by_all ps n
+      added n = counters_sums s h n
+          ∙ total-alone (λ (u : View). added_to n u) s.pool.core.views 0 w c.first (λ i u other at. ap (added_to n) (c.others i u other at) ∙ none_added n)
+          ∙ ap (added_to n) joined ∙ added_first n ps k at
 
       met : met_by_passes ps ≡ w.met
       met = met_split ps k at ∙ ap (λ (u : View). sum_of_met u.met (met_by_passes (others_in ps))) first ∙ sym j.met

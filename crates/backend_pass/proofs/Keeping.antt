@@ -2,6 +2,7 @@
 use Rattle.std.proofs.Common.{refl, ◌∙◌}
 use Rattle.frame_table.proofs.Rising.{rises_none, rises_on}
 use Rattle.backend_pass.specs.Passes.{KeepsCallers, KeepsCalls, KeepsPass, PassState}
+use Rattle.backend_pass.proofs.CountedWrites.{counted_none, counted_on}
 
 pub pass_none : (p : PassState) → KeepsPass p p
 pass_none p = record {
@@ -35,7 +36,7 @@ calls_on p q r a b = record {
 }
 
 pub callers_none : (p : PassState) → KeepsCallers p p
-callers_none p = record { keeps = pass_none p; tokens = refl; locks = λ f. refl; census = refl; calls = record { calls = refl; front = refl; place_loads = refl }; torn = refl; unentered = refl; lookups = record { hint = refl; turns = refl; stores = refl; queue = refl; ticks = refl } }
+callers_none p = record { keeps = pass_none p; tokens = refl; locks = λ f. refl; census = refl; calls = record { calls = refl; front = refl; place_loads = refl }; torn = refl; unentered = refl; lookups = record { hint = refl; turns = refl; stores = refl; queue = refl; ticks = refl }; io = counted_none p p refl refl refl }
 
 pub callers_on : (p q r : PassState) → KeepsCallers p q → KeepsCallers q r → KeepsCallers p r
 callers_on p q r a b = record {
@@ -47,4 +48,5 @@ callers_on p q r a b = record {
   torn = b.torn ∙ a.torn;
   unentered = b.unentered ∙ a.unentered;
   lookups = record { hint = b.lookups.hint ∙ a.lookups.hint; turns = b.lookups.turns ∙ a.lookups.turns; stores = b.lookups.stores ∙ a.lookups.stores; queue = b.lookups.queue ∙ a.lookups.queue; ticks = b.lookups.ticks ∙ a.lookups.ticks };
+  io = counted_on p q r a.io b.io;
 }

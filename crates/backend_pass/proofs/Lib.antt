@@ -20,3 +20,9 @@ pub mod Owning
 pub mod Listed
 pub mod Standing
 pub mod Between
+pub mod CountedWrites
+pub mod Counted
+pub mod Publishing
+pub mod AddedUp
+pub mod Told
+pub mod SummingUp

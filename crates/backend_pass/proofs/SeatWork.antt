@@ -1,8 +1,9 @@
 -- What a call does of the background writer or of a checkpoint, and that the pass rests after it.
-use Rattle.std.proofs.Common.{◌≡◌, ℕ, ◌<◌, ◌≤◌, true, false, length, List, Option, Result, ap, sym}
+use Rattle.std.proofs.Common.{◌≡◌, ℕ, ◌<◌, ◌≤◌, true, false, length, List, [], Option, Result, ap, sym}
 use Rattle.std.proofs.Common.{Bool, subst}
 use Rattle.std.specs.Prelude.{IfErr, IfNone, IfOk, IfSome, MatchResult}
 use Rattle.std.specs.Result.{is_ok}
+use Rattle.access_rings.specs.declared.ring.RingKind.{RingKind}
 use Rattle.atomic_table.specs.declared.badge.Badge.{Badge}
 use Rattle.atomic_table.specs.declared.shared.Seat.{Seat}
 use Rattle.block_tag.specs.declared.catalogue.RelEntry.{RelEntry}
@@ -13,6 +14,7 @@ use Rattle.segment_store.specs.Contents.{Pages}
 use Rattle.pin_core.specs.declared.view.Content.TheVariants.{Unlocked, Exclusive}
 use Rattle.pin_core.specs.declared.view.View.{View}
 use Rattle.pin_core.specs.State.{Page, lane_hold, link}
+use Rattle.io_counts.specs.declared.contexts.ByContext.{ByContext}
 use Rattle.page_core.specs.Kinds.{need_checkpoint}
 use Rattle.history_core.specs.Lanes.{swept_by}
 use Rattle.history_core.specs.Steps.{unmarked}
@@ -39,13 +41,14 @@ use Rattle.buffer_frames.specs.declared.hinting.HintSeen.{HintSeen}
 use Rattle.buffer_frames.specs.declared.reading.BlockError.{BlockError}
 use Rattle.buffer_frames.specs.declared.reading.PinnedBlock.{PinnedBlock}
 use Rattle.buffer_frames.specs.Hinting.{TakesTurns}
-use Rattle.buffer_frames.specs.Reads.{ReadAnswer, ReadCalls, ReadNotes, met_read_block}
+use Rattle.buffer_frames.specs.Reads.{ReadAnswer, ReadNotes, ReadsAndCounts, met_read_block}
 use Rattle.buffer_frames.specs.VictimChoices.{ChoiceState}
 use Rattle.buffer_frames.specs.Rests.{HasNoDevice, HasNoLatch, LinkRests, LinksRest, OnlyTokens}
 use Rattle.buffer_frames.specs.Tokens.{Tokens, held_at}
 use Rattle.buffer_frames.proofs.Keeping.{devices_same, latches_same, links_same}
 use Rattle.buffer_frames.specs.Working.{KeepsNotes, Made, Within, WorksAt}
 use Rattle.buffer_frames.specs.Syncs.{LeavesLane, NotesBlock, SeesNotDirty, synced_work}
+use Rattle.backend_pass.specs.Closing.{but_published}
 use Rattle.backend_pass.specs.Passes.{view_in}
 use Rattle.backend_pass.specs.Seats.{IsSeatOf}
 use Rattle.backend_pass.proofs.Seated.{Worked, worked}
@@ -119,15 +122,20 @@ pub record PutsOne (relations : List RelEntry) (f : ℕ) (tag : Tag) (page : Pag
   pub entered : IfOk r (λ _. (link w f).entered ≡ true)
 
 -- The block of the tag was looked up, by a backend that has these tokens: this was seen of its hint,
--- and the choice's state was c, and is d
+-- the choice's state was c, and is d, and the counts became io' in this context
 pub record LooksUp {L G : Type 0} (contents : L → Option Pages) (t : FrameTable L G) (tag : Tag)
-    (held : Tokens) (ring : Bool) (seen : HintSeen) (c d : ChoiceState) (v w : View)
-    (r : Result PinnedBlock BlockError) : Type 0 where
+    (held : Tokens) (ring : Bool) (seen : HintSeen) (c d : ChoiceState) (context : Option RingKind)
+    (io io' : ByContext) (v w : View) (r : Result PinnedBlock BlockError) : Type 0 where
   pub answer : ReadAnswer contents t tag held v w r
   pub met : w.met ≡ met_read_block r v.met
-  pub calls : ReadCalls contents t tag held ring seen c d (lane_number tag (lanes_in t)) v w r
+  pub calls : ReadsAndCounts contents t tag held ring seen c d context
+      (lane_number tag (lanes_in t)) v w io io' r
   pub turns : TakesTurns seen v.turns w.turns
   pub hints : ReadNotes (frames_of t) tag seen v.hints w.hints r
+
+-- all of a view but what it added to counters, and what it loaded
+abbrev pub but_counters : View → View
+but_counters v = record (but_published v) { loads = [] }
 
 -- a checkpoint that begins leaves the frames at rest
 pub rests_unmarked : (t : Tokens) (v w : View) → ((f : ℕ) → link w f ≡ unmarked (link v f))
@@ -199,6 +207,17 @@ module _ {L G : Type 0} (held : Tokens) (b d : Badge View) (s t : Seat (Value L 
         links = links_same held s.me.0 t.me.0 (ap (λ (x : View). x.links) e.view) rested.links;
         latches = latched partitions;
       } e
+
+  -- a call that adds to counters, or loads words
+  pub counters_worked : (D : View → View → Type 0) → but_counters t.me.0 ≡ but_counters s.me.0
+      → D s.me.0 t.me.0 → Worked D held b d
+  counters_worked D e did = worked b d s t taken same back D held record {
+    quiet = devices_same s.me.0 t.me.0 (ap (λ (x : View). x.emptied) e)
+        (ap (λ (x : View). x.lanes) e) (ap (λ (x : View). x.sizes) e)
+        (ap (λ (x : View). x.log) e) rested.quiet;
+    links = links_same held s.me.0 t.me.0 (ap (λ (x : View). x.links) e) rested.links;
+    latches = latched (ap (λ (x : View). x.partitions) e);
+  } did
 
   -- a call at one frame, which has the devices and links at rest
   pub frame_worked : (D : View → View → Type 0) → HasNoDevice t.me.0 → LinksRest held t.me.0

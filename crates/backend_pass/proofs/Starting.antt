@@ -12,6 +12,7 @@ use Rattle.clock_sweep.specs.declared.free_list.QueueView.{QueueView}
 use Rattle.frame_table.specs.declared.table.FrameTable.{FrameTable}
 use Rattle.clock_sweep.specs.declared.sweep.Sweep.{Sweep}
 use Rattle.frame_table.specs.FrameSteps.{split_view}
+use Rattle.io_counts.specs.Counts.{no_io}
 use Rattle.frame_table.specs.Seats.{base_of, frames_of, lanes_in}
 use Rattle.buffer_frames.specs.Tokens.{HeldFrame, held_at, no_tokens}
 use Rattle.buffer_frames.specs.Rests.{OnlyTokens}
@@ -41,6 +42,8 @@ first_fresh id base frames partitions lanes v zero_id e = subst (IsFreshView 0 i
   front = refl;
   met = refl;
   turns = refl;
+  published = refl;
+  cleared = refl;
 }
 
 -- memories
@@ -102,12 +105,13 @@ module _ {L G : Type 0} (contents : L → Option Pages) (m : Manager L G) (count
       e ∙ ap (λ (x : ℕ). record (new_view i x (frames_of m.table) 128 (lanes_in m.table)) { next = next }) same
       ∙ ap (λ (x : ℕ). record (new_view i (base_of m.table) (frames_of m.table) 128 (lanes_in m.table)) { next = x }) (sym (ap (λ (v : View). v.next) e))
 
-  pub split_of_first : (p : PassState) (v : View) (base n i : ℕ) → p.view ≡ split_view base v → v ≡ first_at base (frames_of m.table) 128 (lanes_in m.table) n → n ≡ i + 1 → base ≡ base_of m.table → p.table ≡ m.table.table.shared.table_id → p.tokens ≡ no_tokens → p.census ≡ new_census (frames_of m.table) → p.hint ≡ Unused → IsFreeList m.table m.sweep p.queue → p.queue.known ≡ queue_view 1 (frames_of m.table) [] [] → IsNewPass contents m count (i + 1) p
-  split_of_first p v base n i e first number same table tokens census hint list known = record {
+  pub split_of_first : (p : PassState) (v : View) (base n i : ℕ) → p.view ≡ split_view base v → v ≡ first_at base (frames_of m.table) 128 (lanes_in m.table) n → n ≡ i + 1 → base ≡ base_of m.table → p.table ≡ m.table.table.shared.table_id → p.tokens ≡ no_tokens → p.census ≡ new_census (frames_of m.table) → p.hint ≡ Unused → p.io ≡ no_io → IsFreeList m.table m.sweep p.queue → p.queue.known ≡ queue_view 1 (frames_of m.table) [] [] → IsNewPass contents m count (i + 1) p
+  split_of_first p v base n i e first number same table tokens census hint io list known = record {
     belongs = new_belongs p base table census tokens (ap (λ (x : View). x.calls) is) (ap (λ (x : View). x.front) is) (ap (λ (x : View). x.end_seen) is) same list;
     tokens = tokens;
     census = census;
     hint = hint;
+    io = io;
     view = viewed p base (i + 1) 0 is same;
     next = λ none. absurd (omega arith);
     pushed = ap (λ (x : QueueView). x.pushed) known;
@@ -119,12 +123,13 @@ module _ {L G : Type 0} (contents : L → Option Pages) (m : Manager L G) (count
       is : p.view ≡ new_view (i + 1) base (frames_of m.table) 128 (lanes_in m.table)
       is = e ∙ ap (split_view base) first ∙ split_at base (frames_of m.table) 128 (lanes_in m.table) n ∙ ap (λ (x : ℕ). new_view x base (frames_of m.table) 128 (lanes_in m.table)) number
 
-  pub first_counted : (p : PassState) (base n : ℕ) → p.view ≡ first_at base (frames_of m.table) 128 (lanes_in m.table) n → n ≡ count → base ≡ base_of m.table → p.table ≡ m.table.table.shared.table_id → p.tokens ≡ no_tokens → p.census ≡ new_census (frames_of m.table) → p.hint ≡ Unused → IsFreeList m.table m.sweep p.queue → p.queue.known.parts + n ≡ 65 → p.queue.known.pushed ≡ [] → p.queue.known.taken ≡ [] → IsNewPass contents m count 0 p
-  first_counted p base n e number same table tokens census hint list parts pushed taken = record {
+  pub first_counted : (p : PassState) (base n : ℕ) → p.view ≡ first_at base (frames_of m.table) 128 (lanes_in m.table) n → n ≡ count → base ≡ base_of m.table → p.table ≡ m.table.table.shared.table_id → p.tokens ≡ no_tokens → p.census ≡ new_census (frames_of m.table) → p.hint ≡ Unused → p.io ≡ no_io → IsFreeList m.table m.sweep p.queue → p.queue.known.parts + n ≡ 65 → p.queue.known.pushed ≡ [] → p.queue.known.taken ≡ [] → IsNewPass contents m count 0 p
+  first_counted p base n e number same table tokens census hint io list parts pushed taken = record {
     belongs = new_belongs p base table census tokens (ap (λ (v : View). v.calls) e) (ap (λ (v : View). v.front) e) (ap (λ (v : View). v.end_seen) e) same list;
     tokens = tokens;
     census = census;
     hint = hint;
+    io = io;
     view = viewed p base 0 n e same;
     next = λ none. ap (λ (v : View). v.next) e ∙ number;
     pushed = pushed;

@@ -23,7 +23,9 @@ use Rattle.segment_store.specs.Lanes.{HoldTheirs}
 use Rattle.table_rule.specs.declared.opening.Opening.{Opening}
 use Rattle.table_rule.specs.Shows.{Devices, IsPlaced, IsLane, IsLog, KeepsOpening, lane_opened}
 use Rattle.grid.specs.Shape.{total}
-use Rattle.backend_pass.specs.Passes.{PassState}
+use Rattle.io_counts.specs.Additions.{io_counters}
+use Rattle.backend_pass.specs.Counts.{io_in_all}
+use Rattle.backend_pass.specs.Passes.{HasPublished, PassState}
 use Rattle.clock_sweep.specs.FreeFrames.{QueueState, joined_parts, times}
 use Rattle.backend_pass.specs.Managers.{first_in, others_in}
 
@@ -67,6 +69,10 @@ met_by_passes (p ∷ ps) = sum_of_met p.view.met (met_by_passes ps)
 abbrev pub joined_views : View → List PassState → View
 joined_views v [] = v
 joined_views v (p ∷ ps) = joined_views (joined_view v p.view) ps
+
+-- all of a view but what it published, and the steps by which it did
+abbrev pub but_published : View → View
+but_published v = record v { steps = 0; published = [] }
 
 -- a pass of the free list that takes in those of passes, one after the other
 abbrev pub joined_queues : QueueState → List PassState → QueueState
@@ -142,9 +148,12 @@ module _ {L G : Type 0} where
     pub state : State
     pub laws : Laws state
     pub opened : KeepsOpening d o state
-    -- the first view is those of the passes joined, and holds nothing; all others are emptied
-    pub first : get_elem? state.pool.core.views 0 ≡ some (joined_views (first_in ps) (others_in ps))
-    pub free : HoldsNothing (joined_views (first_in ps) (others_in ps))
+    -- the first view is those of the passes joined, but for what they may have published since, and
+    -- holds nothing; all others are emptied
+    pub view : View
+    pub first : get_elem? state.pool.core.views 0 ≡ some view
+    pub joined : but_published view ≡ but_published (joined_views (first_in ps) (others_in ps))
+    pub free : HoldsNothing view
     pub others : (i : ℕ) (u : View) → i ≢ 0 → get_elem? state.pool.core.views i ≡ some u
         → u ≡ emptied_view
     pub counted : length lanes ≡ o.config.lanes
@@ -195,3 +204,5 @@ module _ {L G : Type 0} where
     -- the passes took each frame from the free list once, and once more for each push, but for
     -- those that it still had
     pub frames : TookEach o.config.frames ps
+    -- if each pass has published what it counted, the counters have the sums of that
+    pub counters : EachPass HasPublished ps → io_counters state.counter ≡ io_in_all ps

@@ -12,3 +12,4 @@ pub mod Locks
 pub mod Cleanups
 pub mod PassSyncs
 pub mod Between
+pub mod Counts

@@ -20,6 +20,7 @@ use Rattle.clock_sweep.specs.FreeFrames.{all_parts}
 use Rattle.clock_sweep.specs.FreeLists.{IsFreeList}
 use Rattle.frame_table.specs.Opened.{WasSoundAtOpening}
 use Rattle.frame_table.specs.Seats.{base_of, frames_of, lanes_in, relations_of}
+use Rattle.io_counts.specs.Counts.{no_io}
 use Rattle.buffer_frames.specs.Tokens.{HeldFrame, held_at, no_tokens}
 use Rattle.buffer_frames.specs.declared.hinting.HintSeen.TheVariants.{Unused}
 use Rattle.backend_pass.specs.declared.manager.Manager.{Manager}
@@ -68,6 +69,7 @@ module _ {L G : Type 0} where
     pub tokens : p.tokens ≡ no_tokens
     pub census : p.census ≡ new_census (frames_of m.table)
     pub hint : p.hint ≡ Unused
+    pub io : p.io ≡ no_io
     -- its view is that of a new backend, but for the next number that it gives
     pub view : p.view
         ≡ record (new_view i (base_of m.table) (frames_of m.table) 128

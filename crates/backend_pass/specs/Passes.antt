@@ -1,5 +1,5 @@
 -- What contracts see of a pass.
-use Rattle.std.specs.Prelude.{◌≡◌, ℕ, ◌+◌, List, [], ◌∷◌, false, Result, Ok, Err}
+use Rattle.std.specs.Prelude.{◌≡◌, ℕ, ◌+◌, List, [], ◌∷◌, false, None, Result, Ok, Err}
 use Rattle.atomic_table.specs.Seated.{TableId}
 use Rattle.pin_core.specs.declared.view.View.{View}
 use Rattle.pin_core.specs.State.{emptied_view}
@@ -10,6 +10,11 @@ use Rattle.frame_table.specs.Seats.{OnlyRises}
 use Rattle.buffer_frames.specs.Rests.{OnlyTokens, SameLocks}
 use Rattle.wal_flush.specs.declared.inserts.InsertError.{InsertError}
 use Rattle.wal_flush.specs.declared.inserts.InsertError.TheVariants.{LogFull, LogDown, LogFault}
+use Rattle.io_counts.specs.declared.contexts.ByContext.{ByContext}
+use Rattle.io_counts.specs.Additions.{io_added}
+use Rattle.io_counts.specs.Counts.{no_counts}
+use Rattle.io_counts.specs.Tallies.{TallyState}
+use Rattle.buffer_frames.specs.Counting.{CountsIo, pages_read}
 use Rattle.buffer_frames.specs.declared.hinting.HintSeen.{HintSeen}
 use Rattle.buffer_frames.specs.Outside.{shown_count}
 use Rattle.backend_pass.specs.declared.marked.MarkedFrame.{MarkedFrame}
@@ -32,6 +37,8 @@ pub record PassState : Type 0 where
   pub marked : List MarkedFrame
   -- what its last read saw of the block's hint
   pub hint : HintSeen
+  -- what it has counted of its reads, writes and victims
+  pub io : ByContext
 
 abbrev pub view_in : List View → View
 view_in [] = emptied_view
@@ -43,6 +50,26 @@ pub record IsShown (v : View) (s : Shown) : Type 0 where
   pub reads : s.met.reads ≡ shown_count v.met.reads
   pub writes : s.met.writes ≡ shown_count v.met.writes
   pub logs : s.met.logs ≡ shown_count v.met.logs
+
+-- how many evictions and reuses were counted, in all contexts
+abbrev pub taken_in : ByContext → ℕ
+taken_in io = io.no_ring.evictions + io.no_ring.reuses
+    + (io.bulk_read.evictions + io.bulk_read.reuses)
+    + (io.bulk_write.evictions + io.bulk_write.reuses)
+    + (io.vacuum.evictions + io.vacuum.reuses)
+
+-- What is counted of a view
+pub record IsCounted (v : View) (turns : ℕ) (tally : TallyState) : Type 0 where
+  -- the latches of partitions that it took
+  pub turns_are : turns ≡ shown_count v.turns
+  -- what the tally has published is what the view has added to the table's counters
+  pub published : io_added v ≡ tally.published
+  -- if no eviction and no reuse is counted, it took no tag from a frame
+  pub taken : taken_in tally.counted ≡ 0 → v.cleared ≡ 0
+
+-- the table's counters have all that the pass has counted
+abbrev pub HasPublished : PassState → Type 0
+HasPublished p = io_added p.view ≡ p.io
 
 -- The number of a pass is its view's, and number 0 is the first seat's
 pub record IsNumbered (number id : ℕ) (v : View) : Type 0 where
@@ -56,6 +83,8 @@ pub record IsFreshView (number id base : ℕ) (v : View) : Type 0 where
   pub front : v.front ≡ base
   pub met : v.met ≡ record { reads = 0; writes = 0; logs = 0 }
   pub turns : v.turns ≡ 0
+  pub published : v.published ≡ []
+  pub cleared : v.cleared ≡ 0
 
 -- What a pass has of its own and keeps: for how many frames its census has room, and its pass of
 -- the free list, but for what it pushed there and took
@@ -116,9 +145,15 @@ pub record KeepsLookups (p q : PassState) : Type 0 where
   pub queue : q.queue ≡ p.queue
   pub ticks : q.view.ticks ≡ p.view.ticks
 
+-- Each write of a lane that was done is counted, without a ring. No lane was read, and no frame
+-- lost its tag
+pub record CountsWrites (p q : PassState) : Type 0 where
+  pub counts : CountsIo None no_counts p.view q.view p.io q.io
+  pub unread : pages_read counts.made ≡ 0
+
 -- What callers have of the pass is as it was: their tokens and content locks, the census, what the
--- pass read and put, what it failed to append, and the blocks that it noted as unentered; and it
--- looked up no block
+-- pass read and put, what it failed to append, and the blocks that it noted as unentered; it looked
+-- up no block, and counted its writes of lanes alone
 pub record KeepsCallers (p q : PassState) : Type 0 where
   pub keeps : KeepsPass p q
   pub tokens : q.tokens ≡ p.tokens
@@ -128,6 +163,7 @@ pub record KeepsCallers (p q : PassState) : Type 0 where
   pub torn : q.view.torn ≡ p.view.torn
   pub unentered : q.view.unentered ≡ p.view.unentered
   pub lookups : KeepsLookups p q
+  pub io : CountsWrites p q
 
 -- whether the pass has marked a frame dirty or synced a lane is as before
 abbrev pub KeepsMark : PassState → PassState → Type 0
@@ -137,10 +173,11 @@ KeepsMark p q = q.view.dirtied_or_synced ≡ p.view.dirtied_or_synced
 abbrev pub KeepsLocks : PassState → PassState → Type 0
 KeepsLocks p q = SameLocks p.view q.view
 
--- No device was called
+-- No device was called, and nothing counted
 pub record KeepsDevices (p q : PassState) : Type 0 where
   pub device_calls : q.view.device_calls ≡ p.view.device_calls
   pub met : q.view.met ≡ p.view.met
+  pub io : q.io ≡ p.io
 
 -- No call of a device failed, and the log isn't seen to be down
 pub record NoDeviceFails (p q : PassState) : Type 0 where

@@ -27,7 +27,11 @@ use Rattle.buffer_frames.specs.declared.reading.BlockError.TheVariants as block
 use Rattle.buffer_frames.specs.declared.fetching.FetchError.TheVariants as fetch
 use Rattle.buffer_frames.specs.Fetching.{WasUnsoundAtOpening, fetched_by, fetch_calls}
 use Rattle.access_rings.specs.RingState.{RingState}
+use Rattle.io_counts.specs.declared.contexts.ContextCounts.{ContextCounts}
+use Rattle.io_counts.specs.Counts.{context_of, counts_sum, no_counts}
+use Rattle.buffer_frames.specs.Counting.{CountsIo}
 use Rattle.buffer_frames.specs.Reads.{GetsNoVictim, KeptOrEmptied, Locates, LocatesUnread}
+use Rattle.buffer_frames.specs.Reads.{hit_of, located_by, missed_by}
 use Rattle.buffer_frames.specs.VictimChoices.{ChoiceState, choice_state}
 use Rattle.buffer_frames.specs.Victims.{VictimRefused}
 use Rattle.buffer_frames.specs.Working.{met_log, met_read, met_write}
@@ -42,6 +46,11 @@ use Rattle.backend_pass.specs.declared.pinned.Pinned.{Pinned}
 use Rattle.backend_pass.specs.FrameFlushes.{WasWithin}
 use Rattle.buffer_frames.specs.Outside.{shown_count}
 use Rattle.backend_pass.specs.Passes.{NoDeviceFails, PassState}
+
+-- a hit is counted if the block is answered as one
+abbrev pub reading_hits : Result Pinned ReadError → ContextCounts
+reading_hits (Ok pinned) = hit_of (fetched_by pinned.hit)
+reading_hits (Err why) = no_counts
 
 -- what is refused before anything is looked at: a block past the end of its fork, and then one
 -- token too many
@@ -162,6 +171,27 @@ module _ {L G : Type 0} (contents : L → Option Pages) (t : FrameTable L G) whe
     ReadingCalls lane v w (Err (LogShort lsn end)) = GetsNoVictim contents t tag held ring seen c d
         (victim.Flush (flush.Log (log.LogShort lsn end))) v w
 
+    -- what is counted of the tags that victims lost as the block was looked up
+    abbrev pub reading_by : (lane : ℕ) (v w : View) (r : Result Pinned ReadError)
+        → ReadingCalls lane v w r → ContextCounts
+    reading_by lane v w (Ok pinned) x = located_by contents t tag held ring seen c d x
+    reading_by lane v w (Err (PastEnd block blocks)) x = no_counts
+    reading_by lane v w (Err PinsFull) x = no_counts
+    reading_by lane v w (Err (ReadFault failed)) x =
+        located_by contents t tag held ring seen c d x.1.0
+    reading_by lane v w (Err (Unsound failed)) x =
+        located_by contents t tag held ring seen c d x.1.0
+    reading_by lane v w (Err (NoUnpinned frames)) x = missed_by contents t tag held ring seen c d
+        (victim.NoUnpinned frames) v w x
+    reading_by lane v w (Err (WriteFault failed)) x = missed_by contents t tag held ring seen c d
+        (victim.Flush (flush.WriteFault failed)) v w x
+    reading_by lane v w (Err LogFault) x = missed_by contents t tag held ring seen c d
+        (victim.Flush (flush.Log log.LogFault)) v w x
+    reading_by lane v w (Err (LogDown at)) x = missed_by contents t tag held ring seen c d
+        (victim.Flush (flush.Log (log.LogDown at))) v w x
+    reading_by lane v w (Err (LogShort lsn end)) x = missed_by contents t tag held ring seen c d
+        (victim.Flush (flush.Log (log.LogShort lsn end))) v w x
+
   -- No frame was freed for a block, for this reason, once neither its hint nor the map gave one
   pub record LacksFrame (p q : PassState) (why : VictimError) : Type 0 where
     pub missed : View
@@ -203,9 +233,15 @@ module _ {L G : Type 0} (contents : L → Option Pages) (t : FrameTable L G) whe
   ReadingAnswer tag p q (Err why) = (q.tokens ≡ p.tokens) × ReadingRefused tag p q why
 
   -- A block was looked up, with this answer and these calls of devices. The ring, if one was given,
-  -- is `after` now
+  -- is `after` now. In the context of the ring, or of none, a hit is counted if the block is
+  -- answered as one, and each read and write of a lane that was done, and each tag that was taken
+  -- from a victim
   pub record ReadsBlock (tag : Tag) (ring after : Option RingState) (p q : PassState)
       (r : Result Pinned ReadError) : Type 0 where
     pub answer : ReadingAnswer tag p q r
     pub calls : ReadingCalls tag p.tokens (is_some ring) q.hint (choice_state p.queue ring p.census)
         (choice_state q.queue after q.census) (lane_number tag (lanes_in t)) p.view q.view r
+    pub counts : CountsIo (context_of ring) (counts_sum (reading_by tag p.tokens (is_some ring)
+        q.hint (choice_state p.queue ring p.census) (choice_state q.queue after q.census)
+        (lane_number tag (lanes_in t)) p.view q.view r calls) (reading_hits r)) p.view q.view p.io
+        q.io

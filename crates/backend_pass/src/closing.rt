@@ -50,6 +50,7 @@ impl Pass {
             census: _,
             page: _,
             lookups: _,
+            io: _,
         } = backend;
         held.spend();
         (seat.into_seat::<Value<L, G>>(), queue)

@@ -1,8 +1,10 @@
 //! A pass writes the page of a frame.
-ghost use Rattle.std.specs.Prelude.{◌≡◌, true};
+ghost use Rattle.std.specs.Prelude.{◌≡◌, None, true};
 ghost use Rattle.block_tag.specs.Names.{names_block, packed_tag};
 ghost use Rattle.table_rule.specs.Blocks.{has_block, is_block};
 ghost use Rattle.frame_table.specs.Seats.{relations_of};
+ghost use Rattle.io_counts.specs.Counts.{io_with};
+ghost use Rattle.buffer_frames.specs.Counting.{page_written, writes_of};
 ghost use Rattle.backend_pass.specs.Passes.{shown_log, shown_write};
 ghost use Rattle.backend_pass.specs.FrameFlushes.{frame_refusal, page_answer, shown_page};
 ghost use Rattle.backend_pass.specs.FrameFlushes.{shown_unflushed};
@@ -18,6 +20,7 @@ use buffer_frames::FlushedPage;
 use byte_devices::LogDevice;
 use crossbeam_utils::CachePadded;
 use frame_table::FrameTable;
+use io_counts::{IoEvent, Tally};
 use segment_store::BlockLane;
 use std::sync::Wait;
 use wal_flush::FlushLog;
@@ -104,6 +107,18 @@ fn flush_answer(
     }
 }
 
+/// Counts the write of a page, if it was written, without a ring.
+fn count_flush(io: &mut Tally, answer: &Result<bool, FlushError>)
+    ensures { io.new ≡ record io.old {
+      counted = io_with None
+          (writes_of (page_written (page_answer answer.now))) io.old.counted;
+    } }
+{
+    if let Ok(true) = answer {
+        io.count(None, IoEvent::Write);
+    }
+}
+
 impl Pass {
     ghost use Rattle.std.specs.Prelude.{◌≡◌, ◌≢◌, ℕ, false, true, IfErr, IfOk, IsOk};
     ghost use Rattle.block_tag.specs.Names.{lane_number};
@@ -117,7 +132,7 @@ impl Pass {
     ghost use Rattle.backend_pass.specs.Locks.{HasLock};
     ghost use Rattle.backend_pass.specs.Managers.{Belongs};
     ghost use Rattle.backend_pass.specs.Passes.{KeepsCalls, KeepsLocks, KeepsMark, KeepsLookups};
-    ghost use Rattle.backend_pass.specs.Passes.{NoDeviceFails, SamePass};
+    ghost use Rattle.backend_pass.specs.Passes.{CountsWrites, NoDeviceFails, SamePass};
     ghost use Rattle.backend_pass.specs.FrameFlushes.{IsOkOrShort, WasWithin, page_answer};
 
     /// Writes the page of a token's frame if the frame is dirty, after flushing the log up to the
@@ -156,6 +171,9 @@ impl Pass {
         ensures written { IfOk result
             (λ wrote. wrote ≡ true → EndedWritten pinned.now.frame self.old.view self.new.view) }
 
+        // A write that was done is counted, without a ring.
+        ensures counts { CountsWrites self.old self.new }
+
         // It is done if no device fails and the log isn't down, unless the page is past the log's
         // end.
         ensures short { NoDeviceFails self.old self.new → IsOkOrShort result }
@@ -181,6 +199,7 @@ impl Pass {
         );
         return_seat(&mut self.seat, seat);
         let answer = flush_answer(flushed);
+        count_flush(&mut self.backend.io, &answer);
         let shown = self.shown.after_answer(&answer);
         self.shown = CachePadded::new(shown);
         answer

@@ -13,6 +13,7 @@
 
 mod cleanup;
 mod closing;
+mod counting;
 mod errors;
 mod flushing;
 mod locks;

@@ -15,6 +15,7 @@ use block_tag::Catalog;
 use byte_devices::LogDevice;
 use clock_sweep::Sweep;
 use frame_table::{BuildRefused, Config, FrameTable};
+use io_counts::{ByContext, IoCounts};
 use segment_store::BlockLane;
 use std::alloc::Global;
 
@@ -57,8 +58,12 @@ fn refusal(config: &Config, given: usize) -> Option<StartError>
 }
 
 impl<L: BlockLane, G: LogDevice> Manager<L, G> {
+    ghost use Rattle.std.specs.Prelude.{vec_len};
+    ghost use Rattle.io_counts.specs.Additions.{io_counters};
+    ghost use Rattle.io_counts.specs.Sums.{AreAllSmall, io_shown};
     ghost use Rattle.backend_pass.specs.Managers.{AreAll, AreNewPasses, OpenedWith};
     ghost use Rattle.backend_pass.specs.Closing.{ClosesAll};
+    ghost use Rattle.backend_pass.specs.Counts.{io_in_all};
 
     /// Starts a manager of these relations and devices, over a log that begins at `base`, and
     /// returns it with all its passes, in the order of their numbers. A refusal returns the
@@ -136,5 +141,29 @@ impl<L: BlockLane, G: LogDevice> Manager<L, G> {
         let Manager { table, sweep } = self;
         sweep.close(queue);
         table.close(seat)
+    }
+
+    /// Publishes what the passes have counted and not yet published, and closes. With the devices
+    /// come the sums of what the passes have counted, each a number of events, unless a pass's
+    /// count of them stood at its last value. It takes no memory.
+    pub fn close_counted(self, mut passes: Vec<Pass>) -> (Vec<L>, G, IoCounts)
+        requires all { AreAll self passes.items }
+        requires few { vec_len passes ≤ 64 }
+        ensures closes { ClosesAll (devices L.BlockLane G.LogDevice) self.table.table.shared.key
+            passes.items result.0.items result.1 }
+        ensures counts { result.2 ≡ io_shown (io_in_all passes.items) }
+        ensures small { AreAllSmall (io_in_all passes.items) }
+
+        // The table's counters have these sums as it is closed.
+        ensures published { (x : ClosesAll (devices L.BlockLane G.LogDevice)
+            self.table.table.shared.key passes.items result.0.items result.1)
+            × (io_counters x.state.counter ≡ io_in_all passes.items) }
+    {
+        let mut io = ByContext::none();
+        for pass in passes.iter_mut() {
+            pass.sum_up(&self.table, &mut io);
+        }
+        let (lanes, log) = self.close(passes);
+        (lanes, log, io.shown())
     }
 }

@@ -32,8 +32,7 @@ impl Model for Pass {
     ghost use Rattle.std.specs.Prelude.{◌≡◌, ◌≤◌, ◌∷◌, [], vec_capacity};
     ghost use Rattle.crossbeam_utils.specs.Padded.{padded_value};
     ghost use Rattle.buffer_frames.specs.Rests.{OnlyTokens};
-    ghost use Rattle.buffer_frames.specs.Outside.{shown_count};
-    ghost use Rattle.backend_pass.specs.Passes.{IsNumbered, IsShown, PassState, view_in};
+    ghost use Rattle.backend_pass.specs.Passes.{IsCounted, IsNumbered, IsShown, PassState, view_in};
 
     ghost Value = { PassState };
 
@@ -46,17 +45,19 @@ impl Model for Pass {
       census = p.backend.census;
       marked = p.marked.items;
       hint = p.backend.lookups.hint;
+      io = p.backend.io.counted;
     } };
 
     // Its seat has one view, which holds what its tokens say and nothing else. It has room to mark
-    // each frame, and counts the latches of partitions that it took.
+    // each frame, and counts the latches of partitions that it took, and its reads, writes and
+    // victims.
     ghost invariant = { λ p. let v = view_in p.seat.views in
         (p.seat.views ≡ v ∷ [])
         × OnlyTokens p.held v
         × IsNumbered p.number p.seat.id v
         × IsShown v (padded_value p.shown)
         × (p.backend.census.frames ≤ vec_capacity p.marked)
-        × (p.backend.lookups.turns ≡ shown_count v.turns) };
+        × IsCounted v p.backend.lookups.turns p.backend.io };
 }
 
 impl Pass {

@@ -70,6 +70,7 @@ impl Pass {
         ensures lookups { KeepsLookups self.old self.new }
         ensures token { exclusive.new ≡ exclusive.old }
         ensures tokens { self.new.tokens ≡ self.old.tokens }
+        ensures io { self.new.io ≡ self.old.io }
         ensures census { self.new.census ≡ self.old.census }
         ensures locks { KeepsLocks self.old self.new }
         ensures others { (g : ℕ) → g ≢ exclusive.old.pinned.frame

@@ -20,6 +20,7 @@ use buffer_frames::{
 };
 use byte_devices::LogDevice;
 use crossbeam_utils::CachePadded;
+use io_counts::{IoEvent, context_of};
 use segment_store::BlockLane;
 use std::sync::Wait;
 use wal_flush::FlushLog;
@@ -112,6 +113,8 @@ impl Pass {
     ghost use Rattle.buffer_frames.specs.Tokens.{tokens_less, tokens_more, tokens_of};
     ghost use Rattle.buffer_frames.specs.Hinting.{TakesTurns};
     ghost use Rattle.buffer_frames.specs.Outside.{ring_shape, shown_count};
+    ghost use Rattle.io_counts.specs.declared.contexts.IoEvent.TheVariants.{Hit};
+    ghost use Rattle.io_counts.specs.Counts.{context_of, io_with, one_of};
     ghost use Rattle.buffer_frames.specs.declared.hinting.HintSeen.TheVariants.{Unused};
     ghost use Rattle.backend_pass.specs.Managers.{Belongs};
     ghost use Rattle.backend_pass.specs.HintsSeen.{IsUnusedOrHad, ShowsHint, StoresHints};
@@ -217,11 +220,15 @@ impl Pass {
             → (self.new ≡ record self.old { hint = Unused }) × (ring.new ≡ ring.old) }
 
         // A further token of a block that is pinned changes nothing but the count of its tokens,
-        // and the pass's hint, and leaves the ring as it was.
+        // the pass's hint and its count of hits, and leaves the ring as it was.
         ensures again { refused_at_once (relations_of manager.now.table) self.old.tokens tag ≡ None
             → (f : ℕ) → IsPinnedFor tag f self.old.tokens
             → (result ≡ Ok (record { frame = f; tag = tag; hit = true }))
-            × (self.new ≡ record self.old { tokens = tokens_more f self.old.tokens; hint = Unused })
+            × (self.new ≡ record self.old {
+              tokens = tokens_more f self.old.tokens;
+              hint = Unused;
+              io = io_with (context_of ring.old) (one_of Hit) self.old.io;
+            })
             × (ring.new ≡ ring.old) }
 
         // Any other block is looked up.
@@ -291,6 +298,7 @@ impl Pass {
             return self.read_new(manager, rt, &tag, ring);
         };
         self.held.add_token(frame);
+        self.backend.io.count(context_of(ring), IoEvent::Hit);
         Ok(Pinned {
             frame,
             tag,

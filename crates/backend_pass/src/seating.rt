@@ -1,5 +1,6 @@
 //! Passes take their seats.
 ghost use Rattle.std.specs.Prelude.{◌≡◌, ◌≢◌, ◌<◌, ◌≤◌, [], vec_capacity, vec_len};
+ghost use Rattle.io_counts.specs.Counts.{no_io};
 ghost use Rattle.table_rule.specs.Shows.{starting};
 ghost use Rattle.clock_sweep.specs.FreeFrames.{all_parts, kept_part, new_part, queue_view};
 ghost use Rattle.clock_sweep.specs.FreeLists.{IsFreeList, IsOfSweep};
@@ -21,6 +22,7 @@ use byte_devices::LogDevice;
 use clock_sweep::QueuePass;
 use crossbeam_utils::CachePadded;
 use frame_table::Value;
+use io_counts::Tally;
 use pin_core::View;
 use segment_store::BlockLane;
 
@@ -44,6 +46,7 @@ impl Pass {
           census = memory.census;
           marked = [];
           hint = Unused;
+          io = no_io;
         } }
     {
         let PassMemory {
@@ -70,6 +73,7 @@ impl Pass {
                 census,
                 page,
                 lookups,
+                io: Tally::new(),
             },
             marked,
             shown: CachePadded::new(Shown { front: base, met }),
@@ -97,7 +101,7 @@ impl Pass {
         ensures queue { result.queue
             ≡ record self.old.queue { known = new_part self.old.queue.known } }
         ensures fresh { (result.tokens ≡ [])
-            × (result.census ≡ memory.census) × (result.hint ≡ Unused) }
+            × (result.census ≡ memory.census) × (result.hint ≡ Unused) × (result.io ≡ no_io) }
     {
         let mut seat = take_seat::<L, G>(&mut self.seat);
         let other = manager.table.split(&mut seat);

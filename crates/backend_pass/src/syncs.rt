@@ -1,5 +1,7 @@
 //! What a pass does as the background writer, or for a checkpoint.
-ghost use Rattle.std.specs.Prelude.{◌≡◌};
+ghost use Rattle.std.specs.Prelude.{◌≡◌, None};
+ghost use Rattle.io_counts.specs.Counts.{io_with};
+ghost use Rattle.buffer_frames.specs.Counting.{was_written, writes_of};
 ghost use Rattle.backend_pass.specs.FrameFlushes.{frame_answer};
 ghost use Rattle.backend_pass.specs.PassSyncs.{shown_lane_synced, shown_log_flushed, shown_synced};
 
@@ -15,6 +17,7 @@ use byte_devices::{Failed, LogDevice};
 use clock_sweep::hand;
 use crossbeam_utils::CachePadded;
 use frame_table::EndLoad;
+use io_counts::{IoEvent, Tally};
 use page_layout::Lsn;
 use segment_store::BlockLane;
 use std::sync::Wait;
@@ -27,6 +30,18 @@ fn sync_answer(answer: Result<Synced, buffer_frames::FrameFlushError>) -> Result
     match answer {
         Ok(synced) => Ok(synced),
         Err(why) => Err(flush_error(why)),
+    }
+}
+
+/// Counts the write of a frame, if it was written, without a ring.
+fn count_sync(io: &mut Tally, answer: &Result<Synced, FlushError>)
+    ensures { io.new ≡ record io.old {
+      counted = io_with None
+          (writes_of (was_written (frame_answer answer.now))) io.old.counted;
+    } }
+{
+    if let Ok(Synced::Written) = answer {
+        io.count(None, IoEvent::Write);
     }
 }
 
@@ -148,6 +163,7 @@ impl Pass {
         );
         return_seat(&mut self.seat, seat);
         let answer = sync_answer(frames_answer);
+        count_sync(&mut self.backend.io, &answer);
         let shown = self.shown.after_sync(&answer);
         self.shown = CachePadded::new(shown);
         answer

@@ -1,5 +1,5 @@
 -- A lane's latch is taken, the lane goes out and comes back with one call, and the latch is left.
-use Rattle.std.proofs.Common.{◌≡◌, ◌≢◌, ℕ, ◌+◌, Bool, true, false, Some, None, [], List, ◌∷◌, ◌++◌, get_or, sym, refl, ap, ◌∙◌, subst}
+use Rattle.std.proofs.Common.{◌≡◌, ◌≢◌, ℕ, ◌+◌, Bool, true, false, None, [], List, ◌∷◌, ◌++◌, get_or, sym, refl, ap, ◌∙◌, subst}
 use Rattle.std.specs.Prelude.{MatchResult, Option, Result, Ok, Err, ◌||◌}
 use Rattle.std.specs.Result.{is_ok}
 use Rattle.std.proofs.Math.Bool.{or-false}

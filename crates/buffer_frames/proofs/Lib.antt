@@ -15,6 +15,7 @@ pub mod Written
 pub mod Works
 pub mod Answering
 pub mod Noting
+pub mod Counting
 pub mod Trying
 pub mod Locating
 pub mod Unread
@@ -26,3 +27,4 @@ pub mod Bringing
 pub mod HasTags
 pub mod Passing
 pub mod PagesWritten
+pub mod Syncs

@@ -37,7 +37,7 @@ calls_through P v u x w before a after = record { made = a.made; calls = calls_o
 
 -- a ring that a flush of a victim leaves
 pub shape_answered : {L G : Type 0} (contents : L → Option Pages) (t : FrameTable L G) (q : ℕ) (tag : Tag) (f : ℕ) (from_ring : Bool) (before after : Option RingState) (v w : View) (r : Result VictimPage FrameFlushError) → VictimAnswer contents t q tag f from_ring before after v w r → ring_shape after ≡ ring_shape before
-shape_answered contents t q tag f from_ring before after v w (Ok Clean) a = ap ring_shape a.0
+shape_answered contents t q tag f from_ring before after v w (Ok (Clean written)) a = ap ring_shape a.0
 shape_answered contents t q tag f from_ring before after v w (Ok Spared) (locked why sees refuses same calls) = ap ring_shape same
 shape_answered contents t q tag f from_ring before after v w (Ok Spared) (rejected shares r calls) = shape_rejected before after r.ring r.was r.empty
 shape_answered contents t q tag f from_ring before after v w (Err why) a = ap ring_shape a.0

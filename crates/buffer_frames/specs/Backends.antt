@@ -25,9 +25,10 @@ module _ {L G : Type 0} where
     pub counted : b.lookups.turns ≡ shown_count v.turns
 
   -- A backend keeps its pass of the free list, but for what it pushed there and took, its census's
-  -- room, and its count of latches of partitions
+  -- room, and its count of latches of partitions. It publishes none of its counts
   pub record KeepsOwn (t : FrameTable L G) (w : Sweep) (b c : Backend) (v : View) : Type 0 where
     pub queue : IsFreeList t w c.queue
     pub lasts : SameQueue b.queue c.queue
     pub room : c.census.frames ≡ b.census.frames
     pub counted : c.lookups.turns ≡ shown_count v.turns
+    pub published : c.io.published ≡ b.io.published

@@ -39,6 +39,11 @@ use Rattle.buffer_frames.specs.declared.flushing.VictimPage.{VictimPage}
 use Rattle.buffer_frames.specs.declared.flushing.VictimPage.TheVariants.{Clean, Spared}
 use Rattle.buffer_frames.specs.Working.{EndsWork, Made, Within, met_log, met_write}
 
+-- whether a flush wrote the page
+abbrev pub is_written : FlushedPage → Bool
+is_written flush.Written = true
+is_written flush.Clean = false
+
 -- the faults that were met by a write of a lane that was done, or wasn't
 abbrev pub met_lane_write : Bool → FailedCalls → FailedCalls
 met_lane_write true m = m
@@ -220,13 +225,14 @@ module _ {L G : Type 0} (contents : L → Option Pages) (t : FrameTable L G) whe
     pub flush : FlushAnswer q tag f kept w answer
     pub written : answer ≡ Ok Written → EndedWritten f kept w
 
-  -- A victim may be taken: it was clean by the word that was loaded, or it was flushed
+  -- A victim may be taken: it was clean by the word that was loaded, or it was flushed. Its page
+  -- was written, or wasn't
   pub data FreesVictim (q : ℕ) (tag : Tag) (f : ℕ) (from_ring : Bool) (ring : Option RingState)
-      (v w : View) : Type 0 where
-    clean : (word : ℕ) → Did looking f v w word → (fields word).dirty ≡ false
-        → FreesVictim q tag f from_ring ring v w
+      (v w : View) : Bool → Type 0 where
+    clean : (word : ℕ) → Did looking f v w word → (fields word).dirty ≡ false → Made [] v w
+        → FreesVictim q tag f from_ring ring v w false
     flushed : (page : FlushedPage) → FlushesVictim q tag f from_ring ring v w (Ok page)
-        → FreesVictim q tag f from_ring ring v w
+        → FreesVictim q tag f from_ring ring v w (is_written page)
 
   -- A victim is spared: it is dirty, and its content lock was refused, or the ring gave it up
   pub data SparesVictim (f : ℕ) (from_ring : Bool) (before after : Option RingState)
@@ -239,8 +245,8 @@ module _ {L G : Type 0} (contents : L → Option Pages) (t : FrameTable L G) whe
   -- the answer for a victim that has this tag
   abbrev pub VictimAnswer : ℕ → Tag → ℕ → Bool → Option RingState → Option RingState
       → View → View → Result VictimPage FrameFlushError → Type 0
-  VictimAnswer q tag f from_ring before after v w (Ok Clean) = (after ≡ before)
-      × FreesVictim q tag f from_ring before v w
+  VictimAnswer q tag f from_ring before after v w (Ok (Clean written)) = (after ≡ before)
+      × FreesVictim q tag f from_ring before v w written
   VictimAnswer q tag f from_ring before after v w (Ok Spared)
       = SparesVictim f from_ring before after v w
   VictimAnswer q tag f from_ring before after v w (Err why) = (after ≡ before)

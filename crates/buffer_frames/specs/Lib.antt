@@ -16,3 +16,4 @@ pub mod Reads
 pub mod PageReads
 pub mod Puts
 pub mod Syncs
+pub mod Counting

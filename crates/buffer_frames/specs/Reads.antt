@@ -1,7 +1,8 @@
 -- How a block is read.
-use Rattle.std.specs.Prelude.{◌≡◌, ◌⊎◌, ℕ, ◌<◌, Bool, true, Some, List, [], ◌++◌, Option, Result}
-use Rattle.std.specs.Prelude.{Ok, Err}
+use Rattle.std.specs.Prelude.{◌≡◌, ◌⊎◌, ℕ, ◌<◌, Bool, true, Some, List, [], ◌++◌, Option}
+use Rattle.std.specs.Prelude.{Result, Ok, Err}
 use Rattle.std.specs.List.{All}
+use Rattle.access_rings.specs.declared.ring.RingKind.{RingKind}
 use Rattle.block_tag.specs.declared.tag.Tag.{Tag}
 use Rattle.block_tag.specs.Names.{packed_tag}
 use Rattle.segment_store.specs.Contents.{Pages}
@@ -10,6 +11,10 @@ use Rattle.pin_core.specs.declared.view.FailedCalls.{FailedCalls}
 use Rattle.pin_core.specs.declared.view.HintStore.{HintStore}
 use Rattle.pin_core.specs.declared.view.View.{View}
 use Rattle.pin_core.specs.State.{link}
+use Rattle.io_counts.specs.declared.contexts.ByContext.{ByContext}
+use Rattle.io_counts.specs.declared.contexts.ContextCounts.{ContextCounts}
+use Rattle.io_counts.specs.declared.contexts.IoEvent.TheVariants as event
+use Rattle.io_counts.specs.Counts.{counts_sum, no_counts, one_of}
 use Rattle.clock_sweep.specs.CensusList.{CensusList, new_census}
 use Rattle.frame_table.specs.declared.pin.Pin.{Pin}
 use Rattle.frame_table.specs.declared.table.FrameTable.{FrameTable}
@@ -19,17 +24,22 @@ use Rattle.buffer_frames.specs.Rests.{LinksRest}
 use Rattle.buffer_frames.specs.Tokens.{Tokens}
 use Rattle.buffer_frames.specs.declared.hinting.HintSeen.{HintSeen}
 use Rattle.buffer_frames.specs.declared.fetching.FetchError.{FetchError}
+use Rattle.buffer_frames.specs.declared.fetching.FetchError.TheVariants as fetch
+use Rattle.buffer_frames.specs.declared.fetching.FetchedPage.{FetchedPage}
+use Rattle.buffer_frames.specs.declared.fetching.FetchedPage.TheVariants.{Hit, Read}
 use Rattle.buffer_frames.specs.declared.reading.BlockError.{BlockError}
 use Rattle.buffer_frames.specs.declared.reading.BlockError.TheVariants.{NoFrame, Unread}
 use Rattle.buffer_frames.specs.declared.reading.PinnedBlock.{PinnedBlock}
 use Rattle.buffer_frames.specs.declared.victims.VictimError.{VictimError}
+use Rattle.buffer_frames.specs.Counting.{CountsIo}
 use Rattle.buffer_frames.specs.Fetching.{FailsRead, UnreadShows, fetch_calls, met_unread}
 use Rattle.buffer_frames.specs.Hinting.{LeavesHint, SeesHint}
 use Rattle.buffer_frames.specs.Lookups.{LooksUp, SeesNone, UnderPartition}
 use Rattle.buffer_frames.specs.Stages.{Pins}
 use Rattle.buffer_frames.specs.Bringing.{PinsAndStores, PushesNone}
 use Rattle.buffer_frames.specs.VictimChoices.{ChoiceState}
-use Rattle.buffer_frames.specs.Victims.{CensusRefused, VictimRefused, met_victim}
+use Rattle.buffer_frames.specs.Victims.{CensusRefused, VictimRefused, brought_by, met_victim}
+use Rattle.buffer_frames.specs.Victims.{refused_by}
 use Rattle.buffer_frames.specs.Working.{IsFlushCall, Made, WorksAt}
 
 -- Calls of devices were made that a flush makes, and then these
@@ -50,6 +60,22 @@ module _ (n : ℕ) (tag : Tag) (held : Tokens) (ring : Bool) (seen : HintSeen) w
     pub search : UnderPartition tag (SeesNone tag) hinted searched
     pub until : OnlyRises searched w
     pub calls : MadeThen last v w
+
+-- a hit is counted if the page was there already
+abbrev pub hit_of : FetchedPage → ContextCounts
+hit_of Hit = one_of event.Hit
+hit_of Read = no_counts
+
+abbrev pub hits_of : Result PinnedBlock BlockError → ContextCounts
+hits_of (Ok block) = hit_of block.fetched
+hits_of (Err why) = no_counts
+
+-- and what is counted of a fetch: a hit, or the page that a lane gave
+abbrev pub fetch_counts : Result FetchedPage FetchError → ContextCounts
+fetch_counts (Ok Hit) = one_of event.Hit
+fetch_counts (Ok Read) = one_of event.Read
+fetch_counts (Err fetch.Unsound) = one_of event.Read
+fetch_counts (Err fetch.ReadFault) = no_counts
 
 module _ {L G : Type 0} (contents : L → Option Pages) (t : FrameTable L G) where
   -- By a backend whose callers have these pins, and which saw this of the block's hint; the
@@ -86,6 +112,42 @@ module _ {L G : Type 0} (contents : L → Option Pages) (t : FrameTable L G) whe
     ReadCalls lane v w (Err (NoFrame why)) = GetsNoVictim why v w
     ReadCalls lane v w (Err (Unread why)) = (f : ℕ)
         × LocatesUnread why (fetch_calls lane (packed_tag tag) (Err why)) v w f
+
+    -- what is counted of the tags that victims lost as a block was located
+    abbrev pub located_by : {f : ℕ} {last : List DeviceCall} {v w : View} → Locates f last v w
+        → ContextCounts
+    located_by (looked_up pinned looks works calls ticks same) = no_counts
+    located_by (missed m x) = brought_by contents t x
+
+    -- before no frame was freed
+    abbrev pub missed_by : (why : VictimError) (v w : View) → GetsNoVictim why v w → ContextCounts
+    missed_by why v w x = refused_by contents t v x.0.searched c w d why x.2
+
+    -- as it was pinned, or wasn't
+    abbrev pub pinned_by : (v w : View) (r : Result Pin VictimError) → PinAnswer v w r
+        → ContextCounts
+    pinned_by v w (Ok pin) x = located_by x
+    pinned_by v w (Err why) x = missed_by why v w x
+
+    -- as it was read, or wasn't
+    abbrev pub read_by : (lane : ℕ) (v w : View) (r : Result PinnedBlock BlockError)
+        → ReadCalls lane v w r → ContextCounts
+    read_by lane v w (Ok block) x = located_by x
+    read_by lane v w (Err (NoFrame why)) x = missed_by why v w x
+    read_by lane v w (Err (Unread why)) x = located_by x.1.0
+
+    -- A block was pinned, or wasn't, and what was done for it was counted in this context
+    pub record PinsAndCounts (context : Option RingKind) (v w : View) (io io' : ByContext)
+        (r : Result Pin VictimError) : Type 0 where
+      pub pins : PinAnswer v w r
+      pub counts : CountsIo context (pinned_by v w r pins) v w io io'
+
+    -- A block was read, or wasn't, and what was done for it was counted in this context, and
+    -- whether that was a hit
+    pub record ReadsAndCounts (context : Option RingKind) (lane : ℕ) (v w : View)
+        (io io' : ByContext) (r : Result PinnedBlock BlockError) : Type 0 where
+      pub reads : ReadCalls lane v w r
+      pub counts : CountsIo context (counts_sum (read_by lane v w r reads) (hits_of r)) v w io io'
 
 -- The hints that a call stored that pins a block, by its answer: none if no frame was freed
 abbrev pub PinNotes : ℕ → Tag → HintSeen → List HintStore → List HintStore

@@ -1,5 +1,5 @@
 -- How a frame is got for a block: the victims that are chosen, one after another.
-use Rattle.std.specs.Prelude.{◌≡◌, ◌≢◌, ◌⊎◌, ℕ, ◌+◌, ◌<◌, Bool, true, [], length}
+use Rattle.std.specs.Prelude.{◌≡◌, ◌≢◌, ◌⊎◌, ℕ, ◌+◌, ◌<◌, Bool, true, false, [], length}
 use Rattle.std.specs.Prelude.{Option, Some, None, Result, Ok, Err}
 use Rattle.std.specs.List.{All}
 use Rattle.access_rings.specs.RingState.{RingState}
@@ -16,6 +16,9 @@ use Rattle.frame_table.specs.FrameSteps.{Did}
 use Rattle.frame_table.specs.Kinds.{pins}
 use Rattle.frame_table.specs.Seats.{OnlyRises, frames_of, lanes_in, relations_of, tag_word}
 use Rattle.cleanup_lock.specs.Waking.{Woken}
+use Rattle.io_counts.specs.declared.contexts.ContextCounts.{ContextCounts}
+use Rattle.io_counts.specs.declared.contexts.IoEvent.TheVariants.{Eviction, Reuse}
+use Rattle.io_counts.specs.Counts.{counts_sum, no_counts, one_of}
 use Rattle.clock_sweep.specs.declared.held.LockedFrame.{LockedFrame}
 use Rattle.clock_sweep.specs.CensusList.{CensusList, new_census}
 use Rattle.clock_sweep.specs.Choosing.{Chooses, FindsNone, TakesHeader, frame_at_place}
@@ -76,6 +79,11 @@ pub record UnpinsVictim (Work : View → View → Type 0) (f : ℕ) (v w : View)
   pub until : OnlyRises given w
   pub same : searched_of w ≡ searched_of v
 
+-- what is counted of a frame that lost its tag, and came from the ring's current place or didn't
+abbrev pub taken_from : Bool → ContextCounts
+taken_from true = one_of Reuse
+taken_from false = one_of Eviction
+
 -- BM_TAG_VALID and what goes with it was cleared under the header of f, once its tag was erased
 -- (`InvalidateVictimBuffer`)
 abbrev pub ClearsTag : ℕ → View → View → Type 0
@@ -106,7 +114,8 @@ module _ {L G : Type 0} (contents : L → Option Pages) (t : FrameTable L G) whe
       (d : ChoiceState) : Type 0 where
     untagged : {u : View} (from_ring : Bool) → ChoosesVictim (frames_of t) f from_ring v c u d
         → Did (pins kinds.load_tag) f u w (tag_word None) → InvalidatesVictim f v c w d
-    emptied : {u : View} → ChoosesAndFlushes f v c u d (Ok Clean) → Within (ClearsTag f) u w
+    emptied : {u : View} (written : Bool) → ChoosesAndFlushes f v c u d (Ok (Clean written))
+        → Within (ClearsTag f) u w
         → searched_of w ≡ record (searched_of u) { cleared = u.cleared + 1 }
         → InvalidatesVictim f v c w d
 
@@ -116,7 +125,7 @@ module _ {L G : Type 0} (contents : L → Option Pages) (t : FrameTable L G) whe
       (d : ChoiceState) : Type 0 where
     spared : {u : View} → ChoosesAndFlushes f v c u d (Ok Spared) → Woken f u w
         → GivesVictimUp f v c w d
-    in_use : {u : View} → ChoosesAndFlushes f v c u d (Ok Clean)
+    in_use : {u : View} (written : Bool) → ChoosesAndFlushes f v c u d (Ok (Clean written))
         → UnpinsVictim (FindsInUse IsDirtied f) f u w
         → GivesVictimUp f v c w d
     taken : {u : View} → InvalidatesVictim f v c u d → UnpinsVictim (FindsInUse IsAssigned f) f u w
@@ -129,6 +138,25 @@ module _ {L G : Type 0} (contents : L → Option Pages) (t : FrameTable L G) whe
     one_more : {u w : View} {b d : ChoiceState} (f : ℕ) → GivesVictimsUp v c u b
         → GivesVictimUp f u b w d
         → GivesVictimsUp v c w d
+
+  -- what is counted of the tag that such a victim lost: a reuse if the frame came from the ring's
+  -- current place, and else an eviction
+  abbrev pub emptied_by : {f : ℕ} {v : View} {c : ChoiceState} {w : View} {d : ChoiceState}
+      → InvalidatesVictim f v c w d → ContextCounts
+  emptied_by (untagged from_ring chooses loads) = no_counts
+  emptied_by (emptied written x clears same) = taken_from x.from_ring
+
+  -- what is counted of the tags that victims lost which were given up
+  abbrev pub given_up_by : {f : ℕ} {v : View} {c : ChoiceState} {w : View} {d : ChoiceState}
+      → GivesVictimUp f v c w d → ContextCounts
+  given_up_by (spared x wakes) = no_counts
+  given_up_by (in_use written x unpins) = no_counts
+  given_up_by (taken x unpins) = emptied_by x
+
+  abbrev pub tried_by : {v : View} {c : ChoiceState} {w : View} {d : ChoiceState}
+      → GivesVictimsUp v c w d → ContextCounts
+  tried_by none_tried = no_counts
+  tried_by (one_more f before t) = counts_sum (tried_by before) (given_up_by t)
 
   -- After victims that were given up no frame was chosen: a census found each of them pinned, and
   -- has a word of each that shows it. The view pinned just what it pinned at `entry`

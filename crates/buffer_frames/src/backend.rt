@@ -2,11 +2,12 @@
 
 use crate::hinting::Sought;
 use clock_sweep::{Census, QueuePass};
+use io_counts::Tally;
 use page_layout::Page;
 
-/// What a backend works with: its pass of the free list, what it keeps of its look-ups, and room
-/// for a census and for a page. The pins that it has handed out are not among it: calls on one
-/// buffer don't change them.
+/// What a backend works with: its pass of the free list, what it keeps of its look-ups, what it
+/// counts, and room for a census and for a page. The pins that it has handed out are not among it:
+/// calls on one buffer don't change them.
 #[derive(Drop)]
 pub struct Backend {
     /// Its pass of the clock's free list.
@@ -17,4 +18,6 @@ pub struct Backend {
     pub page: Page,
     /// What its last look-up saw of the block's hint, and how many latches of partitions it took.
     pub lookups: Sought,
+    /// What it counts of its reads, writes and victims.
+    pub io: Tally,
 }

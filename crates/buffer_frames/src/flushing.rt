@@ -56,11 +56,26 @@ pub enum FlushedPage {
     Clean,
 }
 
+impl FlushedPage {
+    ghost use Rattle.std.specs.Prelude.{◌≡◌};
+    ghost use Rattle.buffer_frames.specs.Flushing.{is_written};
+
+    /// Whether the page went to its lane.
+    fn is_written(self) -> bool
+        ensures { result ≡ is_written self }
+    {
+        match self {
+            FlushedPage::Written => true,
+            FlushedPage::Clean => false,
+        }
+    }
+}
+
 /// What a flush leaves of a victim that was chosen.
 #[derive(Clone, Copy, PartialEq, Eq, Debug)]
 pub enum VictimPage {
     /// It may be taken: its page was clean, or was written.
-    Clean,
+    Clean { written: bool },
     /// Its content lock was refused, or the ring gave it up: another one is to be chosen.
     Spared,
 }
@@ -369,7 +384,7 @@ pub fn flush_victim<L: BlockLane, G: LogDevice, R: Wait>(
     ensures ended { IfErr result (λ _. EndedInError frame seat.old.me.0 seat.new.me.0) }
 {
     if !has(table.look(seat, frame), Flag::Dirty) {
-        return Ok(VictimPage::Clean);
+        return Ok(VictimPage::Clean { written: false });
     }
     if let Err(_why) = try_share(table, seat, frame) {
         return Ok(VictimPage::Spared);
@@ -380,7 +395,9 @@ pub fn flush_victim<L: BlockLane, G: LogDevice, R: Wait>(
     }
     match flush_shared(table, rt, seat, held, frame, tag, page) {
         // Whether it was written now, or was clean by then, it may be taken.
-        Ok(_written) => Ok(VictimPage::Clean),
+        Ok(flushed) => Ok(VictimPage::Clean {
+            written: flushed.is_written(),
+        }),
         Err(why) => Err(why),
     }
 }

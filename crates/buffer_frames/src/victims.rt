@@ -8,6 +8,7 @@ ghost use Rattle.table_rule.specs.Blocks.{has_block};
 ghost use Rattle.frame_table.specs.FrameSteps.{Did};
 ghost use Rattle.frame_table.specs.Kinds.{pins};
 ghost use Rattle.frame_table.specs.Seats.{frames_of, relations_of, tag_word};
+ghost use Rattle.io_counts.specs.Counts.{context_of, io_with, one_of};
 ghost use Rattle.buffer_frames.specs.Rests.{HasNoLatch, Stands};
 ghost use Rattle.buffer_frames.specs.Tokens.{IsNew};
 ghost use Rattle.buffer_frames.specs.Backends.{IsFurnished, KeepsOwn, choice_of};
@@ -16,8 +17,10 @@ ghost use Rattle.buffer_frames.specs.Hinting.{NotesHint};
 ghost use Rattle.buffer_frames.specs.Keeps.{IsReady, Keeps};
 ghost use Rattle.buffer_frames.specs.Outside.{kept_by_block_reads, outside_of, ring_shape};
 ghost use Rattle.buffer_frames.specs.Stages.{HasVictim};
-ghost use Rattle.buffer_frames.specs.Victims.{CensusClaimed, CensusFreed, ClaimAnswer, FreedAnswer};
-ghost use Rattle.buffer_frames.specs.Victims.{PinsOrRests, met_claimed, met_freed};
+ghost use Rattle.buffer_frames.specs.Counting.{writes_of};
+ghost use Rattle.buffer_frames.specs.VictimChoices.{taken_from};
+ghost use Rattle.buffer_frames.specs.Victims.{CensusClaimed, CensusFreed, ClaimsAndCounts};
+ghost use Rattle.buffer_frames.specs.Victims.{FreesAndCounts, PinsOrRests, met_claimed, met_freed};
 ghost use Rattle.buffer_frames.specs.Working.{Calls, IsFlushCall};
 
 use crate::backend::Backend;
@@ -26,12 +29,13 @@ use crate::entering::{enter_or_pin, give_up};
 use crate::erasing::erase;
 use crate::flushing::{FrameFlushError, VictimPage, flush_victim};
 use crate::pins::HeldPins;
-use access_rings::Ring;
+use access_rings::{Ring, RingKind};
 use atomic_table::Seat;
 use block_tag::Tag;
 use byte_devices::LogDevice;
 use clock_sweep::Sweep;
 use frame_table::{FrameTable, Pin, Value};
+use io_counts::{IoEvent, Tally, context_of};
 use pin_core::View;
 use segment_store::BlockLane;
 use std::sync::Wait;
@@ -79,6 +83,28 @@ fn tag_of_victim<L: BlockLane, G: LogDevice>(
     table.load_tag(seat, frame)
 }
 
+/// Counts the write of a victim's page, if it was written.
+fn count_write(io: &mut Tally, context: Option<RingKind>, written: bool)
+    ensures { io.new
+        ≡ record io.old { counted = io_with context (writes_of written) io.old.counted } }
+{
+    if written {
+        io.count(context, IoEvent::Write);
+    }
+}
+
+/// What the tag that a frame lost counts as. `from_ring` says that the frame stood at the ring's
+/// current place.
+fn event_of(from_ring: bool) -> IoEvent
+    ensures { one_of result ≡ taken_from from_ring }
+{
+    if from_ring {
+        IoEvent::Reuse
+    } else {
+        IoEvent::Eviction
+    }
+}
+
 /// One try to free a frame: chooses a victim and pins it, writes it if it is dirty, and takes its
 /// tag (`GetVictimBuffer`).
 fn make_victim<L: BlockLane, G: LogDevice, R: Wait>(
@@ -96,15 +122,17 @@ fn make_victim<L: BlockLane, G: LogDevice, R: Wait>(
     ensures own { KeepsOwn table.now sweep.now backend.old backend.new seat.new.me.0 }
     ensures unpushed { PushesNone backend.old.queue backend.new.queue }
     ensures ring { ring_shape ring.new ≡ ring_shape ring.old }
-    ensures answer { FreedAnswer L.contents table.now held.now
+    ensures answer { FreesAndCounts L.contents table.now (context_of ring.old) held.now
         seat.old.me.0 (choice_of backend.old ring.old)
-        seat.new.me.0 (choice_of backend.new ring.new) result }
+        seat.new.me.0 (choice_of backend.new ring.new)
+        backend.old.io.counted backend.new.io.counted result }
     ensures census { CensusFreed (frames_of table.now) backend.new.census result }
     ensures met { seat.new.me.0.met ≡ met_freed result seat.old.me.0.met }
     ensures calls { Calls IsFlushCall seat.old.me.0 seat.new.me.0 }
     ensures turns { seat.old.me.0.turns ≤ seat.new.me.0.turns }
     ensures hints { seat.new.me.0.hints ≡ seat.old.me.0.hints }
 {
+    let context = context_of(ring);
     let Chosen { pin, from_ring } = match choose(
         table,
         rt,
@@ -135,7 +163,7 @@ fn make_victim<L: BlockLane, G: LogDevice, R: Wait>(
         ring,
         from_ring,
     ) {
-        Ok(VictimPage::Clean) => {}
+        Ok(VictimPage::Clean { written }) => count_write(&mut backend.io, context, written),
         Ok(VictimPage::Spared) => {
             give_up(table, rt, seat, held, pin);
             return Freed::Again;
@@ -154,6 +182,7 @@ fn make_victim<L: BlockLane, G: LogDevice, R: Wait>(
         &tag,
         &mut backend.lookups.turns,
     ) {
+        backend.io.count(context, event_of(from_ring));
         return Freed::Ready(pin);
     }
     give_up(table, rt, seat, held, pin);
@@ -183,9 +212,10 @@ pub(crate) fn bring_in<L: BlockLane, G: LogDevice, R: Wait>(
     ensures ring { ring_shape ring.new ≡ ring_shape ring.old }
     ensures pinned { PinsOrRests (frames_of table.now) (packed_tag tag) held.now
         seat.new.me.0 result }
-    ensures answer { ClaimAnswer L.contents table.now tag held.now (is_some ring.old)
-        seat.old.me.0 (choice_of backend.old ring.old)
-        seat.new.me.0 (choice_of backend.new ring.new) result }
+    ensures answer { ClaimsAndCounts L.contents table.now (context_of ring.old) tag held.now
+        (is_some ring.old) seat.old.me.0 (choice_of backend.old ring.old)
+        seat.new.me.0 (choice_of backend.new ring.new)
+        backend.old.io.counted backend.new.io.counted result }
     ensures census { CensusClaimed (frames_of table.now) backend.new.census result }
     ensures met { seat.new.me.0.met ≡ met_claimed result seat.old.me.0.met }
     ensures calls { Calls IsFlushCall seat.old.me.0 seat.new.me.0 }

@@ -13,6 +13,7 @@ use Rattle.backend_pass.specs.declared.marked.MarkedFrame.{MarkedFrame}
 use Rattle.backend_pass.specs.Managers.{Belongs}
 use Rattle.backend_pass.specs.Passes.{KeepsCallers, KeepsMark, PassState, SamePass}
 use Rattle.backend_pass.proofs.Seated.{same_on}
+use Rattle.backend_pass.proofs.CountedWrites.{counted_none}
 use Rattle.backend_pass.proofs.Keeping.{callers_none, callers_on, pass_none}
 use Rattle.checkpointer.specs.Stages.{KeepsBackend, MarksFrames, WritesMarked, pages_by}
 use Rattle.checkpointer.proofs.Flushing.{flushes_none, flushes_on, synced_flushes}
@@ -54,6 +55,7 @@ module _ {L G : Type 0} (contents : L → Option Pages) (m : Manager L G) where
         torn = refl;
         unentered = refl;
         lookups = record { hint = refl; turns = refl; stores = refl; queue = refl; ticks = refl };
+        io = counted_none p (record p { marked = marked }) refl refl refl;
       };
     };
     mark = refl;

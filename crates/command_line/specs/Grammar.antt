@@ -1,6 +1,7 @@
 -- The command line as clap reads it: a simple command with one level of subcommands.
 use Rattle.std.specs.Prelude.{true, [], ◌∷◌, Some, codes}
 use Rattle.clap.specs.Words.{App, Rule, Text, new_app, new_rule, with_rule, with_subcommand}
+use Rattle.clap.specs.declared.builder.action.ArgAction.TheVariants.{SetTrue}
 use Rattle.clap.specs.declared.builder.value_parser.ValueParser.TheVariants as parser
 use Rattle.command_line.specs.Numbers.{NumberRange, backends_range, bgwriter_range, blocks_range}
 use Rattle.command_line.specs.Numbers.{frames_range, lanes_range, seed_range, segment_blocks_range}
@@ -26,6 +27,13 @@ option_rule range default = record (new_rule range.name) {
 abbrev pub log_rule : Rule
 log_rule = record (text_rule (codes "log")) { long = Some (codes "log") }
 
+-- `--stats`, a flag
+abbrev pub stats_rule : Rule
+stats_rule = record (new_rule (codes "stats")) {
+  long = Some (codes "stats");
+  action = Some SetTrue;
+}
+
 -- the options of a command with a buffer manager, with their defaults
 unfoldable pub with_options : App → App
 with_options app =
@@ -35,9 +43,10 @@ with_options app =
     let d = with_rule c (option_rule segment_blocks_range (codes "131072")) in
     with_rule d (option_rule bgwriter_range (codes "0"))
 
--- `scan PATH` and `dump PATH`
+-- `scan PATH` and `dump PATH`, which alone take the flag
 abbrev pub path_app : Text → App
-path_app name = with_options (with_rule (new_app name) (text_rule (codes "path")))
+path_app name =
+    with_options (with_rule (with_rule (new_app name) (text_rule (codes "path"))) stats_rule)
 
 -- `rewrite PATH --log FILE`
 abbrev pub rewrite_app : App

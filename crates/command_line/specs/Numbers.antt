@@ -1,6 +1,6 @@
 -- The numbers that a command takes, with their ranges.
-use Rattle.std.specs.Prelude.{ℕ, ◌≤◌, List, Option, Some, None, codes, option_and_then}
-use Rattle.std.specs.Prelude.{if◌then◌else◌}
+use Rattle.std.specs.Prelude.{ℕ, ◌≤◌, ◌==◌, Bool, ◌&&◌, List, Option, Some, None, codes}
+use Rattle.std.specs.Prelude.{option_and_then, if◌then◌else◌}
 use Rattle.std.specs.Str.Parse.{digits_value, without_leading_plus}
 use Rattle.clap.specs.ValueTests.{is_unsigned_in}
 use Rattle.clap.specs.Words.{Row, Text, first_of}
@@ -69,6 +69,10 @@ options_in rows =
 
 abbrev pub LiesIn : NumberRange → ℕ → Type 0
 LiesIn range n = (range.least ≤ n) × (n ≤ range.greatest)
+
+-- one backend does the work, and no background writer makes rounds
+abbrev pub is_alone : Options → Bool
+is_alone o = o.backends == 1 && o.rounds == 0
 
 -- each option lies in its range
 pub record HasOptionsInRange (o : Options) : Type 0 where

@@ -14,6 +14,8 @@ pub record ListingAsked : Type 0 where
   pub path : List ℕ
   pub options : Options
   pub listing : Listing
+  -- whether its I/O counts are asked for
+  pub stats : Bool
 
 -- a command on the relation at a path with a log at another: a rewrite, or a recovery
 pub record LoggedAsked : Type 0 where
@@ -34,7 +36,12 @@ pub data Asked : Type 0 where
   sampling : SampleAsked → Asked
 
 abbrev pub listing_asked : ListRequest → ListingAsked
-listing_asked l = record { path = l.path.now; options = l.options; listing = l.listing }
+listing_asked l = record {
+  path = l.path.now;
+  options = l.options;
+  listing = l.listing;
+  stats = l.stats;
+}
 
 abbrev pub rewrite_asked : RewriteRequest → LoggedAsked
 rewrite_asked r = record { path = r.path.now; log = r.log.now; options = r.options }

@@ -1,6 +1,7 @@
 -- What words ask for.
-use Rattle.std.specs.Prelude.{List, Option, Some, None, codes, map, option_and_then, option_map}
-use Rattle.std.specs.Prelude.{string_bytes, if◌then◌else◌}
+use Rattle.std.specs.Prelude.{Bool, false, not, ◌&&◌, List, Option, Some, None, codes, map}
+use Rattle.std.specs.Prelude.{option_and_then, option_map, string_bytes, if◌then◌else◌}
+use Rattle.std.specs.Option.{option_map_or}
 use Rattle.std.specs.Str.{bytes_eq}
 use Rattle.std.specs.declared.string.String.{String}
 use Rattle.clap.specs.Words.{Row, Text, fault_of, first_of, subcommand_of}
@@ -10,7 +11,7 @@ use Rattle.command_line.specs.declared.numbers.Options.{Options}
 use Rattle.command_line.specs.declared.request.Listing.{Listing}
 use Rattle.command_line.specs.declared.request.Listing.TheVariants.{Scan, Dump}
 use Rattle.command_line.specs.RelationPath.{is_main_fork, is_relation_path}
-use Rattle.command_line.specs.Numbers.{blocks_range, lanes_range, number_in, options_in}
+use Rattle.command_line.specs.Numbers.{blocks_range, is_alone, lanes_range, number_in, options_in}
 use Rattle.command_line.specs.Numbers.{seed_range, segment_blocks_range}
 use Rattle.command_line.specs.Grammar.{tool_app}
 use Rattle.command_line.specs.Request.{Asked, listing, recover_options, recovering, rewriting}
@@ -34,11 +35,21 @@ log_in path rows =
     option_and_then (λ log. if is_file_of path log then None else Some log)
     (first_of (codes "log") rows)
 
--- a scan or a dump
+-- whether the flag `--stats` is among the matches: its value is true, which by default it isn't
+abbrev pub stats_in : List Row → Bool
+stats_in rows = option_map_or (λ text. bytes_eq text (codes "true")) (first_of (codes "stats") rows)
+    false
+
+-- a scan or a dump; the counts are asked for only of one backend that is alone
 abbrev pub list_in : Listing → List Row → Options → Option Asked
 list_in what rows options =
-    option_map (λ path. listing (record { path = path; options = options; listing = what }))
-    (relation_path_in rows)
+    if stats_in rows && not (is_alone options) then None
+    else option_map (λ path. listing (record {
+      path = path;
+      options = options;
+      listing = what;
+      stats = stats_in rows;
+    })) (relation_path_in rows)
 
 abbrev pub rewrite_in : List Row → Options → Option Asked
 rewrite_in rows options =

@@ -9,12 +9,12 @@ ghost use Rattle.clap.specs.declared.builder.command.Command.TheViews.{out-Comma
 ghost use Rattle.clap.specs.Simple.{subcommand_rows_of};
 ghost use Rattle.command_line.specs.Grammar.{bare_app, log_rule, number_rule, option_rule};
 ghost use Rattle.command_line.specs.Grammar.{path_app, recover_app, rewrite_app, sample_app};
-ghost use Rattle.command_line.specs.Grammar.{text_rule, tool_app, with_options};
+ghost use Rattle.command_line.specs.Grammar.{stats_rule, text_rule, tool_app, with_options};
 ghost use Rattle.command_line.specs.Numbers.{range_of};
 
 use crate::numbers::{BACKENDS, BGWRITER, BLOCKS, FRAMES, LANES, NumberArg, SEED, SEGMENT_BLOCKS};
 use clap::builder::ValueParser;
-use clap::{Arg, ArgMatches, Command, Error};
+use clap::{Arg, ArgAction, ArgMatches, Command, Error};
 use std::alloc::{AllocError, Global};
 
 /// A text that has to stand in its place.
@@ -55,6 +55,16 @@ fn log_option<'a>(alloc: Global) -> Arg<'a>
     text_arg(alloc, "log").long("log")
 }
 
+/// `--stats`, a flag.
+fn stats_flag<'a>(alloc: Global) -> Arg<'a>
+    ensures rule { rule_of result ≡ stats_rule }
+    ensures local { result.global ≡ false }
+{
+    Arg::new(alloc, "stats")
+        .long("stats")
+        .action(ArgAction::SetTrue)
+}
+
 /// The command with one option more, a number.
 fn with_option<'a>(
     alloc: Global,
@@ -84,13 +94,14 @@ fn with_options<'a>(alloc: Global, command: Command<'a>) -> Result<Command<'a>, 
     with_option(alloc, command, BGWRITER, "0")
 }
 
-/// A command with a path: `scan PATH` and `dump PATH`.
+/// A command with a path, and with the flag: `scan PATH` and `dump PATH`.
 fn path_command<'a>(alloc: Global, name: &'a str) -> Result<Command<'a>, AllocError>
     ensures app { IfOk result (λ c. app_of c ≡ path_app name.now) }
     ensures local { IfOk result (λ c. (fields_of c).has_globals ≡ false) }
 {
-    let path = text_arg(alloc, "path");
-    let command = Command::new(alloc, name).arg(path)?;
+    let command = Command::new(alloc, name)
+        .arg(text_arg(alloc, "path"))?
+        .arg(stats_flag(alloc))?;
     with_options(alloc, command)
 }
 

@@ -1,8 +1,8 @@
 //! The numbers that a command takes, with their ranges.
 ghost use Rattle.std.specs.Prelude.{◌≡◌, IfSome, option_map};
 ghost use Rattle.clap.specs.Words.{first_of, found_of, rows_of};
-ghost use Rattle.command_line.specs.Numbers.{HasOptionsInRange, LiesIn, number_in, number_of};
-ghost use Rattle.command_line.specs.Numbers.{options_in, range_of};
+ghost use Rattle.command_line.specs.Numbers.{HasOptionsInRange, LiesIn, is_alone, number_in};
+ghost use Rattle.command_line.specs.Numbers.{number_of, options_in, range_of};
 
 use clap::ArgMatches;
 
@@ -74,6 +74,15 @@ pub struct Options {
 
     /// How many rounds the background writer makes, 0 to 1000: `--bgwriter`, or 0.
     pub rounds: u32,
+}
+
+impl Options {
+    /// Whether one backend does the work, and no background writer makes rounds.
+    pub(crate) fn is_alone(self) -> bool
+        ensures { result ≡ is_alone self }
+    {
+        self.backends == 1 && self.rounds == 0
+    }
 }
 
 /// The text among the matches.

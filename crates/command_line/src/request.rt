@@ -24,6 +24,8 @@ pub struct ListRequest<'a> {
     pub fork: Fork,
     pub options: Options,
     pub listing: Listing,
+    /// Whether the I/O counts are printed at the end: `--stats`.
+    pub stats: bool,
     pub ghost numbered: { relation_number path.now ≡ Some number },
     pub ghost forked: { fork_of path.now ≡ fork },
 }

@@ -10,6 +10,7 @@ ghost use Rattle.command_line.specs.Request.{HasSampleSize, asked, options_of};
 ghost use Rattle.command_line.specs.Spelled.{list_in, log_in, main_path_in, recover_in};
 ghost use Rattle.command_line.specs.Spelled.{relation_path_in, request_in, request_named};
 ghost use Rattle.command_line.specs.Spelled.{request_of_subcommand, rewrite_in, sample_in};
+ghost use Rattle.command_line.specs.Spelled.{stats_in};
 
 use crate::grammar::parse;
 use crate::numbers::{
@@ -63,7 +64,17 @@ fn log_in<'a>(path: &str, matches: &ArgMatches<'a>) -> Option<&'a str>
     }
 }
 
-/// `scan` or `dump` among the matches.
+/// Whether the flag `--stats` is among the matches.
+fn stats_in(matches: &ArgMatches) -> bool
+    ensures { result ≡ stats_in (rows_of (found_of matches.now)) }
+{
+    match text_in(matches, "stats") {
+        Some(text) => text == "true",
+        None => false,
+    }
+}
+
+/// `scan` or `dump` among the matches. The counts are asked for only of one backend that is alone.
 fn list_in<'a>(matches: &ArgMatches<'a>, options: Options, listing: Listing) -> Option<Request<'a>>
     requires { HasOptionsInRange options }
     ensures asked { option_map asked result
@@ -71,6 +82,10 @@ fn list_in<'a>(matches: &ArgMatches<'a>, options: Options, listing: Listing) -> 
     ensures range { IfSome result (λ r. HasOptionsInRange (options_of (asked r))) }
     ensures size { IfSome result (λ r. HasSampleSize (asked r)) }
 {
+    let stats = stats_in(matches);
+    if stats && !options.is_alone() {
+        return None;
+    }
     let (path, number) = relation_path_in(matches)?;
     Some(Request::List(ListRequest {
         path,
@@ -78,6 +93,7 @@ fn list_in<'a>(matches: &ArgMatches<'a>, options: Options, listing: Listing) -> 
         fork: fork_of_path(path),
         options,
         listing,
+        stats,
     }))
 }
 

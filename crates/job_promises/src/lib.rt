@@ -4,7 +4,9 @@
 #![tactic(auto)]
 
 mod commands;
+mod counts;
 mod jobs;
 
 pub use commands::{list_file, rewrite_file};
+pub use counts::scan_counts;
 pub use jobs::{dump_blocks, rewrite_blocks, scan_blocks};

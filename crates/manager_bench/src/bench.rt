@@ -7,6 +7,7 @@ ghost use Rattle.manager_bench.specs.Bench.{IsFree, IsFreeIn};
 use backend_pass::{Config, Manager, Pass, StartRefused};
 use block_tag::{Catalog, CatalogError, Fork, RelEntry, RelNo, Tag};
 use byte_devices::LogDevice;
+use io_counts::IoCounts;
 use segment_store::BlockLane;
 use std::alloc::{AllocError, Global};
 use test_devices::{TestLane, TestLog};
@@ -111,14 +112,15 @@ pub fn start(
     start_over(alloc, 16, catalog, lanes, log, base)
 }
 
-/// The manager is closed. `passes` is empty, with room for its three.
-pub fn close<L: BlockLane, G: LogDevice>(
+/// The manager is closed, with the sums of what its passes counted. `passes` is empty, with room
+/// for its three.
+pub fn close_counted<L: BlockLane, G: LogDevice>(
     manager: Manager<L, G>,
     first: Pass,
     second: Pass,
     third: Pass,
     mut passes: Vec<Pass>,
-) -> (Vec<L>, G)
+) -> (Vec<L>, G, IoCounts)
     requires first { IsFree L.contents manager 0 first }
     requires second { IsFree L.contents manager 1 second }
     requires third { IsFree L.contents manager 2 third }
@@ -127,5 +129,22 @@ pub fn close<L: BlockLane, G: LogDevice>(
     passes.push_reserved(third);
     passes.push_reserved(first);
     passes.push_reserved(second);
-    manager.close(passes)
+    manager.close_counted(passes)
+}
+
+/// The manager is closed.
+pub fn close<L: BlockLane, G: LogDevice>(
+    manager: Manager<L, G>,
+    first: Pass,
+    second: Pass,
+    third: Pass,
+    passes: Vec<Pass>,
+) -> (Vec<L>, G)
+    requires first { IsFree L.contents manager 0 first }
+    requires second { IsFree L.contents manager 1 second }
+    requires third { IsFree L.contents manager 2 third }
+    requires room { (passes.items ≡ []) × (3 ≤ vec_capacity passes) }
+{
+    let (lanes, log, _io) = close_counted(manager, first, second, third, passes);
+    (lanes, log)
 }

@@ -54,7 +54,7 @@ done_met (Ok a) end F ok met = subst (λ (e : Result Unit JobError). OnOk e F) o
 done_met (Err e) end F ok met = tt
 
 module _ {L G : Type 0} (contents : L → Option Pages) (m : Manager L G) where
-  beside_none : (p : PassState) → Belongs contents m p → WorksBeside contents m p p
+  pub beside_none : (p : PassState) → Belongs contents m p → WorksBeside contents m p p
   beside_none p b = record { belongs = b; same = same_none p; callers = callers_none p; mark = refl }
 
   -- where no work began

@@ -15,6 +15,8 @@ use Rattle.pin_core.specs.declared.view.Call.TheVariants.{Read}
 use Rattle.pin_core.specs.declared.view.FailedCalls.{FailedCalls}
 use Rattle.pin_core.specs.State.{Page}
 use Rattle.frame_table.proofs.Rising.{rises_on}
+use Rattle.io_counts.specs.Found.{FoundMore}
+use Rattle.io_counts.proofs.Found.{found_none, found_on}
 use Rattle.buffer_frames.specs.Tokens.{no_tokens}
 use Rattle.backend_pass.specs.declared.manager.Manager.{Manager}
 use Rattle.backend_pass.specs.Passes.{PassState}
@@ -125,6 +127,7 @@ module _ {L G : Type 0} (contents : L → Option Pages) (m : Manager L G) (rel :
     pub totals_is : u ≡ sum_of_totals t (reads_totals printed)
     pub counts : IsWithin u u.blocks
     pub done : OnOk end ((unprinted ≡ []) × (length printed ≡ length blocks) × (q.view.met ≡ p.view.met))
+    pub found : OnOk end (FoundMore (length blocks) p.io q.io)
     pub cause : IfErr end (EndsFor contents m rel fork p q)
 
   pub listed : (lines : Lines) (bs : List ℕ) (p q : PassState) (text text' : List ℕ) (t u : ScanTotals) (end : Result Unit JobError) → (d : ListsBlocks contents m rel fork lines bs p q text text' t u end) → HasListed bs p q d.printed d.unprinted t u end
@@ -137,6 +140,7 @@ module _ {L G : Type 0} (contents : L → Option Pages) (m : Manager L G) (rel :
     totals_is = d.totals_is;
     counts = d.counts;
     done = d.done;
+    found = d.found;
     cause = d.cause;
   }
 
@@ -155,6 +159,7 @@ module _ {L G : Type 0} (contents : L → Option Pages) (m : Manager L G) (rel :
     totals_is = d.totals_is;
     counts = d.counts;
     done = d.done;
+    found = d.found;
     cause = d.cause;
   }
 
@@ -173,6 +178,7 @@ module _ {L G : Type 0} (contents : L → Option Pages) (m : Manager L G) (rel :
     totals_is = sym (none_sum t);
     counts = within;
     done = (refl, refl, refl);
+    found = found_none p.io;
     cause = tt;
   }
 
@@ -190,6 +196,7 @@ module _ {L G : Type 0} (contents : L → Option Pages) (m : Manager L G) (rel :
     totals_is = d.totals_is;
     counts = d.counts;
     done = tt;
+    found = tt;
     cause = inl (refl, d.done.2);
   }
 
@@ -228,6 +235,7 @@ module _ {L G : Type 0} (contents : L → Option Pages) (m : Manager L G) (rel :
         totals_is = totals_joined t u v rs ss a.totals_is b.totals_is;
         counts = b.counts;
         done = on_ok_weaker end (λ d. (d.0, (let l = length-append rs ss in let k = length-append bs cs in let x = d.1 in omega (arith, l, k, x, whole)), d.2 ∙ a.done.2)) b.done;
+        found = on_ok_weaker end (λ (f : FoundMore (length cs) q.io r.io). subst (λ (n : ℕ). FoundMore n p.io r.io) (sym (length-append bs cs)) (found_on (length bs) (length cs) p.io q.io r.io a.found f)) b.found;
         cause = IfErr-weaker end (EndsFor contents m rel fork q r) (EndsFor contents m rel fork p r) (λ e. meets_after p q r e a.stays a.done.2) b.cause;
       }
 
@@ -255,6 +263,7 @@ module _ {L G : Type 0} (contents : L → Option Pages) (m : Manager L G) (rel :
         totals_is = a.totals_is;
         counts = a.counts;
         done = tt;
+        found = tt;
         cause = a.cause;
       }
 
@@ -291,9 +300,9 @@ module _ {L G : Type 0} (contents : L → Option Pages) (m : Manager L G) (rel :
   summary_of_one Unsound page front = refl
 
   -- the block was read, and printed
-  pub block_done : (lines : Lines) (block : ℕ) (p q : PassState) (found : PageRead) (page : Page) (text text' : List ℕ) (t u : ScanTotals) → HasNoTokens contents m p → CopiesOrFindsUnsound contents m (tag_of_parts rel fork block) page p q found
+  pub block_done : (lines : Lines) (block : ℕ) (p q : PassState) (found : PageRead) (page : Page) (text text' : List ℕ) (t u : ScanTotals) → HasNoTokens contents m p → CopiesOrFindsUnsound contents m (tag_of_parts rel fork block) page p q found → FoundMore 1 p.io q.io
       → text' ≡ text ++ found_lines lines block found page → u ≡ counted t (found_summary found page) → IsWithin u u.blocks → ListsBlocks contents m rel fork lines (block ∷ []) p q text text' t u (Ok tt)
-  block_done lines block p q found page text text' t u free reads line total within = let o = one_read block p q found page free reads in let r = read_found found page q.view.front in record {
+  block_done lines block p q found page text text' t u free reads more line total within = let o = one_read block p q found page free reads in let r = read_found found page q.view.front in record {
     stays = o.stays;
     spent = o.spent;
     printed = r ∷ [];
@@ -305,6 +314,7 @@ module _ {L G : Type 0} (contents : L → Option Pages) (m : Manager L G) (rel :
     totals_is = total ∙ counted-is t (found_summary found page) ∙ ap (λ (s : PageSummary). sum_of_totals t (totals_of_summaries (s ∷ []))) (summary_of_one found page q.view.front);
     counts = within;
     done = (refl, refl, o.met);
+    found = more;
     cause = tt;
   }
 
@@ -323,6 +333,7 @@ module _ {L G : Type 0} (contents : L → Option Pages) (m : Manager L G) (rel :
     totals_is = total ∙ sym (none_sum t);
     counts = subst (λ (x : ScanTotals). IsWithin x x.blocks) (sym total) within;
     done = tt;
+    found = tt;
     cause = inl (refl, o.met);
   }
 
@@ -341,5 +352,6 @@ module _ {L G : Type 0} (contents : L → Option Pages) (m : Manager L G) (rel :
     totals_is = sym (none_sum t);
     counts = within;
     done = tt;
+    found = tt;
     cause = inr record { block = block; inside = inside; why = s.why; fault = s.fault; before = x.before; since = x.since; refused = x.refused; last = x.last; met = x.met };
   }

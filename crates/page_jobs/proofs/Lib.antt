@@ -1,5 +1,6 @@
 mod Staying
 mod Blocks
+mod FoundReads
 mod Sums
 mod BlockWork
 pub mod Deals
@@ -13,6 +14,7 @@ mod Delivered
 mod Ascending
 pub mod BesideWork
 mod Texts
+mod FoundPasses
 mod Whole
 pub mod Origin
 mod ListedForks

@@ -13,6 +13,7 @@ use Rattle.segment_store.specs.Contents.{Pages}
 use Rattle.text_window.specs.declared.shares.Shares.{Shares}
 use Rattle.text_window.specs.Shares.{HoldsParts, KeepsParts}
 use Rattle.text_window.specs.Texts.{Job}
+use Rattle.io_counts.specs.Found.{FoundMore}
 use Rattle.backend_pass.specs.declared.manager.Manager.{Manager}
 use Rattle.backend_pass.specs.Passes.{PassState}
 use Rattle.page_jobs.specs.declared.ending.JobError.{JobError}
@@ -268,6 +269,7 @@ module _ {L G N A : Type 0} (contents : L → Option Pages) (m : Manager L G) (r
     pub counts : IsWithin l.printed.totals l.printed.totals.blocks
     pub few : l.printed.totals.blocks ≤ length c.items
     pub done : OnOk end ((CoversAll (blocks_in m rel fork) c × (l.printed.totals ≡ reads_totals c.items) × (q.view.met ≡ p.view.met)) × (1 ≤ total (past_weight (chunk_count (blocks_in m rel fork))) drawn))
+    pub found : OnOk end (FoundMore (length (blocks_in_all (blocks_in m rel fork) c.chunks)) p.io q.io)
     pub cause : IfErr end (EndsFor contents m rel fork p q)
     pub parts : (l.shares.delivered.parts ≡ 1) × (l.shares.above.parts ≡ 1)
     pub above : q.view.front ≤ base → l.shares.above.amount ≡ 0
@@ -313,6 +315,7 @@ module _ {L G N A : Type 0} (contents : L → Option Pages) (m : Manager L G) (r
         few = let t = ap (λ (u : ScanTotals). u.blocks) totals ∙ totals_long rs in omega (arith, t, long);
         done = done_both (CoversAll blocks c × (l.printed.totals ≡ reads_totals (rs ++ ss)) × (q.view.met ≡ p.view.met)) (1 ≤ total (past_weight (chunk_count blocks)) drawn) end
             (on_ok_weaker end (λ x. let all : rs ++ ss ≡ rs = ap (λ (s : List BlockRead). rs ++ s) x.0 ∙ append-nil rs in (ap (λ (s : List BlockRead). length s) all ∙ x.1, totals ∙ ap reads_totals (sym all), x.2)) d.done) past;
+        found = d.found;
         cause = d.cause;
         parts = h.shares.parts;
         above = h.shares.above;

@@ -28,7 +28,7 @@ use Rattle.page_jobs.specs.Chunks.{Claimed, chunk_count}
 use Rattle.page_jobs.specs.ChunkTexts.{IsChunkText, OpensText}
 use Rattle.page_jobs.specs.Dealt.{AllDone, AnyEnds, HasRun, HaveJoined, PutsAll, PutsEnd, PutsNoEnd, TotalsAreInRange, job_totals}
 use Rattle.page_jobs.specs.Ending.{as_done, totals_of_scan}
-use Rattle.page_jobs.specs.Jobs.{AllAtBase, EndsJob, HaveNoTokens, IsOrigin, PutsTexts, ReadParts, ReadsAll, workers_in}
+use Rattle.page_jobs.specs.Jobs.{AllAtBase, EndsJob, FoundMoreIn, HaveNoTokens, IsOrigin, PutsTexts, ReadParts, ReadsAll, workers_in}
 use Rattle.page_jobs.specs.Listings.{IsListed}
 use Rattle.page_jobs.specs.Parts.{blocks_in}
 use Rattle.page_jobs.specs.Printed.{BlockRead, text_of_pages}
@@ -42,7 +42,7 @@ use Rattle.page_jobs.proofs.ListedChunks.{DoLists, HaveLists, closes_text, do_li
 use Rattle.page_jobs.proofs.Origin.{text_of_origin, text_of_some, totals_of_origin}
 use Rattle.page_jobs.proofs.Sums.{within_none}
 use Rattle.page_jobs.proofs.Texts.{PutsSome, put_nothing, puts_all, puts_some, stopped_at}
-use Rattle.page_jobs.proofs.Whole.{DrewOnce, all_claimed, all_counted, all_few, job_cause, job_done, passes_long, passes_of, puts_texts, read_parts, unread_parts, unread_puts, workers_long}
+use Rattle.page_jobs.proofs.Whole.{DrewOnce, all_claimed, all_counted, all_few, job_cause, job_done, job_found, passes_long, passes_of, puts_texts, read_parts, unread_parts, unread_puts, workers_long}
 
 -- a count that rose is at least what it was
 pub rose_later : (before now : ℕ) → before < 18446744073709551616 → Rose before now → before ≤ now
@@ -89,6 +89,7 @@ module _ {L G : Type 0} (contents : L → Option Pages) (m : Manager L G) (rel :
         met = tt;
         beside = tt;
         done = tt;
+        found = tt;
         puts = unread_puts contents m rel fork lines (workers_in all) place old new e free_workers low put;
         totals = λ pages origin at. tt;
         text = text;
@@ -312,6 +313,7 @@ module _ {L G : Type 0} (contents : L → Option Pages) (m : Manager L G) (rel :
             met = job_met contents m all qs h.before (passes_of xs) h.last ran.last h.split back long r (reads_met contents m rel fork h.before (passes_of xs) r whole) (done_met r ran.beside_end (ran.last.view.met ≡ h.last.view.met) beside_well h.beside.met);
             beside = last_did contents m all qs h.before (passes_of xs) h.last ran.last h.split back long did r (done_met r ran.beside_end (did h.last ran.last) beside_well h.did_beside);
             done = of_workers (λ a b. IfOk r (ReadsAll contents m rel fork a b)) whole;
+            found = of_workers (λ a b. OnOk r (FoundMoreIn (blocks_in m rel fork) a b)) (job_found contents m rel fork base lines h.before xs cs r some_work d once done);
             puts = of_workers (λ a b. PutsTexts contents m rel fork lines a b old new r) (puts_texts contents m rel fork base lines h.before xs cs finished.place old new r d once done is_total low puts_them);
             totals = λ pages origin at. totals_of_origin contents m rel fork base lines h.before xs cs pages d named origin (subst (AllAtBase (base_of m.table)) after at) r some_work once done is_total;
             text = λ pages origin at. let at_xs = subst (AllAtBase (base_of m.table)) after at in text_of_origin contents m rel fork base lines h.before xs cs pages d named origin at_xs finished.place (low at_xs) old new r some_work once done puts_them;

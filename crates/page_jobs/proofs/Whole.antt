@@ -6,6 +6,7 @@ use mathlib.Core.Option.{some, some-injective, some-ne-none}
 use lib.ListN.{get_elem?}
 use Rattle.grid.specs.Shape.{total}
 use Rattle.chunk_claims.specs.Claims.{past_weight, sum_below}
+use Rattle.chunk_claims.proofs.Weights.{sum_ones}
 use Rattle.block_tag.specs.declared.tag.Fork.{Fork}
 use Rattle.byte_devices.specs.Faults.{Rose}
 use Rattle.page_layout.specs.declared.scan.ScanTotals.{ScanTotals}
@@ -13,6 +14,7 @@ use Rattle.page_layout.specs.Scan.{sum_of_totals}
 use Rattle.segment_store.specs.Contents.{Pages}
 use Rattle.text_window.specs.Texts.{IsTextBy}
 use Rattle.frame_table.specs.Seats.{base_of}
+use Rattle.io_counts.specs.Found.{FoundMore}
 use Rattle.backend_pass.specs.declared.manager.Manager.{Manager}
 use Rattle.backend_pass.specs.Passes.{PassState}
 use Rattle.page_jobs.specs.declared.ending.JobError.{JobError}
@@ -21,7 +23,7 @@ use Rattle.page_jobs.specs.declared.ending.Totals.{Totals}
 use Rattle.page_jobs.specs.declared.printing.Lines.{Lines}
 use Rattle.page_jobs.specs.declared.listing.Lister.{Lister}
 use Rattle.page_jobs.specs.declared.working.Worker.{Worker}
-use Rattle.page_jobs.specs.Chunks.{AreAllClaimed, Claimed, CoversAll, chunk_count, items_in_all}
+use Rattle.page_jobs.specs.Chunks.{AreAllClaimed, Claimed, CoversAll, blocks_in_all, chunk_count, items_in_all}
 use Rattle.page_jobs.specs.ChunkTexts.{IsChunkText}
 use Rattle.page_jobs.specs.Ending.{as_done, totals_of_scan}
 use Rattle.page_jobs.specs.Printed.{BlockRead, reads_totals, totals_line}
@@ -30,9 +32,10 @@ use Rattle.page_jobs.specs.Relations.{MeetNothing}
 use Rattle.page_jobs.specs.Parts.{EndsFor, MeetsFault, blocks_in}
 use Rattle.page_jobs.specs.Dealt.{AllDone, AnyEnds, PutsAll, TotalsAreInRange, job_totals, total_drawn}
 use Rattle.page_jobs.specs.Beside.{EndsBeside, WorkIsRefused}
-use Rattle.page_jobs.specs.Jobs.{AllAtBase, AnyMeets, HaveNoTokens, PutsTexts, ReadParts, ReadsAll, ReadsChunks}
+use Rattle.page_jobs.specs.Jobs.{AllAtBase, AnyMeets, FoundMoreIn, HaveNoTokens, PutsTexts, ReadParts, ReadsAll, ReadsChunks}
 use Rattle.page_jobs.proofs.BesideWork.{free_at}
-use Rattle.page_jobs.proofs.ClaimedChunks.{AllDrewPast, AreOfDrawn, claimed_all, claimed_once, none_at, none_long, none_of_each, none_once}
+use Rattle.page_jobs.proofs.ClaimedChunks.{AllDrewPast, AreOfDrawn, blocks_all, claimed_all, claimed_once, none_at, none_long, none_of_each, none_once, total_ones}
+use Rattle.page_jobs.proofs.FoundPasses.{no_pass_found, one_more_found, so_many_found}
 use Rattle.page_jobs.proofs.ListedChunks.{DoLists, ListsClaims}
 use Rattle.page_jobs.proofs.Staying.{stays_none}
 use Rattle.page_jobs.proofs.Texts.{PutsSome, stopped_in}
@@ -199,6 +202,12 @@ module _ {L G N A : Type 0} (contents : L → Option Pages) (m : Manager L G) (r
   done_well : (drawn : List ℕ) (p q : PassState) (l : Lister N A) (end : Result Unit JobError) (c : Claimed BlockRead) → ListsClaims contents m rel fork base lines drawn p q l end c → end ≡ Ok tt → IsWhole drawn p q l c
   done_well drawn p q l end c d ok = subst (λ (r : Result Unit JobError). OnOk r (IsWhole drawn p q l c)) ok d.done
 
+  -- and each of its blocks was found
+  found_well : (drawn : List ℕ) (p q : PassState) (l : Lister N A) (end : Result Unit JobError) (c : Claimed BlockRead) → ListsClaims contents m rel fork base lines drawn p q l end c → end ≡ Ok tt → FoundMore (length c.items) p.io q.io
+  found_well drawn p q l end c d ok =
+      subst (λ (n : ℕ). FoundMore n p.io q.io) (sym (done_well drawn p q l end c d ok).0.0)
+      (subst (λ (r : Result Unit JobError). OnOk r (FoundMore (length (blocks_in_all (blocks_in m rel fork) c.chunks)) p.io q.io)) ok d.found)
+
   pub covers_at : (w : ℕ) (ps : List PassState) (xs : List (Worker (Lister N A))) (cs : List (Claimed BlockRead)) (c : Claimed BlockRead) → Does ps xs cs → AllDone xs → get_elem? cs w ≡ some c → CoversAll (blocks_in m rel fork) c
   covers_at w ps xs cs c d done at =
       let h = claimed_at w ps xs cs c d at in
@@ -233,11 +242,41 @@ module _ {L G N A : Type 0} (contents : L → Option Pages) (m : Manager L G) (r
     listed = claimed_long ps xs cs d;
     each = λ w p q c at there that.
         let h = did_at w ps xs cs p q c d at there that in
-        let f = done_well h.worker.seat.me.0.drawn p q h.worker.task h.worker.end c h.did (done_at w xs h.worker done h.there) in
-        record { reads = h.did.reads; whole = f.0.0; met = f.0.2 };
+        let ok = done_at w xs h.worker done h.there in
+        let f = done_well h.worker.seat.me.0.drawn p q h.worker.task h.worker.end c h.did ok in
+        record { reads = h.did.reads; whole = f.0.0; met = f.0.2; found = found_well h.worker.seat.me.0.drawn p q h.worker.task h.worker.end c h.did ok };
     all = all_claimed ps xs cs many d once done;
     totals_is = total ∙ ap totals_of_scan (totals_read ps xs cs d done);
   }
+
+  -- together they found as many as they read
+  found_items : (ps : List PassState) (xs : List (Worker (Lister N A))) (cs : List (Claimed BlockRead)) → Does ps xs cs → AllDone xs → FoundMoreIn (total (λ (c : Claimed BlockRead). length c.items) cs) ps (passes_of xs)
+  unfolding total
+  found_items [] [] [] d done = no_pass_found
+  found_items (p ∷ ps) (x ∷ xs) (c ∷ cs) d done =
+      one_more_found (length c.items) (total (λ (b : Claimed BlockRead). length b.items) cs) p x.pass ps (passes_of xs) (found_well x.seat.me.0.drawn p x.pass x.task x.end c d.0 done.0) (found_items ps xs cs d.1 done.1)
+  found_items ps xs cs d done = absurd d
+
+  -- which is one for each block
+  items_covered : (ps : List PassState) (xs : List (Worker (Lister N A))) (cs : List (Claimed BlockRead)) → Does ps xs cs → AllDone xs
+      → total (λ (c : Claimed BlockRead). length c.items) cs ≡ total (λ (c : Claimed BlockRead). total (λ (b : ℕ). 1) (blocks_in_all (blocks_in m rel fork) c.chunks)) cs
+  unfolding total
+  items_covered [] [] [] d done = refl
+  items_covered (p ∷ ps) (x ∷ xs) (c ∷ cs) d done =
+      let whole = (done_well x.seat.me.0.drawn p x.pass x.task x.end c d.0 done.0).0.0 in
+      omega (arith, whole, total_ones (blocks_in_all (blocks_in m rel fork) c.chunks), items_covered ps xs cs d.1 done.1)
+  items_covered ps xs cs d done = absurd d
+
+  found_all : (ps : List PassState) (xs : List (Worker (Lister N A))) (cs : List (Claimed BlockRead)) → 0 < length ps → Does ps xs cs → DrewOnce xs → AllDone xs → FoundMoreIn (blocks_in m rel fork) ps (passes_of xs)
+  found_all ps xs cs many d once done =
+      let n = blocks_in m rel fork in
+      so_many_found (total (λ (c : Claimed BlockRead). length c.items) cs) n ps (passes_of xs)
+      (items_covered ps xs cs d done ∙ blocks_all n cs (all_claimed ps xs cs many d once done) (λ (b : ℕ). 1) ∙ sum_ones n)
+      (found_items ps xs cs d done)
+
+  pub job_found : {B : Type 0} (ps : List PassState) (xs : List (Worker (Lister N A))) (cs : List (Claimed BlockRead)) (r : Result B JobError) → 0 < length ps → Does ps xs cs → DrewOnce xs → OnOk r (AllDone xs) → OnOk r (FoundMoreIn (blocks_in m rel fork) ps (passes_of xs))
+  job_found ps xs cs (Ok b) many d once done = found_all ps xs cs many d once done
+  job_found ps xs cs (Err e) many d once done = tt
 
   -- why the job ended
   any_meets : (ps : List PassState) (xs : List (Worker (Lister N A))) (cs : List (Claimed BlockRead)) (e : JobError) → Does ps xs cs → AnyEnds e xs → (e ≡ Memory) ⊎ AnyMeets contents m rel fork ps (passes_of xs) e

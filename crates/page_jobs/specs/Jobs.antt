@@ -1,6 +1,6 @@
 -- What a scan and a dump do.
-use Rattle.std.specs.Prelude.{◌≡◌, ℕ, ◌-◌, ◌≤◌, ◌⊎◌, List, [], ◌∷◌, ◌++◌, length, take, Option}
-use Rattle.std.specs.Prelude.{Some, Result, IfOk}
+use Rattle.std.specs.Prelude.{◌≡◌, ℕ, ◌+◌, ◌-◌, ◌≤◌, ◌⊎◌, List, [], ◌∷◌, ◌++◌, length, take}
+use Rattle.std.specs.Prelude.{Option, Some, Result, IfOk}
 use mathlib.Core.Option.{some}
 use lib.ListN.{get_elem?}
 use Rattle.block_tag.specs.declared.tag.Fork.{Fork}
@@ -12,8 +12,11 @@ use Rattle.segment_store.specs.Contents.{Pages}
 use Rattle.pin_core.specs.State.{Page}
 use Rattle.text_window.specs.Texts.{AreFirstTexts, IsTextBy}
 use Rattle.frame_table.specs.Seats.{base_of, lanes_in, opened_of}
+use Rattle.io_counts.specs.Found.{AreAllBelowLast, FoundMore, found_of}
 use Rattle.buffer_frames.specs.Tokens.{no_tokens}
 use Rattle.backend_pass.specs.declared.manager.Manager.{Manager}
+use Rattle.backend_pass.specs.Closing.{EachPass}
+use Rattle.backend_pass.specs.Counts.{io_in_all}
 use Rattle.backend_pass.specs.Passes.{PassState}
 use Rattle.page_jobs.specs.declared.ending.JobError.{JobError}
 use Rattle.page_jobs.specs.declared.ending.JobError.TheVariants.{Memory, OutFault}
@@ -33,6 +36,13 @@ use Rattle.page_jobs.specs.Parts.{AllReads, AreKnown, MeetsFault, blocks_in}
 -- the passes that work: all but the last
 abbrev pub workers_in : List PassState → List PassState
 workers_in ps = take (length ps - 1) ps
+
+-- So many blocks more were counted by these passes together, as hits or as reads
+pub record FoundMoreIn (n : ℕ) (ps qs : List PassState) : Type 0 where
+  pub most : found_of (io_in_all qs) ≤ found_of (io_in_all ps) + n
+  -- exactly so many, if no count of a pass stands at its last value
+  pub exact : EachPass (λ q. AreAllBelowLast q.io) qs
+      → found_of (io_in_all qs) ≡ found_of (io_in_all ps) + n
 
 -- no pass has seen more of the log than its beginning
 abbrev pub AllAtBase : ℕ → List PassState → Type 0
@@ -89,11 +99,13 @@ module _ {L G : Type 0} (contents : L → Option Pages) (m : Manager L G) (rel :
         → (q.view.met ≡ p.view.met) ⊎ ((e : JobError) × MeetsFault contents m rel fork p q e)
     pub once : AreFirstClaimed (blocks_in m rel fork) claimed
 
-  -- The pass read each of its chunks to its end, and met no fault
+  -- The pass read each of its chunks to its end, and met no fault. It counted each block once, as a
+  -- hit or as a read
   pub record ReadsWhole (c : Claimed BlockRead) (p q : PassState) : Type 0 where
     pub reads : ReadsChunks c p q
     pub whole : CoversAll (blocks_in m rel fork) c
     pub met : q.view.met ≡ p.view.met
+    pub found : FoundMore (length c.items) p.io q.io
 
   -- All chunks were read, each once, by one pass and to its end, and no fault was met. The totals
   -- are those of what was read

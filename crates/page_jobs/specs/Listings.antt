@@ -16,8 +16,9 @@ use Rattle.page_jobs.specs.Beside.{LastDid, StaysBeside}
 use Rattle.page_jobs.specs.Completeness.{IsDoneOrMemory, IsDoneShortOrMemory, NoDeviceFailsIn}
 use Rattle.page_jobs.specs.Completeness.{NothingFailsIn, OutIsQuiet}
 use Rattle.page_jobs.specs.Ending.{as_done, totals_of_scan}
-use Rattle.page_jobs.specs.Jobs.{AllAtBase, EndsJob, IsOrigin, PutsTexts, ReadParts, ReadsAll}
-use Rattle.page_jobs.specs.Jobs.{workers_in}
+use Rattle.page_jobs.specs.Jobs.{AllAtBase, EndsJob, FoundMoreIn, IsOrigin, PutsTexts, ReadParts}
+use Rattle.page_jobs.specs.Jobs.{ReadsAll, workers_in}
+use Rattle.page_jobs.specs.Parts.{blocks_in}
 use Rattle.page_jobs.specs.Printed.{text_of_pages}
 use Rattle.page_jobs.specs.Relations.{MeetNothing}
 
@@ -32,6 +33,8 @@ module _ {L G : Type 0} (contents : L → Option Pages) (m : Manager L G) (rel :
     pub met : OnOk r (MeetNothing all qs)
     pub beside : OnOk r (LastDid did all qs)
     pub done : IfOk r (ReadsAll contents m rel fork (workers_in all) (workers_in qs))
+    -- the hits and reads of the passes that work are one for each block
+    pub found : OnOk r (FoundMoreIn (blocks_in m rel fork) (workers_in all) (workers_in qs))
     -- the texts of chunks that were put have a line for each of their blocks, in order
     pub puts : PutsTexts contents m rel fork lines (workers_in all) (workers_in qs) old new r
     pub totals : (pages : List Page) → IsOrigin contents m rel fork pages

@@ -8,6 +8,7 @@ use Rattle.page_layout.specs.declared.scan.ScanTotals.{ScanTotals}
 use Rattle.page_layout.specs.Scan.{IsWithin, sum_of_totals}
 use Rattle.segment_store.specs.Contents.{Pages}
 use Rattle.frame_table.specs.Seats.{OnlyRises, relations_of}
+use Rattle.io_counts.specs.Found.{FoundMore}
 use Rattle.buffer_frames.specs.Tokens.{no_tokens}
 use Rattle.backend_pass.specs.declared.errors.ReadError.{ReadError}
 use Rattle.backend_pass.specs.declared.manager.Manager.{Manager}
@@ -72,4 +73,6 @@ module _ {L G : Type 0} (contents : L → Option Pages) (m : Manager L G) (rel :
     -- if it ended well, all of them were read, and no fault was met
     pub done : OnOk end
         ((unprinted ≡ []) × (length printed ≡ length blocks) × (q.view.met ≡ p.view.met))
+    -- and each of them was counted once, as a hit or as a read
+    pub found : OnOk end (FoundMore (length blocks) p.io q.io)
     pub cause : IfErr end (EndsFor p q)

@@ -1,6 +1,6 @@
 -- How a worker reads a block.
 use Rattle.std.specs.Prelude.{◌≡◌, ℕ, ◌≤◌, Bool, true, false, List, [], ◌∷◌, ◌++◌, Option, Some}
-use Rattle.std.specs.Prelude.{None}
+use Rattle.std.specs.Prelude.{None, Result, Ok, Err}
 use Rattle.block_tag.specs.declared.tag.Fork.{Fork}
 use Rattle.block_tag.specs.declared.tag.Tag.{Tag}
 use Rattle.block_tag.specs.Names.{lane_number, packed_tag, tag_of_parts}
@@ -56,6 +56,16 @@ fault_of_refusal read.LogFault = Some LogFault
 fault_of_refusal (read.LogDown at) = Some (LogDown at)
 fault_of_refusal (read.LogShort lsn end) = Some (LogShort lsn end)
 fault_of_refusal (read.Unsound tag) = None
+
+-- how many blocks a read finds, by the refusal, and by the answer: one, if the page was in the pool
+-- or came from its lane, sound or not
+abbrev pub found_refused : ReadError → ℕ
+found_refused (read.Unsound tag) = 1
+found_refused _ = 0
+
+abbrev pub found_by : {A : Type 0} → Result A ReadError → ℕ
+found_by (Ok done) = 1
+found_by (Err why) = found_refused why
 
 -- the calls of a backend that reads these blocks of a fork one after the other, and finds this: one
 -- for each sound page

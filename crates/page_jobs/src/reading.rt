@@ -2,10 +2,11 @@
 ghost use Rattle.std.specs.Prelude.{◌≡◌, ◌<◌, IfErr, IfOk, OnOk, true, false};
 ghost use Rattle.block_tag.specs.Catalogue.{blocks_at};
 ghost use Rattle.frame_table.specs.Seats.{relations_of};
+ghost use Rattle.io_counts.specs.Found.{FoundMore};
 ghost use Rattle.backend_pass.specs.Between.{HasNoTokens};
 ghost use Rattle.page_jobs.specs.Reads.{CopiesBlock, CopiesOrFindsUnsound, PinsOne};
-ghost use Rattle.page_jobs.specs.Reads.{RefusesBlock, StopsAt, fault_of_refusal, is_crowding};
-ghost use Rattle.page_jobs.specs.Reads.{is_tried_once};
+ghost use Rattle.page_jobs.specs.Reads.{RefusesBlock, StopsAt, fault_of_refusal, found_by};
+ghost use Rattle.page_jobs.specs.Reads.{is_crowding, is_tried_once};
 
 use crate::ending::JobError;
 use crate::gate::Gate;
@@ -42,6 +43,8 @@ pub(crate) fn pin_with_retries<L: BlockLane, G: LogDevice, R: Wait>(
     requires block { tag.block < blocks_at (relations_of manager.now.table) tag.rel.0 tag.fork }
     ensures pinned { IfOk result (PinsOne L.contents manager.now tag pass.old pass.new) }
     ensures refused { IfErr result (RefusesBlock L.contents manager.now tag pass.old pass.new) }
+    // However often it tries, it counts one hit or one read, and none if no page came.
+    ensures found { FoundMore (found_by result) pass.old.io pass.new.io }
 {
     for _ in rt.forever() {
         match pass.read_buffer(manager, rt, tag, ring) {
@@ -73,6 +76,7 @@ fn copy_block<L: BlockLane, G: LogDevice, R: Wait, T: Gate>(
     ensures copied { OnOk result
         (CopiesBlock L.contents manager.now tag page.new pass.old pass.new) }
     ensures refused { IfErr result (RefusesBlock L.contents manager.now tag pass.old pass.new) }
+    ensures found { FoundMore (found_by result) pass.old.io pass.new.io }
 {
     let pinned = pin_with_retries(manager, rt, pass, tag, ring)?;
     let _place = pass.read_page(manager, rt, &pinned, page);
@@ -125,6 +129,7 @@ pub(crate) fn copy_if_sound<L: BlockLane, G: LogDevice, R: Wait, T: Gate>(
         (λ found. CopiesOrFindsUnsound L.contents manager.now tag page.new pass.old
         pass.new found) }
     ensures fault { IfErr result (StopsAt L.contents manager.now tag pass.old pass.new) }
+    ensures found { OnOk result (FoundMore 1 pass.old.io pass.new.io) }
 {
     match copy_block(manager, rt, gate, worker, pass, tag, ring, page) {
         Ok(()) => Ok(PageRead::Sound),

@@ -13,8 +13,9 @@ use Rattle.relation_commands.specs.declared.error.ToolError.{ToolError}
 use Rattle.relation_commands.specs.declared.error.ToolError.TheVariants.{Usage, Crowded, Missing, ReadFault, WriteFault, LogFault, OutFault, Memory, OverLimit, BadLog}
 use Rattle.relation_commands.specs.declared.limits.PositionLimit.{PositionLimit}
 use Rattle.relation_commands.specs.declared.limits.PositionLimit.TheVariants.{OfPages, OfPage, OfLog}
-use Rattle.relation_commands.specs.Answers.{ArePastLimit, BadLogIf, CrowdedIf, Ends, FaultCounts, FaultIf, HasBadLog, HasGoodHead, HasLog, HasPositions, HasPositionsAt, IsAbsent, IsComplete, IsDone, IsKnownLog, IsKnownThere, IsMissing, IsOverLimit, IsRefusal, IsThere, LacksLog, LeavesFiles, LimitIf, MissingIf, PutsLogOf, SaysAs, UsageIf, Wrote, WroteLogOf, pages_asked}
+use Rattle.relation_commands.specs.Answers.{ArePastLimit, BadLogIf, CrowdedIf, Ends, FaultCounts, FaultIf, HasBadLog, HasGoodHead, HasLog, HasPositions, HasPositionsAt, IsAbsent, IsComplete, IsDone, IsKnownLog, IsKnownThere, IsMissing, IsOverLimit, IsRefusal, IsThere, LacksLog, LeavesFiles, LimitIf, MissingIf, PutsLogOf, SaysAs, UsageIf, Wrote, WroteCounted, WroteLogOf, pages_asked}
 use Rattle.relation_commands.specs.Limits.{PassesLimit, largest_lsn}
+use Rattle.relation_commands.specs.Listings.{CountedText, PutsCounted, io_line}
 use Rattle.relation_commands.specs.RecoverFiles.{ForLogOf}
 use Rattle.relation_commands.specs.RecoverTexts.{recover_text}
 use Rattle.command_line.specs.Request.{Asked, LoggedAsked, is_rewriting, listing, options_of, path_of, recovering, rewriting, sampling}
@@ -466,6 +467,26 @@ pub text_refused : (request : Option Asked) (text_of : Asked → Option (List �
     → IfSome request (λ a. IfSome (text_of a) (λ text. Puts text old new (Err error))) → IfSome request (λ a. IfSome (text_of a) (λ text. Wrote text old new status))
 text_refused None text_of old new error status some puts = tt
 text_refused (Some a) text_of old new error status some puts = IfSome_then (text_of a) puts (λ text is. wrote_part text old new error status some is)
+
+-- and of the text that is asked for with its counts
+module _ (counted_of : Asked → Option CountedText) (old new : Option (List ℕ)) (result : Result Unit ToolError) (status : ℕ)
+    (to : (text : List ℕ) → Puts text old new result → Wrote text old new status) where
+  wrote_counted : (t : CountedText) → PutsCounted t old new result → WroteCounted t old new status
+  wrote_counted t p = record { io = p.io; found = p.found; wrote = to (t.text ++ io_line p.io) p.puts }
+
+  counted_request : (request : Option Asked) → IfSome request (λ a. IfSome (counted_of a) (λ t. PutsCounted t old new result))
+      → IfSome request (λ a. IfSome (counted_of a) (λ t. WroteCounted t old new status))
+  counted_request None puts = tt
+  counted_request (Some a) puts = IfSome_then (counted_of a) puts (λ t p. wrote_counted t p)
+
+pub counted_done : (request : Option Asked) (counted_of : Asked → Option CountedText) (old new : Option (List ℕ)) → IfSome request (λ a. IfSome (counted_of a) (λ t. PutsCounted {E = ToolError} t old new (Ok tt)))
+    → IfSome request (λ a. IfSome (counted_of a) (λ t. WroteCounted t old new 0))
+counted_done request counted_of old new puts = counted_request counted_of old new (Ok tt) 0 (λ text is. wrote_all text old new is) request puts
+
+pub counted_refused : (request : Option Asked) (counted_of : Asked → Option CountedText) (old new : Option (List ℕ)) (error : ToolError) (status : ℕ) → (status ≡ 0 → ⊥)
+    → IfSome request (λ a. IfSome (counted_of a) (λ t. PutsCounted t old new (Err error))) → IfSome request (λ a. IfSome (counted_of a) (λ t. WroteCounted t old new status))
+counted_refused request counted_of old new error status some puts =
+    counted_request counted_of old new (Err error) status (λ text is. wrote_part text old new error status some is) request puts
 
 some_status : (e : ToolError) → status_of_error e ≡ 0 → ⊥
 some_status Usage zero = omega arith

@@ -6,8 +6,9 @@ ghost use Rattle.relation_commands.specs.Answers.{BadLogIf, CountsLater, Crowded
 ghost use Rattle.relation_commands.specs.Answers.{FailsNone, FaultIf, IsComplete, IsNoRewrite};
 ghost use Rattle.relation_commands.specs.Answers.{LeavesFiles, LimitIf, MissingIf, PrintsAtEnd};
 ghost use Rattle.relation_commands.specs.Answers.{PutsLogOf, SaysAs, SaysStatus, UsageIf};
-ghost use Rattle.relation_commands.specs.Answers.{WritesNoPath, Wrote, WroteLogOf, counts_of};
-ghost use Rattle.relation_commands.specs.Answers.{text_asked};
+ghost use Rattle.relation_commands.specs.Answers.{WritesNoPath, Wrote, WroteCounted, WroteLogOf};
+ghost use Rattle.relation_commands.specs.Answers.{counted_asked, counts_of, text_asked};
+ghost use Rattle.relation_commands.specs.Listings.{PutsCounted};
 ghost use Rattle.command_line.specs.Request.{NamesNoPath, options_of};
 ghost use Rattle.command_line.specs.Spelled.{request_in};
 ghost use Rattle.relation_commands.specs.RewriteFiles.{BecomesOf, files_in};
@@ -58,6 +59,9 @@ fn perform<'a, H: Host, R: Threads + Wait + Sync, O: Sink + Send, G: Gate + Sync
         (faults host.old out.old) (faults host.new out.new) result }
     ensures text { IfSome (request_in words.now) (λ a. IfSome (text_asked a (H.contents host.old))
         (λ text. Puts text (O.bytes out.old) (O.bytes out.new) result)) }
+    ensures counted { IfSome (request_in words.now)
+        (λ a. IfSome (counted_asked a (H.contents host.old))
+        (λ t. PutsCounted t (O.bytes out.old) (O.bytes out.new) result)) }
     ensures recovers { IfSome (request_in words.now) (λ a. PutsLogOf a (H.logs host.old)
         (O.bytes out.old) (O.bytes out.new) result) }
     ensures silent { IfErr result (λ e. status_of_error e ≤ 3 → O.bytes out.new ≡ O.bytes out.old) }
@@ -97,6 +101,8 @@ fn perform<'a, H: Host, R: Threads + Wait + Sync, O: Sink + Send, G: Gate + Sync
 ///
 /// - `scan PATH` prints a line for each block of the relation at the path, and their totals.
 /// - `dump PATH` prints besides a line for each line pointer of a page.
+/// - Both print the I/O counts of the backend in one line more if `--stats` is given, which only
+///   one backend takes, without rounds of the background writer.
 /// - `rewrite PATH --log FILE` rewrites each page that has dead line pointers or room between its
 ///   items, with a log of the pages at FILE, and prints the totals and the log's positions.
 /// - `recover PATH --log FILE` redoes the log of a rewrite: each record's page is written to its
@@ -133,9 +139,13 @@ pub fn run<H: Host, R: Threads + Wait + Sync, O: Sink + Send, E: Sink, G: Gate +
     ensures faults { let faults = counts_of H.read_faults H.write_faults H.log_faults O.faults in
         FaultIf (request_in words.now) (faults host.old out.old) (faults host.new out.new) result }
 
-    // What is out: the text that is asked for, if it is known, or a prefix of it.
+    // What is out: the text that is asked for, if it is known, or a prefix of it. Of the counts
+    // that follow a listing's text the hits and reads add up to its blocks.
     ensures text { IfSome (request_in words.now) (λ a. IfSome (text_asked a (H.contents host.old))
         (λ text. Wrote text (O.bytes out.old) (O.bytes out.new) result)) }
+    ensures counted { IfSome (request_in words.now)
+        (λ a. IfSome (counted_asked a (H.contents host.old))
+        (λ t. WroteCounted t (O.bytes out.old) (O.bytes out.new) result)) }
     ensures recovers { IfSome (request_in words.now) (λ a. WroteLogOf a (H.logs host.old)
         (O.bytes out.old) (O.bytes out.new) result) }
     ensures silent { 1 ≤ result → result ≤ 3 → O.bytes out.new ≡ O.bytes out.old }

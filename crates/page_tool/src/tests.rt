@@ -404,7 +404,7 @@ fn later_pieces_may_fail(rt: HostRuntime) -> Result<(), Fail> {
 
 /// Scans of three new pages, which are one chunk, the calls that fail, the status, and what is
 /// printed: of a chunk that wasn't read to its end nothing.
-static FAULTS: [(&str, Failing, u8, &str, &str); 4] = [
+static FAULTS: [(&str, Failing, u8, &str, &str); 5] = [
     (
         "scan base/5/16384 --lanes 1",
         Failing {
@@ -444,6 +444,17 @@ static FAULTS: [(&str, Failing, u8, &str, &str); 4] = [
         },
         7,
         "0 new\n1 n",
+        "page_tool: output fault\n",
+    ),
+    (
+        // The text, its totals and the counts are put one after the other.
+        "scan base/5/16384 --stats",
+        Failing {
+            puts: &[3],
+            ..NONE_FAIL
+        },
+        7,
+        "0 new\n1 new\n2 new\nblocks 3 used 0 new 3 invalid 0 normal 0 redirect 0 dead 0 unused 0\nio hits 0 reads 3 writes",
         "page_tool: output fault\n",
     ),
 ];

@@ -3,11 +3,13 @@
 //! its function wouldn't prove here. There is nothing in it to call.
 #![tactic(auto)]
 
+mod counts;
 mod faults;
 mod reads;
 mod refusals;
 mod writes;
 
+pub use counts::{close_counted, io_totals, publish};
 pub use faults::read_buffer;
 pub use reads::{read_new, read_page};
 pub use refusals::{lock_cleanup, read_inside};

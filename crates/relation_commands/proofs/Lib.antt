@@ -6,6 +6,8 @@ pub mod GivenFiles
 mod Putting
 pub mod Stepping
 mod Listed
+pub mod IoLines
+mod FoundBlocks
 mod PassesBeside
 mod Fronts
 mod RewriteLeaves

@@ -12,6 +12,7 @@ use Rattle.segment_store.specs.Relation.{relation_of}
 use Rattle.pin_core.specs.State.{Page}
 use Rattle.history_core.specs.Log.{record_size}
 use Rattle.history_core.specs.State.{last_position}
+use Rattle.io_counts.specs.declared.shown.IoSums.{IoSums}
 use Rattle.log_recovery.specs.Records.{HasBadHead}
 use Rattle.relation_commands.specs.declared.error.ToolError.{ToolError}
 use Rattle.relation_commands.specs.declared.error.ToolError.TheVariants.{Usage, Crowded, Missing}
@@ -22,7 +23,8 @@ use Rattle.relation_commands.specs.declared.limits.PositionLimit.{PositionLimit}
 use Rattle.relation_commands.specs.declared.limits.PositionLimit.TheVariants.{OfPages, OfPage}
 use Rattle.relation_commands.specs.declared.limits.PositionLimit.TheVariants.{OfLog}
 use Rattle.relation_commands.specs.Limits.{PassesLimit, largest_lsn}
-use Rattle.relation_commands.specs.Listings.{NoneFails, text_of}
+use Rattle.relation_commands.specs.Listings.{CountedText, NoneFails, counted_text, io_line}
+use Rattle.relation_commands.specs.Listings.{text_of}
 use Rattle.relation_commands.specs.RecoverFiles.{ForLogOf, RecoversFiles}
 use Rattle.relation_commands.specs.RecoverTexts.{recover_text}
 use Rattle.command_line.specs.Request.{Asked, ListingAsked, is_listing, is_rewriting, is_writing}
@@ -102,13 +104,25 @@ pages_asked (recovering r) paths = pages_at r paths
 pages_asked (sampling s) paths = sample_relation s.seed s.blocks
 
 -- the text that is asked for, if it is known: that of a sample is; those of a listing and a rewrite
--- are if the paths are; that of a recovery depends on its log
+-- are if the paths are, but for a listing whose counts are asked for; that of a recovery depends on
+-- its log
 abbrev pub text_asked : Asked → Option Paths → Option (List ℕ)
 text_asked (listing l) known =
-    option_map (λ paths. text_of l.listing (pages_asked (listing l) paths)) known
+    if l.stats then None
+    else option_map (λ paths. text_of l.listing (pages_asked (listing l) paths)) known
 text_asked (rewriting r) known = option_map (λ paths. rewrite_text (pages_at r paths)) known
 text_asked (recovering r) known = None
 text_asked (sampling s) known = Some (sample_text s.seed s.blocks)
+
+-- the text that is asked for with its counts, if it is known
+abbrev pub counted_asked : Asked → Option Paths → Option CountedText
+counted_asked (listing l) known =
+    if l.stats
+    then option_map (λ paths. counted_text l.listing (pages_asked (listing l) paths)) known
+    else None
+counted_asked (rewriting r) known = None
+counted_asked (recovering r) known = None
+counted_asked (sampling s) known = None
 
 -- The counts of faults, of the host and of the output
 pub record FaultCounts : Type 0 where
@@ -312,6 +326,13 @@ pub record FaultIf (request : Option Asked) (old new : FaultCounts) (status : �
 pub record Wrote (text : List ℕ) (old new : Option (List ℕ)) (status : ℕ) : Type 0 where
   pub all : status ≡ 0 → new ≡ option_map (λ bytes. bytes ++ text) old
   pub prefix : IfSome old (λ bytes. IsSomeAnd new (GainsPrefix text bytes))
+
+-- all of the text and then the line of counts by which each block was one hit or one read is out at
+-- status 0, and a prefix of such a text with its line at any
+pub record WroteCounted (t : CountedText) (old new : Option (List ℕ)) (status : ℕ) : Type 0 where
+  pub io : IoSums
+  pub found : io.hits + io.reads ≡ t.blocks
+  pub wrote : Wrote (t.text ++ io_line io) old new status
 
 -- the text of a recovery's log, if the logs are known, was put, or a prefix of it
 abbrev pub PutsLogOf : {E : Type 0} → Asked → Option Logs → Option (List ℕ) → Option (List ℕ)

@@ -1,14 +1,25 @@
 -- What a scan and a dump print, start with, and leave.
-use Rattle.std.specs.Prelude.{◌≡◌, ℕ, ◌<◌, false, true, List, length, map, Option, sum_by}
+use Rattle.std.specs.Prelude.{◌≡◌, ℕ, ◌+◌, ◌<◌, false, true, List, [], ◌∷◌, ◌++◌, length, map}
+use Rattle.std.specs.Prelude.{Option, Result, codes, option_map, sum_by}
+use Rattle.std.specs.Fmt.{decimal}
 use Rattle.std.specs.Str.{bytes_eq}
 use Rattle.block_tag.specs.declared.tag.Fork.{Fork}
+use Rattle.byte_devices.specs.Bytes.{Puts}
 use Rattle.page_layout.specs.Dump.{dump_text}
 use Rattle.page_layout.specs.Scan.{scan_text}
+use Rattle.page_layout.specs.Text.{joined}
 use Rattle.segment_store.specs.Contents.{Marks, Pages}
 use Rattle.segment_store.specs.Lanes.{HoldPages, mark_in, tag_at}
 use Rattle.segment_store.specs.Paths.{PathMarks, Paths}
 use Rattle.segment_store.specs.Relation.{relation_of}
 use Rattle.pin_core.specs.State.{Page}
+use Rattle.table_rule.specs.Shows.{Devices}
+use Rattle.io_counts.specs.declared.shown.IoSums.{IoSums}
+use Rattle.io_counts.specs.Additions.{io_counters}
+use Rattle.io_counts.specs.Sums.{io_shown, sums_of}
+use Rattle.backend_pass.specs.declared.manager.Manager.{Manager}
+use Rattle.backend_pass.specs.Closing.{ClosesAll}
+use Rattle.backend_pass.specs.Passes.{PassState}
 use Rattle.command_line.specs.declared.request.Listing.{Listing}
 use Rattle.command_line.specs.declared.request.Listing.TheVariants.{Scan, Dump}
 
@@ -16,6 +27,42 @@ use Rattle.command_line.specs.declared.request.Listing.TheVariants.{Scan, Dump}
 abbrev pub text_of : Listing → List Page → List ℕ
 text_of Scan pages = scan_text pages
 text_of Dump pages = dump_text pages
+
+-- the line of the I/O counts, of all contexts together
+abbrev pub io_line : IoSums → List ℕ
+io_line io =
+    joined (codes "io hits " ∷ decimal io.hits ∷ codes " reads " ∷ decimal io.reads
+    ∷ codes " writes " ∷ decimal io.writes ∷ codes " evictions " ∷ decimal io.evictions
+    ∷ codes " reuses " ∷ decimal io.reuses ∷ codes "\n" ∷ [])
+
+-- A text that a line of counts follows, and how many blocks they are of
+pub record CountedText : Type 0 where
+  pub text : List ℕ
+  pub blocks : ℕ
+
+-- that of a relation of these pages
+abbrev pub counted_text : Listing → List Page → CountedText
+counted_text what pages = record { text = text_of what pages; blocks = length pages }
+
+-- The text was put, and then the line of counts by which each block was one hit or one read; or a
+-- prefix of such a text with its line
+pub record PutsCounted {E : Type 0} (t : CountedText) (old new : Option (List ℕ))
+    (result : Result Unit E) : Type 0 where
+  pub io : IoSums
+  pub found : io.hits + io.reads ≡ t.blocks
+  pub puts : Puts (t.text ++ io_line io) old new result
+
+-- A manager was closed and gave these lanes back, and last of all the line of the sums was put that
+-- the counters of its table had then
+pub record PutsCounters {L G : Type 0} (d : Devices L G) (m : Manager L G) (lanes : List L)
+    (new : Option (List ℕ)) : Type 0 where
+  pub passes : List PassState
+  pub log : G
+  pub closed : ClosesAll d m.table.table.shared.key passes lanes log
+  -- what was out before
+  pub before : Option (List ℕ)
+  pub line : new ≡ option_map
+      (λ bytes. bytes ++ io_line (sums_of (io_shown (io_counters closed.state.counter)))) before
 
 -- Lanes after a listing of the blocks of a fork: if its pages are known, they are still in the
 -- lanes, and none of its blocks is one whose last write failed; no write failed

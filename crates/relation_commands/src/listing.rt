@@ -3,24 +3,27 @@
 //! A listing has a manager of its own. Its catalogue has one relation: tablespace and database 0,
 //! the number in PATH, and blocks in PATH's fork. It has a pass for each backend and one besides,
 //! and a log in memory that begins at 0 with room for its head alone.
-ghost use Rattle.std.specs.Prelude.{◌≡◌, ◌≤◌, ◌%◌, List, Ok, IfOk, IfErr, OnOk, All, length};
-ghost use Rattle.std.specs.Prelude.{map, sum_by, vec_len};
+ghost use Rattle.std.specs.Prelude.{◌≡◌, ◌≤◌, ◌%◌, false, true, List, Ok, Err, IfOk, IfErr, OnOk};
+ghost use Rattle.std.specs.Prelude.{All, length, map, sum_by, vec_len};
 ghost use Rattle.byte_devices.specs.Bytes.{Puts};
 ghost use Rattle.segment_store.specs.Contents.{no_marks};
 ghost use Rattle.segment_store.specs.Lanes.{HasBlocks, HoldPages};
 ghost use Rattle.pin_core.specs.State.{Page};
 ghost use Rattle.command_line.specs.Numbers.{HasOptionsInRange};
+ghost use Rattle.io_counts.specs.Sums.{HaveSums, sums_of};
+ghost use Rattle.table_rule.specs.Shows.{devices};
 ghost use Rattle.frame_table.specs.Seats.{base_of, opened_of, relations_of};
 ghost use Rattle.page_jobs.specs.Beside.{LastDid, StaysBeside};
 ghost use Rattle.page_jobs.specs.Ending.{as_done};
-ghost use Rattle.page_jobs.specs.Jobs.{AllAtBase, EndsJob, HaveNoTokens, IsOrigin, ReadParts};
-ghost use Rattle.page_jobs.specs.Jobs.{workers_in};
+ghost use Rattle.page_jobs.specs.Jobs.{AllAtBase, EndsJob, FoundMoreIn, HaveNoTokens, IsOrigin};
+ghost use Rattle.page_jobs.specs.Jobs.{ReadParts, workers_in};
 ghost use Rattle.page_jobs.specs.Relations.{IsCatalogOf, MeetNothing};
 ghost use Rattle.page_layout.specs.Scan.{totals_of};
 ghost use Rattle.history_core.specs.State.{last_position};
 ghost use Rattle.relation_commands.specs.Causes.{HasListingCause, listing_end, listing_error};
 ghost use Rattle.relation_commands.specs.Causes.{scan_totals_in};
-ghost use Rattle.relation_commands.specs.Listings.{LeavesLanes, text_of};
+ghost use Rattle.relation_commands.specs.Listings.{LeavesLanes, PutsCounted, PutsCounters};
+ghost use Rattle.relation_commands.specs.Listings.{counted_text, io_line, text_of};
 ghost use Rattle.relation_commands.specs.Rounds.{MakesRounds};
 ghost use Rattle.relation_commands.specs.Starting.{IsStarted};
 
@@ -28,8 +31,9 @@ use crate::beside::Rounds;
 use crate::starting::{RelationFork, new_log, start};
 use backend_pass::{Manager, Pass};
 use block_tag::RelNo;
-use byte_devices::{MemLog, Sink};
+use byte_devices::{LogDevice, MemLog, Sink};
 use command_line::{Listing, Options};
+use io_counts::{IoCounts, IoSums};
 use page_jobs::{Gate, JobEnd, JobError, Totals, dump, scan};
 use page_layout::{Lsn, ScanTotals};
 use segment_store::BlockLane;
@@ -90,13 +94,14 @@ fn end_of_job(end: Result<Totals, JobError>) -> Result<ScanTotals, ListingError>
     }
 }
 
-/// A fork of a relation, how it is listed, where the log begins meanwhile, and how many rounds the
-/// background writer makes.
+/// A fork of a relation, how it is listed, whether its I/O counts are printed, where the log begins
+/// meanwhile, and how many rounds the background writer makes.
 #[derive(Clone, Copy)]
 pub(crate) struct Listed {
     pub(crate) relation: RelationFork,
     pub(crate) base: Lsn,
     pub(crate) listing: Listing,
+    pub(crate) stats: bool,
     pub(crate) rounds: u32,
 }
 
@@ -126,6 +131,9 @@ fn list_blocks<L: BlockLane + Send, R: Threads + Wait + Sync, O: Sink + Send, T:
         (workers_in passes.items) (workers_in result.passes.items) }
     ensures last { StaysBeside L.contents manager.now passes.items result.passes.items }
     ensures met { OnOk result.end (MeetNothing passes.items result.passes.items) }
+    // The passes that work counted each block once, as a hit or as a read.
+    ensures found { OnOk result.end (FoundMoreIn listed.relation.blocks
+        (workers_in passes.items) (workers_in result.passes.items)) }
     // Beside them the last pass made this many rounds of the background writer.
     ensures beside { OnOk result.end (LastDid
         (λ p q. MakesRounds L.contents manager.now listed.rounds p q (Ok tt))
@@ -150,6 +158,54 @@ fn list_blocks<L: BlockLane + Send, R: Threads + Wait + Sync, O: Sink + Send, T:
     }
 }
 
+/// Puts the line of the I/O counts.
+fn put_io_line<O: Sink>(alloc: Global, io: &IoCounts, out: &mut O) -> Result<(), ListingError>
+    requires { HaveSums io.now }
+    ensures text { Puts (io_line (sums_of io.now)) (O.bytes out.old) (O.bytes out.new) result }
+    ensures cause { HasListingCause 0 0 (O.faults out.old) (O.faults out.new) result }
+{
+    let IoSums {
+        hits,
+        reads,
+        writes,
+        evictions,
+        reuses,
+    } = io.sums();
+    let Ok(line) = format!(in alloc;
+        "io hits {hits} reads {reads} writes {writes} evictions {evictions} reuses {reuses}\n"
+    ) else {
+        return Err(ListingError::Memory);
+    };
+    match out.put(line.as_bytes()) {
+        Ok(()) => Ok(()),
+        Err(_) => Err(ListingError::OutFault),
+    }
+}
+
+/// The end of a listing. If it ended well, and its I/O counts are to be printed, their line is put.
+fn end_with_io<O: Sink>(
+    alloc: Global,
+    end: Result<ScanTotals, ListingError>,
+    stats: bool,
+    io: &IoCounts,
+    out: &mut O,
+) -> Result<ScanTotals, ListingError>
+    requires { HaveSums io.now }
+    ensures silent { stats ≡ false → (result ≡ end) × (out.new ≡ out.old) }
+    ensures stopped { IfErr end (λ e. (result ≡ Err e) × (out.new ≡ out.old)) }
+    ensures line { stats ≡ true → OnOk end
+        (Puts (io_line (sums_of io.now)) (O.bytes out.old) (O.bytes out.new) (as_done result)) }
+    ensures totals { IfOk result (λ totals. end ≡ Ok totals) }
+    ensures cause { OnOk end (HasListingCause 0 0 (O.faults out.old) (O.faults out.new) result) }
+{
+    let totals = end?;
+    if !stats {
+        return Ok(totals);
+    }
+    put_io_line(alloc, io, out)?;
+    Ok(totals)
+}
+
 /// The backends list the blocks, and the manager is closed, which returns its lanes.
 fn list_and_close<L: BlockLane + Send, R: Threads + Wait + Sync, O: Sink + Send, T: Gate + Sync>(
     manager: Manager<L, MemLog>,
@@ -168,18 +224,26 @@ fn list_and_close<L: BlockLane + Send, R: Threads + Wait + Sync, O: Sink + Send,
         listed.relation.blocks (opened_of manager.table) result.lanes.items }
     ensures cause { HasListingCause 0 (sum_by L.read_faults result.lanes.items) (O.faults out.old)
         (O.faults out.new) result.end }
-    ensures text { (pages : List Page) → HoldPages listed.relation.fork pages
-        (map L.contents (opened_of manager.table)) → listed.relation.blocks ≡ length pages
+    ensures text { listed.stats ≡ false → (pages : List Page) → HoldPages listed.relation.fork
+        pages (map L.contents (opened_of manager.table)) → listed.relation.blocks ≡ length pages
         → Puts (text_of listed.listing pages) (O.bytes out.old) (O.bytes out.new) (as_done result.end) }
+    ensures counted { listed.stats ≡ true → (pages : List Page) → HoldPages listed.relation.fork
+        pages (map L.contents (opened_of manager.table)) → listed.relation.blocks ≡ length pages
+        → PutsCounted (counted_text listed.listing pages) (O.bytes out.old) (O.bytes out.new)
+        (as_done result.end) }
+    // The numbers of that line are the sums of the counters with which the manager was closed.
+    ensures sums { listed.stats ≡ true → IfOk result.end (λ _. PutsCounters
+        (devices L.BlockLane ⟦<MemLog as LogDevice>⟧) manager result.lanes.items
+        (O.bytes out.new)) }
     ensures totals { (pages : List Page) → HoldPages listed.relation.fork pages
         (map L.contents (opened_of manager.table)) → listed.relation.blocks ≡ length pages
         → IfOk result.end (λ totals. totals ≡ totals_of pages) }
 {
     let JobEnd { passes, end } = list_blocks(&manager, rt, alloc, passes, listed, out, gate);
-    let (lanes, _log) = manager.close(passes);
+    let (lanes, _log, io) = manager.close_counted(passes);
     ListingEnd {
         lanes,
-        end: end_of_job(end),
+        end: end_with_io(alloc, end_of_job(end), listed.stats, &io, out),
     }
 }
 
@@ -207,9 +271,13 @@ pub(crate) fn list<L: BlockLane + Send, R: Threads + Wait + Sync, O: Sink + Send
         listed.relation.blocks lanes.items result.lanes.items }
     ensures cause { HasListingCause 0 (sum_by L.read_faults result.lanes.items) (O.faults out.old)
         (O.faults out.new) result.end }
-    ensures text { (pages : List Page) → HoldPages listed.relation.fork pages
-        (map L.contents lanes.items) → listed.relation.blocks ≡ length pages
+    ensures text { listed.stats ≡ false → (pages : List Page) → HoldPages listed.relation.fork
+        pages (map L.contents lanes.items) → listed.relation.blocks ≡ length pages
         → Puts (text_of listed.listing pages) (O.bytes out.old) (O.bytes out.new) (as_done result.end) }
+    ensures counted { listed.stats ≡ true → (pages : List Page) → HoldPages listed.relation.fork
+        pages (map L.contents lanes.items) → listed.relation.blocks ≡ length pages
+        → PutsCounted (counted_text listed.listing pages) (O.bytes out.old) (O.bytes out.new)
+        (as_done result.end) }
     ensures totals { (pages : List Page) → HoldPages listed.relation.fork pages
         (map L.contents lanes.items) → listed.relation.blocks ≡ length pages
         → IfOk result.end (λ totals. totals ≡ totals_of pages) }

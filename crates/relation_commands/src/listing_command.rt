@@ -4,9 +4,10 @@ ghost use Rattle.command_line.specs.Numbers.{HasOptionsInRange};
 ghost use Rattle.byte_devices.specs.Bytes.{Puts};
 ghost use Rattle.segment_store.specs.Opening.{IsOpened};
 ghost use Rattle.segment_store.specs.Paths.{fork_of};
-ghost use Rattle.relation_commands.specs.Answers.{EndsCommand, counts_of, pages_asked, text_asked};
+ghost use Rattle.relation_commands.specs.Answers.{EndsCommand, counted_asked, counts_of};
+ghost use Rattle.relation_commands.specs.Answers.{text_asked};
 ghost use Rattle.relation_commands.specs.Causes.{HasListingCause};
-ghost use Rattle.relation_commands.specs.Listings.{NoneFails, text_of};
+ghost use Rattle.relation_commands.specs.Listings.{NoneFails, PutsCounted};
 ghost use Rattle.command_line.specs.Request.{asked};
 ghost use Rattle.relation_commands.specs.Status.{status_of_error};
 
@@ -49,9 +50,10 @@ fn list_opened<H: Host, R: Threads + Wait + Sync, O: Sink + Send, G: Gate + Sync
     ensures log_faults { H.log_faults host.new ≡ H.log_faults host.old }
     ensures cause { HasListingCause (H.read_faults host.old) (H.read_faults host.new)
         (O.faults out.old) (O.faults out.new) result }
-    ensures text { IfSome (H.contents host.old) (λ paths.
-        Puts (text_of request.now.listing (pages_asked (asked (Request.List request.now)) paths))
-        (O.bytes out.old) (O.bytes out.new) result) }
+    ensures text { IfSome (text_asked (asked (Request.List request.now)) (H.contents host.old))
+        (λ text. Puts text (O.bytes out.old) (O.bytes out.new) result) }
+    ensures counted { IfSome (counted_asked (asked (Request.List request.now))
+        (H.contents host.old)) (λ t. PutsCounted t (O.bytes out.old) (O.bytes out.new) result) }
 {
     let relation = RelationFork {
         number: request.number,
@@ -64,6 +66,7 @@ fn list_opened<H: Host, R: Threads + Wait + Sync, O: Sink + Send, G: Gate + Sync
         // A listing appends nothing to its log.
         base: 0,
         listing: request.listing,
+        stats: request.stats,
         rounds: options.rounds,
     };
     let ListingEnd { lanes, end } = list(rt, alloc, options, listed, opened.lanes, out, gate);
@@ -71,7 +74,8 @@ fn list_opened<H: Host, R: Threads + Wait + Sync, O: Sink + Send, G: Gate + Sync
     end.map(|_totals| ())
 }
 
-/// Lists the blocks of the relation at a path.
+/// Lists the blocks of the relation at a path. If their I/O counts are asked for, these follow the
+/// text, in one line.
 pub fn list_relation<'a, H: Host, R: Threads + Wait + Sync, O: Sink + Send, G: Gate + Sync>(
     rt: &R,
     alloc: Global,
@@ -95,6 +99,8 @@ pub fn list_relation<'a, H: Host, R: Threads + Wait + Sync, O: Sink + Send, G: G
         (faults host.old out.old) (faults host.new out.new) result }
     ensures text { IfSome (text_asked (asked (Request.List request.now)) (H.contents host.old))
         (λ text. Puts text (O.bytes out.old) (O.bytes out.new) result) }
+    ensures counted { IfSome (counted_asked (asked (Request.List request.now))
+        (H.contents host.old)) (λ t. PutsCounted t (O.bytes out.old) (O.bytes out.new) result) }
     ensures silent { IfErr result (λ e. status_of_error e ≤ 3 → O.bytes out.new ≡ O.bytes out.old) }
 {
     let ListRequest { path, options, .. } = *request;

@@ -103,6 +103,7 @@ fn scan_lanes<L: BlockLane + Send + Drop, R: Threads + Wait + Sync, G: Gate + Sy
         relation,
         base,
         listing: Listing::Scan,
+        stats: false,
         rounds: options.rounds,
     };
     let ListingEnd { lanes, end } = list(rt, alloc, options, listed, lanes, &mut Discard, gate);

@@ -1,21 +1,30 @@
 //! What a backend counts, and what becomes of it as the backend goes.
-ghost use Rattle.std.specs.Prelude.{◌≡◌, ◌≢◌, ◌+◌, ◌<◌, [], IfOk, None, false};
+ghost use Rattle.std.specs.Prelude.{◌≡◌, ◌≢◌, ◌+◌, ◌<◌, [], IfOk, None, false, is_some, true};
+ghost use Rattle.block_tag.specs.Names.{lane_number, names_block};
 ghost use Rattle.pin_core.specs.State.{joined_view};
 ghost use Rattle.pin_core.specs.Steps.{HoldsNoHeader, HoldsNothing};
 ghost use Rattle.history_core.specs.Balances.{added_to};
 ghost use Rattle.history_core.specs.Words.{counter_count};
-ghost use Rattle.frame_table.specs.Seats.{Fits, IsSeat, frames_of};
+ghost use Rattle.table_rule.specs.Blocks.{has_block};
+ghost use Rattle.frame_table.specs.Seats.{Fits, IsSeat, frames_of, lanes_in, relations_of};
+ghost use Rattle.io_counts.specs.Additions.{additions, io_added, view_adding};
+ghost use Rattle.io_counts.specs.Counts.{context_of};
 ghost use Rattle.clock_sweep.specs.Choosing.{Chooses, frame_at_place, ring_gone_on};
 ghost use Rattle.clock_sweep.specs.FreeFrames.{joined_parts};
 ghost use Rattle.clock_sweep.specs.FreeLists.{IsOfSweep};
-ghost use Rattle.buffer_frames.specs.Tokens.{held_at, tokens_less};
+ghost use Rattle.buffer_frames.specs.Backends.{IsFurnished, choice_of};
+ghost use Rattle.buffer_frames.specs.Keeps.{IsReady};
+ghost use Rattle.buffer_frames.specs.Reads.{ReadsAndCounts};
+ghost use Rattle.buffer_frames.specs.Tokens.{IsNew, held_at, tokens_less};
 
 use access_rings::Ring;
 use atomic_table::Seat;
-use buffer_frames::HeldPins;
+use block_tag::Tag;
+use buffer_frames::{Backend, BlockError, HeldPins, PinnedBlock, read_block};
 use byte_devices::LogDevice;
 use clock_sweep::{Census, LockedFrame, NoUnpinned, QueuePass, Sweep, victim};
 use frame_table::{FrameTable, Pin, Value};
+use io_counts::{Tally, publish};
 use pin_core::View;
 use segment_store::BlockLane;
 use std::sync::Wait;
@@ -50,6 +59,46 @@ pub fn record_taken<L: BlockLane, G: LogDevice, R: Wait>(
         seat.old.me.0 queue.old seat.new.me.0 queue.new) }
 {
     victim(table, rt, seat, sweep, queue, census, ring)
+}
+
+/// What a read of a block did is counted once, in the context of its ring: a hit; each page that a
+/// lane gave or took; and each tag that a victim lost, as a reuse if the frame came from the ring's
+/// current place, and else as an eviction (`pgstat_count_io_op`).
+pub fn count_block<L: BlockLane, G: LogDevice, R: Wait>(
+    table: &FrameTable<L, G>,
+    rt: &R,
+    seat: &mut Seat<Value<L, G>, View>,
+    held: &HeldPins,
+    sweep: &Sweep,
+    backend: &mut Backend,
+    tag: &Tag,
+    ring: &mut Option<Ring>,
+) -> Result<PinnedBlock, BlockError>
+    requires ready { IsReady table.now held.now seat.old }
+    requires own { IsFurnished table.now sweep.now backend.old seat.old.me.0 }
+    requires tag { names_block tag.now ≡ true }
+    requires block { has_block (relations_of table.now) tag.now ≡ true }
+    requires new { IsNew tag.now held.now }
+    ensures { ReadsAndCounts L.contents table.now tag.now held.now (is_some ring.old)
+        backend.new.lookups.hint (choice_of backend.old ring.old) (choice_of backend.new ring.new)
+        (context_of ring.old) (lane_number tag.now (lanes_in table.now))
+        seat.old.me.0 seat.new.me.0 backend.old.io.counted backend.new.io.counted result }
+{
+    read_block(table, rt, seat, held, sweep, backend, tag, ring)
+}
+
+/// What a backend publishes is what it has counted since it last did, once (`pgstat_flush_io`).
+pub fn publish_counts<L: BlockLane, G: LogDevice>(
+    table: &FrameTable<L, G>,
+    seat: &mut Seat<Value<L, G>, View>,
+    tally: &mut Tally,
+)
+    requires seat { IsSeat table.now seat.old }
+    requires told { io_added seat.old.me.0 ≡ tally.old.published }
+    ensures { seat.new.me.0
+        ≡ view_adding (additions tally.old.published tally.old.counted) seat.old.me.0 }
+{
+    publish(table, seat, tally);
 }
 
 /// What a backend read and put stays in the history that the table is closed with: the first

@@ -9,7 +9,9 @@ mod pages;
 mod victims;
 mod words;
 
-pub use backends::{give_token_back, join_queues, join_seats, load_total, record_taken};
+pub use backends::{
+    count_block, give_token_back, join_queues, join_seats, load_total, publish_counts, record_taken,
+};
 pub use frames::{
     has_tag, insert_new, is_of_block, lock_exclusively, lock_victim, lower_usage, pin_found,
     take_tag, unpin,

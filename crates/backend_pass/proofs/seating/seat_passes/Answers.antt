@@ -37,6 +37,7 @@ loop-number-init g c =
       tokens = ap (λ (p : PassState). p.tokens) e;
       census = ap (λ (p : PassState). p.census) e ∙ fresh_last (frames_of c.args.manager.now.table) c.take_last.new.self.items c.take_last.result fresh;
       hint = ap (λ (p : PassState). p.hint) e;
+      io = ap (λ (p : PassState). p.io) e;
       list = subst (IsFreeList {L = g.row.L.Denot} {G = g.row.G.Denot} c.args.manager.now.table c.args.manager.now.sweep) (sym (ap (λ (p : PassState). p.queue) e)) c.requires.queue;
       parts = (let first = ap (λ (p : PassState). p.queue.known.parts) e in let whole = ap (λ (x : QueueView). x.parts) c.requires.known in omega arith);
       pushed = ap (λ (p : PassState). p.queue.known.pushed) e ∙ ap (λ (x : QueueView). x.pushed) c.requires.known;
@@ -60,7 +61,7 @@ loop-number-preserved g c =
     let number : c.loop-number.number ≡ length c.loop-number.passes.items + 1 = omega (arith, ok.0) in
     let fresh : AreForFrames (frames_of c.args.manager.now.table) (c.take_last-in-loop-number.new.self.items ++ c.take_last-in-loop-number.result ∷ []) = subst (AreForFrames (frames_of c.args.manager.now.table)) c.take_last-in-loop-number.ensures.items i.fresh in
     let new : IsNewPass {L = g.row.L.Denot} {G = g.row.G.Denot} g.L.BlockLane.contents c.args.manager.now c.args.count (length c.loop-number.passes.items + 1) c.split-pass.result = split_of_first {L = g.row.L.Denot} {G = g.row.G.Denot} g.L.BlockLane.contents c.args.manager.now c.args.count c.split-pass.result c.loop-number.first.view c.args.base c.loop-number.number (length c.loop-number.passes.items) s.view i.view number c.requires.base
-    (s.table ∙ i.table) s.fresh.0 (s.fresh.1 ∙ fresh_last (frames_of c.args.manager.now.table) c.take_last-in-loop-number.new.self.items c.take_last-in-loop-number.result fresh) s.fresh.2 (list_new _ _ _ _ i.list s.queue) (known_new _ _ _ _ i.list s.queue) in record {
+    (s.table ∙ i.table) s.fresh.0 (s.fresh.1 ∙ fresh_last (frames_of c.args.manager.now.table) c.take_last-in-loop-number.new.self.items c.take_last-in-loop-number.result fresh) s.fresh.2 s.fresh.3 (list_new _ _ _ _ i.list s.queue) (known_new _ _ _ _ i.list s.queue) in record {
       memories = omega arith;
       fresh = fresh_front (frames_of c.args.manager.now.table) c.take_last-in-loop-number.new.self.items c.take_last-in-loop-number.result fresh;
       table = ap (λ (p : PassState). p.table) s.first ∙ i.table;
@@ -69,6 +70,7 @@ loop-number-preserved g c =
       tokens = ap (λ (p : PassState). p.tokens) s.first ∙ i.tokens;
       census = ap (λ (p : PassState). p.census) s.first ∙ i.census;
       hint = ap (λ (p : PassState). p.hint) s.first ∙ i.hint;
+      io = ap (λ (p : PassState). p.io) s.first ∙ i.io;
       list = list_kept _ _ _ _ i.list (ap (λ (p : PassState). p.queue) s.first);
       parts = (let kept = ap (λ (p : PassState). p.queue.known.parts) s.first in let before = i.parts in let end = c.loop-number-test.true in let few = c.requires.count in omega arith);
       pushed = ap (λ (p : PassState). p.queue.known.pushed) s.first ∙ i.pushed;
@@ -87,7 +89,7 @@ returns g c =
     let within = c.loop-number.auto.number-end in
     let some = c.requires.count.0 in
     let number : c.loop-number.number ≡ c.args.count = omega arith in
-    let first = first_counted {L = g.row.L.Denot} {G = g.row.G.Denot} g.L.BlockLane.contents c.args.manager.now c.args.count c.loop-number.first c.args.base c.loop-number.number i.view number c.requires.base i.table i.tokens i.census i.hint i.list i.parts i.pushed i.taken in
+    let first = first_counted {L = g.row.L.Denot} {G = g.row.G.Denot} g.L.BlockLane.contents c.args.manager.now c.args.count c.loop-number.first c.args.base c.loop-number.number i.view number c.requires.base i.table i.tokens i.census i.hint i.io i.list i.parts i.pushed i.taken in
     let long = c.push_reserved-2.ensures.len in
     let wide : vec_len c.push_reserved-2.new.self ≡ length c.loop-number.passes.items + 1 = omega (arith, ok.0) in
     let back = c.rotate_right.ensures.items ∙ ap (λ (l : List PassState). drop (vec_len c.push_reserved-2.new.self - 1) l ++ take (vec_len c.push_reserved-2.new.self - 1) l) c.push_reserved-2.ensures.items

@@ -3,6 +3,7 @@ use Rattle.std.specs.Prelude.{vec_capacity}
 use Rattle.clock_sweep.specs.CensusList.{new_census}
 use Rattle.clock_sweep.specs.FreeLists.{IsFreeList}
 use Rattle.frame_table.specs.Seats.{frames_of}
+use Rattle.io_counts.specs.Counts.{no_io}
 use Rattle.buffer_frames.specs.Tokens.{no_tokens}
 use Rattle.buffer_frames.specs.declared.hinting.HintSeen.TheVariants.{Unused}
 use Rattle.backend_pass.specs.PassMemories.{AreForFrames}
@@ -19,6 +20,7 @@ invariant-loop-number g l = record {
   tokens : l.first.tokens ≡ no_tokens;
   census : l.first.census ≡ new_census (frames_of l.fn.manager.table);
   hint : l.first.hint ≡ Unused;
+  io : l.first.io ≡ no_io;
   list : IsFreeList {L = g.row.L.Denot} {G = g.row.G.Denot} l.fn.manager.table l.fn.manager.sweep l.first.queue;
   parts : l.first.queue.known.parts + l.number ≡ 65;
   pushed : l.first.queue.known.pushed ≡ [];

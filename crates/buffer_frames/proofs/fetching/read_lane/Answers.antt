@@ -4,7 +4,6 @@ use Rattle.std.specs.Result.{is_ok}
 use Rattle.block_tag.specs.Names.{lane_number, packed_tag}
 use Rattle.atomic_table.specs.Table.{rest}
 use Rattle.pin_core.specs.declared.view.DeviceCall.TheVariants.{LaneRead}
-use Rattle.pin_core.specs.declared.view.View.{View}
 use Rattle.pin_core.specs.State.{lane_hold, link}
 use Rattle.table_rule.specs.LaneCalls.{lane_devices}
 use Rattle.frame_table.specs.Seats.{SameSeat}

@@ -8,7 +8,7 @@ use Rattle.frame_table.proofs.Told.{looked_same}
 use Rattle.frame_table.proofs.Rising.{rises_none, rises_touched}
 use Rattle.buffer_frames.proofs.Keeping.{beside_kept}
 use Rattle.buffer_frames.specs.declared.flushing.FlushedPage.TheVariants.{Written}
-use Rattle.buffer_frames.specs.Flushing.{clean, flushed, locked, rejected}
+use Rattle.buffer_frames.specs.Flushing.{FreesVictim, clean, flushed, locked, rejected}
 use Rattle.buffer_frames.specs.Flushing.{met_refused}
 use Rattle.buffer_frames.proofs.Answering.{error_between, flush_makes_flush_calls, none_made}
 use Rattle.buffer_frames.proofs.Answering.{flush_calls_after, rejects_between, same_page}
@@ -35,7 +35,8 @@ pub returns-then-not-has-clause-answer : goal.returns-then-not-has-clause-answer
 returns-then-not-has-clause-answer g c = (
   refl,
   clean c.look.result c.look.ensures.did
-      (sym c.has.ensures ∙ c.if-not-has.true),
+      (sym c.has.ensures ∙ c.if-not-has.true) (made_none c.args.seat.now.me.0
+      c.look.new.seat.me.0 (ap (λ (x : View). x.device_calls) c.look.ensures.touches.self)),
 )
 
 pub returns-then-not-has-clause-calls : goal.returns-then-not-has-clause-calls
@@ -174,24 +175,27 @@ returns-in-Ok-clause-victim g c = victim_worked (packed_tag c.args.tag) c.args.f
 pub returns-in-Ok-clause-answer : goal.returns-in-Ok-clause-answer
 returns-in-Ok-clause-answer g c = let k = c.look.ensures in let s = c.try_share.ensures in (
   c.if-is_rejected.ensures.ring,
-  flushed c.in-Ok._written (record {
-    shared = c.try_share.new.seat.me.0;
-    kept = c.is_rejected.new.seat.me.0;
-    shares = shares_dirty c.args.frame c.look.result c.args.seat.now.me.0 c.look.new.seat.me.0
-        c.try_share.new.seat.me.0 c.look.ensures.did (sym c.has.ensures ∙ c.if-not-has.false)
-        c.in_default.ensures.did;
-    keeps = c.if-is_rejected.ensures.keeps;
-    since = (works_then (and_changed (and_looked (works_none c.args.frame c.requires.stands) k.seat
-        k.touches k.marks k.link) s.seat s.touches s.marks c.in_default.ensures.shared refl refl
-        refl) c.is_rejected.ensures.works).work.advances;
-    calls = made_none c.args.seat.now.me.0 c.is_rejected.new.seat.me.0
-        (made_same c.try_share.new.seat.me.0 c.is_rejected.new.seat.me.0 c.is_rejected.ensures.calls
-        ∙ ap (λ (x : View). x.device_calls) c.try_share.ensures.touches.self
-        ∙ ap (λ (x : View). x.device_calls) c.look.ensures.touches.self);
-    flush = c.in-Ok.ensures.answer;
-    written = λ is. c.in-Ok.ensures.written (same_page (Ok c.in-Ok._written) c.in-Ok._written
-        Written refl is);
-  }),
+  subst (FreesVictim {L = g.row.L.Denot} {G = g.row.G.Denot} g.L.BlockLane.contents c.args.table.now
+      (lane_number c.args.tag (lanes_in c.args.table.now)) c.args.tag c.args.frame c.args.from_ring
+      c.args.ring.now c.args.seat.now.me.0 c.flush_shared.new.seat.me.0) (sym c.is_written.ensures)
+      (flushed c.in-Ok.flushed (record {
+        shared = c.try_share.new.seat.me.0;
+        kept = c.is_rejected.new.seat.me.0;
+        shares = shares_dirty c.args.frame c.look.result c.args.seat.now.me.0 c.look.new.seat.me.0
+            c.try_share.new.seat.me.0 c.look.ensures.did (sym c.has.ensures ∙ c.if-not-has.false)
+            c.in_default.ensures.did;
+        keeps = c.if-is_rejected.ensures.keeps;
+        since = (works_then (and_changed (and_looked (works_none c.args.frame c.requires.stands) k.seat
+            k.touches k.marks k.link) s.seat s.touches s.marks c.in_default.ensures.shared refl refl
+            refl) c.is_rejected.ensures.works).work.advances;
+        calls = made_none c.args.seat.now.me.0 c.is_rejected.new.seat.me.0
+            (made_same c.try_share.new.seat.me.0 c.is_rejected.new.seat.me.0 c.is_rejected.ensures.calls
+            ∙ ap (λ (x : View). x.device_calls) c.try_share.ensures.touches.self
+            ∙ ap (λ (x : View). x.device_calls) c.look.ensures.touches.self);
+        flush = c.in-Ok.ensures.answer;
+        written = λ is. c.in-Ok.ensures.written (same_page (Ok c.in-Ok.flushed) c.in-Ok.flushed
+            Written refl is);
+      })),
 )
 
 pub returns-in-Ok-clause-calls : goal.returns-in-Ok-clause-calls
@@ -201,7 +205,7 @@ returns-in-Ok-clause-calls g c = flush_calls_after c.args.seat.now.me.0 c.is_rej
     ∙ ap (λ (x : View). x.device_calls) c.look.ensures.touches.self)
     (flush_makes_flush_calls {L = g.row.L.Denot} {G = g.row.G.Denot} g.L.BlockLane.contents
     c.args.table.now (lane_number c.args.tag (lanes_in c.args.table.now)) c.args.tag c.args.frame
-    c.is_rejected.new.seat.me.0 c.flush_shared.new.seat.me.0 (Ok c.in-Ok._written)
+    c.is_rejected.new.seat.me.0 c.flush_shared.new.seat.me.0 (Ok c.in-Ok.flushed)
     c.in-Ok.ensures.answer)
 
 pub returns-in-Ok-clause-met : goal.returns-in-Ok-clause-met

@@ -1,4 +1,4 @@
-use Rattle.std.proofs.Common.{◌≡◌, Bool, [], Option, None, refl, inl, subst, sym, ap, ◌∙◌}
+use Rattle.std.proofs.Common.{◌≡◌, Bool, Option, None, Ok, refl, inl, subst, sym, ap, ◌∙◌}
 use Rattle.std.specs.Prelude.{IfNone, MatchOption, option_map}
 use Rattle.pin_core.specs.declared.view.FailedCalls.{FailedCalls}
 use Rattle.frame_table.specs.declared.pin.Pin.{Pin}
@@ -6,10 +6,11 @@ use Rattle.frame_table.specs.Seats.{OnlyRises, frames_of}
 use Rattle.buffer_frames.specs.Rests.{LinksRest}
 use Rattle.buffer_frames.specs.Hinting.{LeavesHint}
 use Rattle.buffer_frames.specs.Lookups.{LooksUp}
-use Rattle.buffer_frames.specs.Reads.{Locates, PinAnswer}
+use Rattle.io_counts.specs.Counts.{context_of}
+use Rattle.buffer_frames.specs.Reads.{PinsAndCounts}
 use Rattle.buffer_frames.specs.VictimChoices.{choice_state}
-use Rattle.buffer_frames.specs.Victims.{ClaimAnswer, met_claimed}
-use Rattle.buffer_frames.proofs.Locating.{answers_missed, locates_now, notes_then, turns_then}
+use Rattle.buffer_frames.specs.Victims.{ClaimsAndCounts, met_claimed}
+use Rattle.buffer_frames.proofs.Locating.{notes_then, pins_found, pins_missed, turns_then}
 use Rattle.buffer_frames.proofs.Noting.{census_claimed}
 use Rattle.buffer_frames.proofs.Outside.{met_searched}
 use Rattle.buffer_frames.proofs.reading.pin_block.Given.{Over}
@@ -19,9 +20,11 @@ use Rattle.buffer_frames.proofs.reading.pin_block.Goals as goal
 -- the look-up gave a frame
 pub returns-in-Some-clause-calls : goal.returns-in-Some-clause-calls
 returns-in-Some-clause-calls g c = let u = c.look_up-found in
+    let before = choice_state c.args.backend.now.queue c.args.ring.now c.args.backend.now.census in
+    let io = c.args.backend.now.io.counted in
     let looks = subst (λ (o : Option Pin). LooksUp (frames_of c.args.table.now) c.args.tag.now c.args.held.now c.is_some-ringed.result c.args.seat.now.me.0 u.new.seat.me.0 u.result.1 (option_map Pin.frame o)) c.in-Some.is u.ensures.did in
-    subst (λ (b : Bool). Locates {L = g.row.L.Denot} {G = g.row.G.Denot} g.L.BlockLane.contents c.args.table.now c.args.tag.now c.args.held.now b u.result.1 (choice_state c.args.backend.now.queue c.args.ring.now c.args.backend.now.census) (choice_state c.args.backend.now.queue c.args.ring.now c.args.backend.now.census) c.in-Some.pin.frame [] c.args.seat.now.me.0 u.new.seat.me.0) c.is_some-ringed.ensures
-    (locates_now _ _ _ _ _ _ _ c.in-Some.pin.frame c.args.seat.now.me.0 u.new.seat.me.0 looks u.ensures.keeps.same)
+    subst (λ (b : Bool). PinsAndCounts {L = g.row.L.Denot} {G = g.row.G.Denot} g.L.BlockLane.contents c.args.table.now c.args.tag.now c.args.held.now b u.result.1 before before (context_of c.args.ring.now) c.args.seat.now.me.0 u.new.seat.me.0 io io (Ok c.in-Some.pin)) c.is_some-ringed.ensures
+    (pins_found {L = g.row.L.Denot} {G = g.row.G.Denot} g.L.BlockLane.contents c.args.table.now c.args.tag.now c.args.held.now c.is_some-ringed.result u.result.1 before (context_of c.args.ring.now) c.in-Some.pin c.args.seat.now.me.0 u.new.seat.me.0 io looks u.ensures.keeps.same)
 
 pub returns-in-Some-clause-hints : goal.returns-in-Some-clause-hints
 returns-in-Some-clause-hints g c = let u = c.look_up-found in
@@ -48,10 +51,14 @@ pub returns-clause-met : goal.returns-clause-met
 returns-clause-met g c = c.bring_in-pinned.ensures.met ∙ ap (λ (m : FailedCalls). met_claimed c.bring_in-pinned.result m) (met_searched c.args.seat.now.me.0 c.look_up-found.new.seat.me.0 c.look_up-found.ensures.keeps.same)
 
 pub returns-clause-calls : goal.returns-clause-calls
-returns-clause-calls g c = let u = c.look_up-found in let before = choice_state c.args.backend.now.queue c.args.ring.now c.args.backend.now.census in let after = choice_state c.bring_in-pinned.new.backend.queue c.bring_in-pinned.new.ring c.bring_in-pinned.new.backend.census in
-    let claimed = subst (λ (b : Bool). ClaimAnswer {L = g.row.L.Denot} {G = g.row.G.Denot} g.L.BlockLane.contents c.args.table.now c.args.tag.now c.args.held.now b u.new.seat.me.0 before c.bring_in-pinned.new.seat.me.0 after c.bring_in-pinned.result) (sym c.is_some-ringed.ensures) c.bring_in-pinned.ensures.answer in
-    subst (λ (b : Bool). PinAnswer {L = g.row.L.Denot} {G = g.row.G.Denot} g.L.BlockLane.contents c.args.table.now c.args.tag.now c.args.held.now b u.result.1 before after c.args.seat.now.me.0 c.bring_in-pinned.new.seat.me.0 c.bring_in-pinned.result) c.is_some-ringed.ensures
-    (answers_missed {L = g.row.L.Denot} {G = g.row.G.Denot} g.L.BlockLane.contents c.args.table.now c.args.tag.now c.args.held.now c.is_some-ringed.result before after u.result.1 c.args.seat.now.me.0 u.new.seat.me.0 c.bring_in-pinned.new.seat.me.0 c.bring_in-pinned.result c.requires.ready.rests (still g c) (looks g c) u.ensures.keeps.same (since g c) c.bring_in-pinned.ensures.keeps.rises c.bring_in-pinned.ensures.calls claimed c.bring_in-pinned.ensures.unpushed)
+returns-clause-calls g c = let u = c.look_up-found in let p = c.bring_in-pinned in
+    let before = choice_state c.args.backend.now.queue c.args.ring.now c.args.backend.now.census in
+    let after = choice_state p.new.backend.queue p.new.ring p.new.backend.census in
+    let context = context_of c.args.ring.now in
+    let io = c.args.backend.now.io.counted in
+    let claimed = subst (λ (b : Bool). ClaimsAndCounts {L = g.row.L.Denot} {G = g.row.G.Denot} g.L.BlockLane.contents c.args.table.now context c.args.tag.now c.args.held.now b u.new.seat.me.0 before p.new.seat.me.0 after io p.new.backend.io.counted p.result) (sym c.is_some-ringed.ensures) p.ensures.answer in
+    subst (λ (b : Bool). PinsAndCounts {L = g.row.L.Denot} {G = g.row.G.Denot} g.L.BlockLane.contents c.args.table.now c.args.tag.now c.args.held.now b u.result.1 before after context c.args.seat.now.me.0 p.new.seat.me.0 io p.new.backend.io.counted p.result) c.is_some-ringed.ensures
+    (pins_missed {L = g.row.L.Denot} {G = g.row.G.Denot} g.L.BlockLane.contents c.args.table.now c.args.tag.now c.args.held.now c.is_some-ringed.result before after context io p.new.backend.io.counted u.result.1 c.args.seat.now.me.0 u.new.seat.me.0 p.new.seat.me.0 p.result c.requires.ready.rests (still g c) (looks g c) u.ensures.keeps.same (since g c) p.ensures.keeps.rises p.ensures.calls claimed p.ensures.unpushed)
 
 pub returns-clause-turns : goal.returns-clause-turns
 returns-clause-turns g c = turns_then _ _ _ _ c.args.seat.now.me.0 c.look_up-found.new.seat.me.0 c.bring_in-pinned.new.seat.me.0 _ (looks g c) c.look_up-found.ensures.turns c.bring_in-pinned.ensures.turns

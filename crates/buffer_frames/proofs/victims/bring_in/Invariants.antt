@@ -4,8 +4,10 @@ use Rattle.buffer_frames.specs.Keeps.{Keeps}
 use Rattle.buffer_frames.specs.Outside.{kept_by_block_reads, ring_shape}
 use Rattle.buffer_frames.specs.Backends.{KeepsOwn}
 use Rattle.buffer_frames.specs.Bringing.{PushesNone}
-use Rattle.buffer_frames.specs.VictimChoices.{GivesVictimsUp, choice_state}
+use Rattle.io_counts.specs.Counts.{context_of}
+use Rattle.buffer_frames.specs.VictimChoices.{choice_state}
 use Rattle.buffer_frames.specs.Working.{Calls, IsFlushCall}
+use Rattle.buffer_frames.proofs.Trying.{TriesAndCounts}
 use Rattle.buffer_frames.proofs.victims.bring_in.Given as goal
 
 abbrev pub invariant-loop : goal.invariant-loop
@@ -19,5 +21,5 @@ invariant-loop g l = record {
   calls : Calls IsFlushCall l.fn.seat.me.0 l.seat.me.0;
   turns : l.fn.seat.me.0.turns ≤ l.seat.me.0.turns;
   hints : l.seat.me.0.hints ≡ l.fn.seat.me.0.hints;
-  tries : GivesVictimsUp {L = g.row.L.Denot} {G = g.row.G.Denot} g.L.BlockLane.contents l.fn.table l.fn.seat.me.0 (choice_state l.fn.backend.queue l.fn.ring l.fn.backend.census) l.seat.me.0 (choice_state l.backend.queue l.ring l.backend.census);
+  tries : TriesAndCounts {L = g.row.L.Denot} {G = g.row.G.Denot} g.L.BlockLane.contents l.fn.table (context_of l.fn.ring) l.fn.seat.me.0 (choice_state l.fn.backend.queue l.fn.ring l.fn.backend.census) l.seat.me.0 (choice_state l.backend.queue l.ring l.backend.census) l.fn.backend.io.counted l.backend.io.counted;
 }

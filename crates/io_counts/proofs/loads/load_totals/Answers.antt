@@ -13,3 +13,14 @@ returns-clause-view g c =
     loads_then v u w (loads_in 0 c.load_context-no_ring.result) (loads_in 5 c.load_context-bulk_read.result ++ (loads_in 10 c.load_context-bulk_write.result ++ loads_in 15 c.load_context-vacuum.result)) c.load_context-no_ring.ensures.view
     (loads_then u x w (loads_in 5 c.load_context-bulk_read.result) (loads_in 10 c.load_context-bulk_write.result ++ loads_in 15 c.load_context-vacuum.result) c.load_context-bulk_read.ensures.view
     (loads_then x y w (loads_in 10 c.load_context-bulk_write.result) (loads_in 15 c.load_context-vacuum.result) c.load_context-bulk_write.ensures.view c.load_context-vacuum.ensures.view))
+
+pub returns-clause-did : goal.returns-clause-did
+returns-clause-did g c = (
+  c.load_context-no_ring.new.seat.me.0,
+  c.load_context-bulk_read.new.seat.me.0,
+  c.load_context-bulk_write.new.seat.me.0,
+  c.load_context-no_ring.ensures.did,
+  c.load_context-bulk_read.ensures.did,
+  c.load_context-bulk_write.ensures.did,
+  c.load_context-vacuum.ensures.did,
+)

@@ -1,6 +1,6 @@
-use Rattle.relation_commands.specs.Answers.{text_asked}
+use Rattle.relation_commands.specs.Answers.{counted_asked, text_asked}
 use Rattle.command_line.specs.Spelled.{request_in}
-use Rattle.page_tool.proofs.Ended.{bad_log_ends, complete_ends, crowded_ends, done_bad_log, done_missing, fault_ends, limit_ends, missing_ends, refused_by, refused_files, said_some, text_refused, usage_ends, wrote_done, wrote_refused}
+use Rattle.page_tool.proofs.Ended.{bad_log_ends, complete_ends, counted_done, counted_refused, crowded_ends, done_bad_log, done_missing, fault_ends, limit_ends, missing_ends, refused_by, refused_files, said_some, text_refused, usage_ends, wrote_done, wrote_refused}
 use Rattle.page_tool.proofs.StatusLines.{said_as, said_nothing}
 use Rattle.page_tool.proofs.run.run.Goals as goal
 
@@ -17,6 +17,11 @@ pub returns-in-Ok-clause-recovers : goal.returns-in-Ok-clause-recovers
 returns-in-Ok-clause-recovers g c =
     wrote_done (request_in c.args.words.now) (g.H.Host.logs c.args.host.now)
     (g.O.Sink.bytes c.args.out.now) (g.O.Sink.bytes c.perform.new.out) c.in-Ok.ensures.recovers
+
+pub returns-in-Ok-clause-counted : goal.returns-in-Ok-clause-counted
+returns-in-Ok-clause-counted g c =
+    counted_done (request_in c.args.words.now) (λ a. counted_asked a (g.H.Host.contents c.args.host.now))
+    (g.O.Sink.bytes c.args.out.now) (g.O.Sink.bytes c.perform.new.out) c.in-Ok.ensures.counted
 
 pub returns-in-Err-clause-says : goal.returns-in-Err-clause-says
 returns-in-Err-clause-says g c =
@@ -46,6 +51,12 @@ returns-in-Err-clause-text g c =
     let some = said_some c.in-Err.error _ _ _ _ _ c.say.ensures in
     text_refused (request_in c.args.words.now) (λ a. text_asked a (g.H.Host.contents c.args.host.now))
     (g.O.Sink.bytes c.args.out.now) (g.O.Sink.bytes c.perform.new.out) c.in-Err.error _ some c.in-Err.ensures.text
+
+pub returns-in-Err-clause-counted : goal.returns-in-Err-clause-counted
+returns-in-Err-clause-counted g c =
+    let some = said_some c.in-Err.error _ _ _ _ _ c.say.ensures in
+    counted_refused (request_in c.args.words.now) (λ a. counted_asked a (g.H.Host.contents c.args.host.now))
+    (g.O.Sink.bytes c.args.out.now) (g.O.Sink.bytes c.perform.new.out) c.in-Err.error _ some c.in-Err.ensures.counted
 
 pub returns-in-Err-clause-recovers : goal.returns-in-Err-clause-recovers
 returns-in-Err-clause-recovers g c =

@@ -1,6 +1,6 @@
-use Rattle.std.proofs.Common.{◌∙◌}
+use Rattle.std.proofs.Common.{◌∙◌, refl}
 use Rattle.backend_pass.proofs.Between.{no_lock_kept}
-use Rattle.backend_pass.proofs.Keeping.{callers_on}
+use Rattle.backend_pass.proofs.Keeping.{callers_none, callers_on}
 use Rattle.relation_commands.specs.Rewriting.{checkpoint_error}
 use Rattle.relation_commands.proofs.RewriteCauses.{meets_since, stop_meets}
 use Rattle.relation_commands.proofs.rewriting.checkpoint_past.Goals as goal
@@ -16,6 +16,14 @@ returns-in-Err-clause-cause g c =
 
 pub returns-then-done-front-clause-callers : goal.returns-then-done-front-clause-callers
 returns-then-done-front-clause-callers g c = callers_on c.args.pass.now c.loop.pass c.checkpoint.new.pass c.loop.invariant.callers c.checkpoint.ensures.callers
+
+pub loop-init : goal.loop-init
+loop-init g c = record {
+  belongs = c.requires.belongs;
+  unlocked = c.requires.unlocked;
+  callers = callers_none c.args.pass.now;
+  met = refl;
+}
 
 pub loop-preserved : goal.loop-preserved
 loop-preserved g c = record {

@@ -1,8 +1,8 @@
 use Rattle.std.proofs.Common.{◌∙◌, ℕ, refl, sym, ap, subst}
 use Rattle.pin_core.specs.declared.view.View.{View}
-use Rattle.buffer_frames.specs.Outside.{shown_count}
 use Rattle.backend_pass.specs.Managers.{Belongs}
 use Rattle.backend_pass.specs.Passes.{IsNumbered, PassState, view_in}
+use Rattle.backend_pass.proofs.Counted.{counted_kept, told_of}
 use Rattle.backend_pass.proofs.Releasing.{belongs_held}
 use Rattle.backend_pass.proofs.Seated.{Worked}
 use Rattle.frame_table.specs.WordSteps.{DidWord, begin_checkpoint}
@@ -34,7 +34,7 @@ invariant_of-self g c =
       subst (λ (id : ℕ). IsNumbered c.self.inside.number id w) (sym e.badge.id) (record { number_is = ap (λ (x : View). x.number) e.did.view ∙ i.2.number_is; first = i.2.first }),
       shown_met v w _ (ap (λ (x : View). x.front) e.did.view) (ap (λ (x : View). x.met) e.did.view) i.3,
       i.4,
-      i.5 ∙ ap (λ (x : View). shown_count x.turns) (sym e.did.view),
+      counted_kept _ _ _ _ (ap told_of e.did.view) i.5,
     )
 
 pub returns-clause-belongs : goal.returns-clause-belongs
@@ -45,7 +45,7 @@ returns-clause-belongs g c =
 
 pub returns-clause-callers : goal.returns-clause-callers
 returns-clause-callers g c =
-    let e = begun g c in callers_from _ _ _ c.self.view_is (callers_begun c.load_log_end-upto.result _ _ e.badge.table e.badge.id refl refl refl e.did.view (locks_unmarked (view_in c.self.inside.seat.views) (view_in c.return_seat.new.badge.views) e.did.unmarked))
+    let e = begun g c in callers_from _ _ _ c.self.view_is (callers_begun c.load_log_end-upto.result _ _ e.badge.table e.badge.id refl refl refl refl e.did.view (locks_unmarked (view_in c.self.inside.seat.views) (view_in c.return_seat.new.badge.views) e.did.unmarked))
 
 pub returns-clause-did : goal.returns-clause-did
 returns-clause-did g c =

@@ -1,20 +1,26 @@
-use Rattle.std.proofs.Common.{◌≡◌, ◌∙◌, ℕ, Bool, Result, ap, refl, sym, subst}
+use Rattle.std.proofs.Common.{◌≡◌, ◌∙◌, ℕ, Bool, None, Result, ap, refl, sym, subst}
 use Rattle.crossbeam_utils.specs.Padded.{padded_value}
 use Rattle.block_tag.specs.Names.{lane_number}
 use Rattle.pin_core.specs.declared.view.Content.TheVariants.{Unlocked}
 use Rattle.pin_core.specs.declared.view.View.{View}
 use Rattle.pin_core.specs.State.{link}
+use Rattle.io_counts.specs.Counts.{io_with, no_counts}
+use Rattle.io_counts.specs.Tallies.{TallyState}
 use Rattle.frame_table.specs.Seats.{lanes_in}
+use Rattle.buffer_frames.specs.Counting.{CountsIo, page_written, writes_of}
+use Rattle.buffer_frames.specs.Outside.{shown_count}
+use Rattle.buffer_frames.proofs.Counting.{counts_flushed}
 use Rattle.buffer_frames.specs.declared.flushing.FrameFlushError.{FrameFlushError}
 use Rattle.buffer_frames.specs.declared.flushing.FlushedPage.{FlushedPage}
 use Rattle.buffer_frames.specs.Flushing.{EndedInError, EndedWritten, met_flushing}
-use Rattle.buffer_frames.specs.Outside.{shown_count}
 use Rattle.buffer_frames.specs.Rests.{HasNoDevice, HasNoLatch, LinksRest}
 use Rattle.buffer_frames.proofs.SameLocks.{same_locks_worked}
 use Rattle.backend_pass.specs.declared.errors.FlushError.{FlushError}
 use Rattle.backend_pass.specs.FrameFlushes.{page_answer, shown_page}
 use Rattle.backend_pass.specs.Managers.{Belongs}
 use Rattle.backend_pass.specs.Passes.{IsNumbered, IsShown, PassState, view_in}
+use Rattle.backend_pass.proofs.Counted.{counted_more}
+use Rattle.backend_pass.proofs.CountedWrites.{counted_from, counted_page}
 use Rattle.backend_pass.proofs.BlockReads.{numbered_kept, same_kept}
 use Rattle.backend_pass.proofs.Flushed.{ended_page, flush_complete, flush_short}
 use Rattle.backend_pass.proofs.Flushed.{shown_flush_of_page, written_page}
@@ -22,7 +28,7 @@ use Rattle.backend_pass.proofs.Releasing.{belongs_held}
 use Rattle.backend_pass.proofs.SeatWork.{FlushesPage, frame_worked}
 use Rattle.backend_pass.proofs.Seated.{Worked, same_from}
 use Rattle.backend_pass.proofs.pass.Pass.flush_frame.Given.{Over}
-use Rattle.backend_pass.proofs.pass.Pass.flush_frame.Goals.{After-return_seat}
+use Rattle.backend_pass.proofs.pass.Pass.flush_frame.Goals.{After-count_flush, After-return_seat}
 use Rattle.backend_pass.proofs.pass.Pass.flush_frame.Goals as goal
 
 -- what the call did to the seat
@@ -63,6 +69,23 @@ flushes g c r is =
     g.L.BlockLane.contents
     c.args.manager.now.table c.args.pinned.now.tag c.args.pinned.now.frame p.view w
     c.flush_frame-flushed.result) c.self.view_is (worked g c).did)
+
+-- what was counted of it
+counted : (g : Over) (c : goal.After-count_flush g)
+    → Worked (λ v w. FlushesPage {L = g.row.L.Denot} {G = g.row.G.Denot} g.L.BlockLane.contents
+    c.args.manager.now.table c.args.pinned.now.tag c.args.pinned.now.frame v w
+    c.flush_frame-flushed.result) c.self.inside.held c.self.inside.seat c.return_seat.new.badge
+    → CountsIo None no_counts (view_in c.self.inside.seat.views) (view_in c.return_seat.new.badge.views)
+    c.self.inside.backend.io.counted c.count_flush.new.io.counted
+counted g c e = let io = c.self.inside.backend.io.counted in
+    counts_flushed {L = g.row.L.Denot} {G = g.row.G.Denot} g.L.BlockLane.contents
+    c.args.manager.now.table
+    (lane_number c.args.pinned.now.tag (lanes_in c.args.manager.now.table)) c.args.pinned.now.tag
+    c.args.pinned.now.frame None _ _ c.flush_frame-flushed.result io c.count_flush.new.io.counted
+    e.did.answer (ap (λ (x : View). x.cleared) e.did.works.kept)
+    (ap (λ (x : TallyState). x.counted) c.count_flush.ensures
+    ∙ ap (λ (r : Result FlushedPage FrameFlushError). io_with None (writes_of (page_written r)) io)
+    c.flush_answer-answer.ensures)
 
 pub flush_frame-flushed-requires-clause-stands : goal.flush_frame-flushed-requires-clause-stands
 flush_frame-flushed-requires-clause-stands g c = record {
@@ -106,7 +129,11 @@ invariant_of-self g c =
           (subst (λ (r : Result FlushedPage FrameFlushError). w.met ≡ met_flushing r v.met)
           (sym c.flush_answer-answer.ensures) e.did.met) i.3),
       i.4,
-      i.5 ∙ ap (λ (x : View). shown_count x.turns) (sym e.did.works.kept),
+      counted_more None no_counts _ _ _ _ v w (i.5.turns_are
+          ∙ ap (λ (x : View). shown_count x.turns) (sym e.did.works.kept))
+          (ap (λ (x : View). x.published) e.did.works.kept)
+          (ap (λ (x : TallyState). x.published) c.count_flush.ensures)
+          (counted g (goal.at.invariant_of-self g c).After-count_flush e) i.5,
     )
 
 pub returns-clause-belongs : goal.returns-clause-belongs
@@ -165,6 +192,15 @@ returns-clause-written g c = written_page
     (view_in c.return_seat.new.badge.views)) c.flush_answer-answer.result
     (flushes g (goal.at.returns-clause-written g c).After-return_seat
     c.flush_answer-answer.result c.flush_answer-answer.ensures).written
+
+pub returns-clause-counts : goal.returns-clause-counts
+returns-clause-counts g c =
+    let e = worked g (goal.at.returns-clause-counts g c).After-return_seat in
+    counted_from _ _ _ c.self.view_is (counted_page {L = g.row.L.Denot} {G = g.row.G.Denot}
+    g.L.BlockLane.contents c.args.manager.now.table
+    (lane_number c.args.pinned.now.tag (lanes_in c.args.manager.now.table)) c.args.pinned.now.tag
+    c.args.pinned.now.frame _ _ c.flush_frame-flushed.result e.did.answer
+    (counted g (goal.at.returns-clause-counts g c).After-count_flush e))
 
 pub returns-clause-short : goal.returns-clause-short
 returns-clause-short g c n =

@@ -1,9 +1,10 @@
 use Rattle.std.proofs.Common.{◌∙◌, ℕ, refl, sym, ap, subst}
 use Rattle.pin_core.specs.declared.view.View.{View}
 use Rattle.buffer_frames.proofs.Keeping.{same_locks_linked}
-use Rattle.buffer_frames.specs.Outside.{shown_count}
 use Rattle.backend_pass.specs.Managers.{Belongs}
 use Rattle.backend_pass.specs.Passes.{IsNumbered, PassState, view_in}
+use Rattle.backend_pass.proofs.Counted.{counted_kept, told_of}
+use Rattle.backend_pass.proofs.CountedWrites.{counted_none}
 use Rattle.backend_pass.proofs.BlockReads.{numbered_kept}
 use Rattle.backend_pass.proofs.Releasing.{belongs_held}
 use Rattle.backend_pass.proofs.Seated.{Worked}
@@ -37,7 +38,7 @@ invariant_of-self g c =
       subst (λ (id : ℕ). IsNumbered c.self.inside.number id w) (sym e.badge.id) (numbered_kept c.self.inside.number c.self.inside.seat.id v w (ap (λ (x : View). x.number) e.did.view) i.2),
       shown_met v w _ (ap (λ (x : View). x.front) e.did.view) (ap (λ (x : View). x.met) e.did.view) i.3,
       i.4,
-      i.5 ∙ ap (λ (x : View). shown_count x.turns) (sym e.did.view),
+      counted_kept _ _ _ _ (ap told_of e.did.view) i.5,
     )
 
 pub returns-clause-belongs : goal.returns-clause-belongs
@@ -48,7 +49,7 @@ returns-clause-belongs g c =
 
 pub returns-clause-callers : goal.returns-clause-callers
 returns-clause-callers g c =
-    let e = loaded g c in callers_from _ _ _ c.self.view_is (callers_kept _ _ e.badge.table e.badge.id refl refl refl (ap kept_by_calls e.did.view) (rises_hand c.hand-answer.result (view_in c.self.inside.seat.views) (view_in c.return_seat.new.badge.views) e.did.view) (same_locks_linked (view_in c.self.inside.seat.views) (view_in c.return_seat.new.badge.views) (ap (λ (x : View). x.links) e.did.view)))
+    let e = loaded g c in callers_from _ _ _ c.self.view_is (callers_kept _ _ e.badge.table e.badge.id refl refl refl (ap kept_by_calls e.did.view) (rises_hand c.hand-answer.result (view_in c.self.inside.seat.views) (view_in c.return_seat.new.badge.views) e.did.view) (same_locks_linked (view_in c.self.inside.seat.views) (view_in c.return_seat.new.badge.views) (ap (λ (x : View). x.links) e.did.view)) (counted_none _ _ (ap (λ (x : View). x.device_calls) e.did.view) (ap (λ (x : View). x.cleared) e.did.view) refl))
 
 pub returns-clause-did : goal.returns-clause-did
 returns-clause-did g c =

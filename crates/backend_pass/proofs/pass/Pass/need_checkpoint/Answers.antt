@@ -1,9 +1,10 @@
 use Rattle.std.proofs.Common.{◌∙◌, ℕ, refl, sym, ap, subst}
 use Rattle.pin_core.specs.declared.view.View.{View}
 use Rattle.buffer_frames.proofs.Keeping.{same_locks_at}
-use Rattle.buffer_frames.specs.Outside.{shown_count}
 use Rattle.backend_pass.specs.Managers.{Belongs}
 use Rattle.backend_pass.specs.Passes.{IsNumbered, PassState, view_in}
+use Rattle.backend_pass.proofs.Counted.{counted_kept, told_of}
+use Rattle.backend_pass.proofs.CountedWrites.{counted_none}
 use Rattle.backend_pass.proofs.Releasing.{belongs_held}
 use Rattle.backend_pass.proofs.Seated.{Worked, same_from}
 use Rattle.std.specs.Prelude.{IfSome}
@@ -48,7 +49,7 @@ invariant_of-self g c =
       subst (λ (id : ℕ). IsNumbered c.self.inside.number id w) (sym e.badge.id) (numbered_self c.self.inside.number c.self.inside.seat.id v w e.did.touches.self i.2),
       shown_self v w _ e.did.touches.self i.3,
       i.4,
-      i.5 ∙ ap (λ (x : View). shown_count x.turns) (sym e.did.touches.self),
+      counted_kept _ _ _ _ (ap told_of e.did.touches.self) i.5,
     )
 
 pub returns-clause-belongs : goal.returns-clause-belongs
@@ -63,7 +64,7 @@ returns-clause-same g c =
 
 pub returns-clause-callers : goal.returns-clause-callers
 returns-clause-callers g c =
-    let e = noted g c in callers_from _ _ _ c.self.view_is (callers_kept _ _ e.badge.table e.badge.id refl refl refl (kept_self (view_in c.self.inside.seat.views) (view_in c.return_seat.new.badge.views) e.did.touches.self (ap (λ (x : ViewMarks). x.dirtied_or_synced) e.did.marks)) (rises_touched c.args.frame (view_in c.self.inside.seat.views) (view_in c.return_seat.new.badge.views) e.did.touches) (same_locks_at c.args.frame (view_in c.self.inside.seat.views) (view_in c.return_seat.new.badge.views) e.did.touches.others e.did.lock))
+    let e = noted g c in callers_from _ _ _ c.self.view_is (callers_kept _ _ e.badge.table e.badge.id refl refl refl (kept_self (view_in c.self.inside.seat.views) (view_in c.return_seat.new.badge.views) e.did.touches.self (ap (λ (x : ViewMarks). x.dirtied_or_synced) e.did.marks)) (rises_touched c.args.frame (view_in c.self.inside.seat.views) (view_in c.return_seat.new.badge.views) e.did.touches) (same_locks_at c.args.frame (view_in c.self.inside.seat.views) (view_in c.return_seat.new.badge.views) e.did.touches.others e.did.lock) (counted_none _ _ (ap (λ (x : View). x.device_calls) e.did.touches.self) (ap (λ (x : View). x.cleared) e.did.touches.self) refl))
 
 pub returns-clause-touches : goal.returns-clause-touches
 returns-clause-touches g c =

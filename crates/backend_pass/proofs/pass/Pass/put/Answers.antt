@@ -5,11 +5,11 @@ use Rattle.pin_core.specs.declared.view.Content.TheVariants.{Exclusive}
 use Rattle.pin_core.specs.declared.view.View.{View}
 use Rattle.pin_core.specs.State.{Page, link}
 use Rattle.frame_table.specs.Seats.{base_of, relations_of}
-use Rattle.buffer_frames.specs.Outside.{shown_count}
 use Rattle.buffer_frames.specs.Rests.{HasNoDevice, LinksRest}
 use Rattle.buffer_frames.specs.Tokens.{IsPinnedFor}
 use Rattle.backend_pass.specs.Managers.{Belongs}
 use Rattle.backend_pass.specs.Passes.{IsNumbered, IsShown, PassState, shown_after_put, view_in}
+use Rattle.backend_pass.proofs.Counted.{counted_kept, told_of}
 use Rattle.backend_pass.proofs.Flushed.{block_of_token, frame_of_token}
 use Rattle.backend_pass.proofs.PassPuts.{belongs_put, calls_unput, dirtied_unput, entered_unput}
 use Rattle.backend_pass.proofs.PassPuts.{front_put, locks_put, none_unentered_put, numbered_put}
@@ -118,7 +118,7 @@ invariant_of-self g c =
           c.args.exclusive.now.pinned.frame c.args.exclusive.now.pinned.tag _ v w
           (padded_value c.self.inside.shown) answer e.did.answer e.did.met i.3),
       i.4,
-      i.5 ∙ ap (λ (x : View). shown_count x.turns) (sym e.did.puts.kept),
+      counted_kept _ _ _ _ (ap told_of e.did.puts.kept) i.5,
     )
 
 pub returns-clause-belongs : goal.returns-clause-belongs

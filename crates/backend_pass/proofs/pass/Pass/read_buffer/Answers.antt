@@ -1,4 +1,9 @@
-use Rattle.std.proofs.Common.{◌≡◌, ◌∙◌, ℕ, inl, Ok, true, ap, refl, sym, subst, ◌<◌, arith}
+use Rattle.std.proofs.Common.{◌≡◌, ◌∙◌, ℕ, inl, Ok, Option, true, ap, refl, sym, subst, ◌<◌, arith}
+use Rattle.access_rings.specs.declared.ring.RingKind.{RingKind}
+use Rattle.io_counts.specs.declared.contexts.ByContext.{ByContext}
+use Rattle.io_counts.specs.declared.contexts.IoEvent.TheVariants.{Hit}
+use Rattle.io_counts.specs.Counts.{context_of, io_with, one_of}
+use Rattle.io_counts.specs.Tallies.{TallyState}
 use Rattle.buffer_frames.specs.Tokens.{IsNew, IsPinnedFor, Tokens, count_of, tokens_more}
 use Rattle.buffer_frames.specs.Rests.{OnlyTokens, SameLocks}
 use Rattle.buffer_frames.specs.declared.hinting.HintSeen.TheVariants.{Unused}
@@ -7,16 +12,19 @@ use Rattle.backend_pass.specs.Managers.{Belongs}
 use Rattle.backend_pass.specs.Passes.{KeepsCalls, PassState, view_in}
 use Rattle.backend_pass.specs.Reading.{ReadsBlock, met_reading}
 use Rattle.backend_pass.proofs.BlockReads.{calls_hinted, frame_again, not_both, pinned_more, pinned_read, reads_hinted, rests_again, same_hinted, same_kept, unlocked_read}
+use Rattle.buffer_frames.proofs.Counting.{counts_hit}
 use Rattle.buffer_frames.proofs.HeldLists.{above_one}
 use Rattle.frame_table.specs.Seats.{frames_of, relations_of}
 use Rattle.frame_table.proofs.Rising.{rises_none}
 use Rattle.buffer_frames.proofs.Keeping.{same_locks_none}
 use Rattle.backend_pass.proofs.Complete.{at_once_none, not_at_once, read_complete, read_short, unsound_was}
 use Rattle.backend_pass.specs.HintsSeen.{StoresHints}
+use Rattle.backend_pass.proofs.Counted.{counted_more}
 use Rattle.backend_pass.proofs.HintsSeen.{shows_hint, turns_counted, turns_risen, turns_told}
 use Rattle.backend_pass.proofs.Releasing.{AreHeld, belongs_held, held_again}
 use Rattle.backend_pass.proofs.Seated.{same_from}
 use Rattle.backend_pass.proofs.pass.Pass.read_buffer.Given.{Over}
+use Rattle.backend_pass.proofs.pass.Pass.read_buffer.Goals.{After-count}
 use Rattle.backend_pass.proofs.pass.Pass.read_buffer.Goals as goal
 
 -- what the look-up tells of the pass as the call found it
@@ -30,6 +38,10 @@ met g c = c.read_new.ensures.met ∙ ap (λ (p : PassState). met_reading c.read_
 turns : (g : Over) (c : goal.After-read_new g) → TakesTurns c.read_new.new.self.hint c.args.self.now.view.turns c.read_new.new.self.view.turns
 turns g c = subst (λ (p : PassState). TakesTurns c.read_new.new.self.hint p.view.turns c.read_new.new.self.view.turns) c.self.view_is c.read_new.ensures.turns
 
+-- a hit is counted in the context of the ring
+hit : (g : Over) (c : goal.After-count g) → c.count.new.self.counted ≡ io_with (context_of c.args.ring.now) (one_of Hit) c.self.inside.backend.io.counted
+hit g c = ap (λ (x : TallyState). x.counted) c.count.ensures ∙ ap (λ (context : Option RingKind). io_with context (one_of Hit) c.self.inside.backend.io.counted) c.context_of.ensures
+
 pub returns-in_default-clause-again : goal.returns-in_default-clause-again
 returns-in_default-clause-again g c none f pinned = absurd (not_both c.args.tag f c.self.inside.held (subst (λ (p : PassState). IsPinnedFor c.args.tag f p.tokens) (sym c.self.view_is) pinned) c.in_default.ensures.new)
 
@@ -39,7 +51,9 @@ returns-in_default-clause-pinned g c = pinned_read {L = g.row.L.Denot} {G = g.ro
 pub invariant_of-self-2 : goal.invariant_of-self-2
 invariant_of-self-2 g c =
     let i = c.self.invariant in
-    (i.0, subst (λ (t : Tokens). OnlyTokens t (view_in c.self.inside.seat.views)) (sym c.add_token.ensures.tokens) (rests_again c.in-Some.frame c.self.inside.held (view_in c.self.inside.seat.views) i.1), i.2, i.3, i.4, i.5)
+    let v = view_in c.self.inside.seat.views in
+    let context = context_of c.args.ring.now in
+    (i.0, subst (λ (t : Tokens). OnlyTokens t v) (sym c.add_token.ensures.tokens) (rests_again c.in-Some.frame c.self.inside.held v i.1), i.2, i.3, i.4, counted_more context (one_of Hit) _ _ _ _ v v i.5.turns_are refl (ap (λ (x : TallyState). x.published) c.count.ensures) (counts_hit context v _ _ (hit g (goal.at.invariant_of-self-2 g c).After-count)) i.5)
 
 pub returns-clause-belongs : goal.returns-clause-belongs
 returns-clause-belongs g c =
@@ -52,12 +66,12 @@ returns-clause-again g c none f pinned =
     let same : c.in-Some.frame ≡ f = frame_again {L = g.row.L.Denot} {G = g.row.G.Denot} g.L.BlockLane.contents c.args.manager.now c.args.self.now c.args.tag c.in-Some.frame f here pinned c.requires.belongs in
     let tokens : c.add_token.new.self ≡ tokens_more f c.self.inside.held = c.add_token.ensures.tokens ∙ ap (λ (x : ℕ). tokens_more x c.self.inside.held) same in (
       ap (λ (x : ℕ). Ok (record { frame = x; tag = c.args.tag; hit = true })) same,
-      again _ f c.self.view_is tokens,
+      again _ (context_of c.args.ring.now) f c.self.view_is tokens (hit g (goal.at.returns-clause-again g c).After-count),
       refl,
     )
   where
-    again : (p : PassState) (f : ℕ) {q : PassState} {t : Tokens} → p ≡ q → t ≡ tokens_more f p.tokens → record p { tokens = t; hint = Unused } ≡ record q { tokens = tokens_more f q.tokens; hint = Unused }
-    again p f e tokens = ap (λ (t : Tokens). record p { tokens = t; hint = Unused }) tokens ∙ ap (λ (x : PassState). record x { tokens = tokens_more f x.tokens; hint = Unused }) e
+    again : (p : PassState) (context : Option RingKind) (f : ℕ) {q : PassState} {t : Tokens} {io : ByContext} → p ≡ q → t ≡ tokens_more f p.tokens → io ≡ io_with context (one_of Hit) p.io → record p { tokens = t; hint = Unused; io = io } ≡ record q { tokens = tokens_more f q.tokens; hint = Unused; io = io_with context (one_of Hit) q.io }
+    again p context f e tokens io = (λ i. record p { tokens = tokens i; hint = Unused; io = io i }) ∙ ap (λ (x : PassState). record x { tokens = tokens_more f x.tokens; hint = Unused; io = io_with context (one_of Hit) x.io }) e
 
 pub returns-clause-new : goal.returns-clause-new
 returns-clause-new g c none new = absurd (not_both c.args.tag c.in-Some.frame c.self.inside.held c.in-Some.ensures.pinned (subst (λ (p : PassState). IsNew c.args.tag p.tokens) (sym c.self.view_is) new))

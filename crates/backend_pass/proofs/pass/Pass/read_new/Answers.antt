@@ -4,6 +4,7 @@ use Rattle.crossbeam_utils.specs.Padded.{padded_value}
 use Rattle.block_tag.specs.Names.{packed_tag}
 use Rattle.pin_core.specs.declared.view.View.{View}
 use Rattle.frame_table.specs.Seats.{frames_of}
+use Rattle.io_counts.specs.Counts.{context_of}
 use Rattle.buffer_frames.specs.Hinting.{LeavesHint, TakesTurns}
 use Rattle.buffer_frames.specs.Backends.{choice_of}
 use Rattle.buffer_frames.specs.Outside.{kept_by_block_reads, shown_count}
@@ -20,6 +21,7 @@ use Rattle.backend_pass.specs.Reading.{ReadingCensus, met_read_refused, shown_af
 use Rattle.backend_pass.proofs.BlockReads.{belongs_with, census_of_refusal, first_reads}
 use Rattle.backend_pass.proofs.BlockReads.{links_refused, met_of_refusal, numbered_kept}
 use Rattle.backend_pass.proofs.BlockReads.{refused_reads, rests_pinned, shown_met, shown_refused}
+use Rattle.backend_pass.proofs.Counted.{counted_more}
 use Rattle.backend_pass.proofs.HintsSeen.{stores_refused}
 use Rattle.backend_pass.proofs.Releasing.{belongs_held}
 use Rattle.backend_pass.proofs.SeatWork.{LooksUp}
@@ -41,6 +43,8 @@ looked_up : (g : Over) (c : After-return_seat g)
     c.args.manager.now.table c.args.tag.now c.self.inside.held (is_some c.args.ring.now)
     c.read_block-answer.new.backend.lookups.hint (choice_of c.self.inside.backend c.args.ring.now)
     (choice_of c.read_block-answer.new.backend c.read_block-answer.new.ring)
+    (context_of c.args.ring.now) c.self.inside.backend.io.counted
+    c.read_block-answer.new.backend.io.counted
     (view_in c.self.inside.seat.views) (view_in c.return_seat.new.badge.views)
     c.read_block-answer.result
 looked_up g c =
@@ -48,8 +52,9 @@ looked_up g c =
     moved (λ v w. LooksUp {L = g.row.L.Denot} {G = g.row.G.Denot} g.L.BlockLane.contents
     c.args.manager.now.table c.args.tag.now c.self.inside.held (is_some c.args.ring.now)
     c.read_block-answer.new.backend.lookups.hint (choice_of c.self.inside.backend c.args.ring.now)
-    (choice_of c.read_block-answer.new.backend c.read_block-answer.new.ring) v w
-    c.read_block-answer.result) (view_in c.self.inside.seat.views)
+    (choice_of c.read_block-answer.new.backend c.read_block-answer.new.ring)
+    (context_of c.args.ring.now) c.self.inside.backend.io.counted
+    c.read_block-answer.new.backend.io.counted v w c.read_block-answer.result) (view_in c.self.inside.seat.views)
     (view_in c.return_seat.new.badge.views) c.take_seat-seat.result.me.0
     c.read_block-answer.new.seat.me.0 c.take_seat-seat.ensures.view c.return_seat.ensures.view
     record { answer = e.answer; met = e.met; calls = e.calls; turns = e.turns; hints = e.hints }
@@ -61,12 +66,16 @@ answered : (g : Over) (c : After-return_seat g) (r : Result PinnedBlock BlockErr
     c.args.manager.now.table c.args.tag.now c.self.inside.held (is_some c.args.ring.now)
     c.read_block-answer.new.backend.lookups.hint (choice_of c.self.inside.backend c.args.ring.now)
     (choice_of c.read_block-answer.new.backend c.read_block-answer.new.ring)
+    (context_of c.args.ring.now) c.self.inside.backend.io.counted
+    c.read_block-answer.new.backend.io.counted
     (view_in c.self.inside.seat.views) (view_in c.return_seat.new.badge.views) r
 answered g c r is = subst (λ (x : Result PinnedBlock BlockError). LooksUp {L = g.row.L.Denot}
     {G = g.row.G.Denot} g.L.BlockLane.contents
     c.args.manager.now.table c.args.tag.now c.self.inside.held (is_some c.args.ring.now)
     c.read_block-answer.new.backend.lookups.hint (choice_of c.self.inside.backend c.args.ring.now)
     (choice_of c.read_block-answer.new.backend c.read_block-answer.new.ring)
+    (context_of c.args.ring.now) c.self.inside.backend.io.counted
+    c.read_block-answer.new.backend.io.counted
     (view_in c.self.inside.seat.views) (view_in c.return_seat.new.badge.views) x) is (looked_up g c)
 
 pub read_block-answer-requires-clause-ready : goal.read_block-answer-requires-clause-ready
@@ -90,7 +99,7 @@ read_block-answer-requires-clause-own g c =
     (sym c.self.view_is) c.requires.belongs in record {
       queue = b.queue;
       census = b.frames;
-      counted = c.self.invariant.5
+      counted = c.self.invariant.5.turns_are
           ∙ ap (λ (v : View). shown_count v.turns) c.take_seat-seat.ensures.view;
     }
 
@@ -113,8 +122,11 @@ invariant_of-self g c =
           (ap (λ (x : View). x.front) k.same) e.met i.3,
       subst (λ (frames : ℕ). frames ≤ vec_capacity c.self.inside.marked)
           (sym c.read_block-answer.ensures.own.room) i.4,
-      c.read_block-answer.ensures.own.counted
-          ∙ ap (λ (x : View). shown_count x.turns) (sym c.return_seat.ensures.view),
+      counted_more (context_of c.args.ring.now) _ _ _ _ _ v w
+          (c.read_block-answer.ensures.own.counted
+          ∙ ap (λ (x : View). shown_count x.turns) (sym c.return_seat.ensures.view))
+          (ap (λ (x : View). x.published) k.same) c.read_block-answer.ensures.own.published
+          e.calls.counts i.5,
     )
 
 pub invariant_of-self-in-Err : goal.invariant_of-self-in-Err
@@ -147,8 +159,11 @@ invariant_of-self-in-Err g c =
           (ap (λ (x : View). x.front) k.same) met i.3),
       subst (λ (frames : ℕ). frames ≤ vec_capacity c.self.inside.marked)
           (sym c.read_block-answer.ensures.own.room) i.4,
-      c.read_block-answer.ensures.own.counted
-          ∙ ap (λ (x : View). shown_count x.turns) (sym c.return_seat.ensures.view),
+      counted_more (context_of c.args.ring.now) _ _ _ _ _ v w
+          (c.read_block-answer.ensures.own.counted
+          ∙ ap (λ (x : View). shown_count x.turns) (sym c.return_seat.ensures.view))
+          (ap (λ (x : View). x.published) k.same) c.read_block-answer.ensures.own.published
+          e.calls.counts i.5,
     )
 
 pub returns-in-Ok-clause-belongs : goal.returns-in-Ok-clause-belongs

@@ -9,10 +9,10 @@ use Rattle.frame_table.specs.Content.{CanLock}
 use Rattle.buffer_frames.specs.Rests.{HasAtMostLock}
 use Rattle.buffer_frames.specs.Tokens.{IsPinnedFor, held_at}
 use Rattle.buffer_frames.proofs.Keeping.{same_locks_at}
-use Rattle.buffer_frames.specs.Outside.{shown_count}
 use Rattle.backend_pass.specs.Managers.{Belongs}
 use Rattle.buffer_frames.specs.PageReads.{OnlyReads, ReadsPage, SharesToRead}
 use Rattle.backend_pass.specs.Passes.{IsNumbered, PassState, view_in}
+use Rattle.backend_pass.proofs.Counted.{counted_kept, told_of}
 use Rattle.backend_pass.proofs.PassReading.{belongs_read, numbered_read, rests_read, same_read, shown_read, tag_pinned}
 use Rattle.backend_pass.proofs.Relocking.{beside_lock, can_lock}
 use Rattle.backend_pass.proofs.Seated.{moved, moved_one, same_from}
@@ -56,7 +56,7 @@ invariant_of-self g c =
       subst (λ (id : ℕ). IsNumbered c.self.inside.number id (view_in c.return_seat.new.badge.views)) (sym same) (numbered_read c.self.inside.number c.self.inside.seat.id _ _ only i.2),
       shown_read _ _ (padded_value c.self.inside.shown) c.deref.result.now _ c.share_to_read-place.result only front c.deref.ensures c.new-self-inside.ensures i.3,
       i.4,
-      i.5 ∙ ap (λ (x : View). shown_count x.turns) (sym only.kept),
+      counted_kept _ _ _ _ (ap told_of only.kept) i.5,
     )
 
 pub returns-clause-belongs : goal.returns-clause-belongs

@@ -9,9 +9,9 @@ use Rattle.buffer_frames.specs.Tokens.{Tokens, held_at, tokens_of}
 use Rattle.buffer_frames.specs.Rests.{OnlyTokens, SameLocks}
 use Rattle.buffer_frames.proofs.HeldLists.{above_one}
 use Rattle.buffer_frames.proofs.Keeping.{same_locks_at, same_locks_none}
-use Rattle.buffer_frames.specs.Outside.{shown_count}
 use Rattle.backend_pass.specs.Managers.{Belongs}
 use Rattle.backend_pass.specs.Passes.{IsNumbered, PassState, view_in}
+use Rattle.backend_pass.proofs.Counted.{counted_kept, told_of}
 use Rattle.backend_pass.proofs.Releasing.{AreHeld, Unpins, belongs_held, belongs_touched, held_last, held_several, may_unpin, numbered_self, rests_fewer, rests_unpinned, same_touched, shown_self, unpins_at}
 use Rattle.backend_pass.proofs.BlockReads.{same_kept}
 use Rattle.backend_pass.proofs.Seated.{same_from}
@@ -54,7 +54,7 @@ invariant_of-self-2 g c =
       subst (λ (id : ℕ). IsNumbered c.self.inside.number id (view_in c.return_seat.new.badge.views)) (sym same) (numbered_self c.self.inside.number c.self.inside.seat.id _ _ u.touches.self i.2),
       shown_self _ _ _ u.touches.self i.3,
       i.4,
-      i.5 ∙ ap (λ (x : View). shown_count x.turns) (sym u.touches.self),
+      counted_kept _ _ _ _ (ap told_of u.touches.self) i.5,
     )
 
 pub returns-clause-belongs : goal.returns-clause-belongs

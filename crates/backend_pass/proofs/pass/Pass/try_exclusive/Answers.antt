@@ -10,10 +10,10 @@ use Rattle.buffer_frames.specs.Rests.{SameLocks}
 use Rattle.buffer_frames.specs.Tokens.{held_at}
 use Rattle.buffer_frames.proofs.Keeping.{same_locks_at}
 use Rattle.pin_core.specs.declared.view.View.{View}
-use Rattle.buffer_frames.specs.Outside.{shown_count}
 use Rattle.backend_pass.specs.Locks.{HasLock}
 use Rattle.backend_pass.specs.Managers.{Belongs}
 use Rattle.backend_pass.specs.Passes.{IsNumbered, PassState, view_in}
+use Rattle.backend_pass.proofs.Counted.{counted_kept, told_of}
 use Rattle.backend_pass.proofs.Releasing.{belongs_touched, numbered_self, same_touched, shown_self}
 use Rattle.backend_pass.proofs.Relocking.{Relocks, held_same, kept_refused, kept_taken, lock_refused, lock_taken, relocks_tried, rests_relocked, none_unentered_locked}
 use Rattle.backend_pass.proofs.Seated.{moved, moved_one, same_from}
@@ -33,7 +33,7 @@ invariant_of-self g c =
       subst (λ (id : ℕ). IsNumbered c.self.inside.number id (view_in c.return_seat.new.badge.views)) (sym same) (numbered_self c.self.inside.number c.self.inside.seat.id _ _ k.touches.self i.2),
       shown_self _ _ _ k.touches.self i.3,
       i.4,
-      i.5 ∙ ap (λ (x : View). shown_count x.turns) (sym k.touches.self),
+      counted_kept _ _ _ _ (ap told_of k.touches.self) i.5,
     )
 
 pub returns-clause-belongs : goal.returns-clause-belongs

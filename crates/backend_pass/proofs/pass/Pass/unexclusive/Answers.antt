@@ -7,9 +7,9 @@ use Rattle.pin_core.specs.declared.view.View.{View}
 use Rattle.pin_core.specs.State.{link}
 use Rattle.history_core.specs.Unentered.{HoldsUnentered}
 use Rattle.frame_table.specs.Content.{HoldsNoUnentered}
-use Rattle.buffer_frames.specs.Outside.{shown_count}
 use Rattle.backend_pass.specs.Managers.{Belongs}
 use Rattle.backend_pass.specs.Passes.{IsNumbered, PassState, view_in}
+use Rattle.backend_pass.proofs.Counted.{counted_kept, told_of}
 use Rattle.backend_pass.proofs.CleanupLocks.{rests_tagged}
 use Rattle.backend_pass.proofs.Relocking.{GivesUp, belongs_given_up, beside_lock, given_up_from, held_same, lock_given_up, noted_given_up, numbered_given_up, rests_given_up, same_given_up, shown_given_up}
 use Rattle.backend_pass.proofs.Seated.{moved, moved_one}
@@ -32,7 +32,7 @@ invariant_of-self g c =
       subst (λ (id : ℕ). IsNumbered c.self.inside.number id (view_in c.return_seat.new.badge.views)) (sym same) (numbered_given_up c.self.inside.number c.self.inside.seat.id f _ _ k i.2),
       shown_given_up f _ _ _ k i.3,
       i.4,
-      i.5 ∙ ap (λ (x : View). shown_count x.turns) (sym k.touches.self),
+      counted_kept _ _ _ _ (ap told_of k.touches.self) i.5,
     )
 
 pub returns-clause-belongs : goal.returns-clause-belongs

@@ -4,9 +4,9 @@ use Rattle.pin_core.specs.declared.view.Content.TheVariants.{Unlocked}
 use Rattle.pin_core.specs.declared.view.Link.{Link}
 use Rattle.pin_core.specs.declared.view.View.{View}
 use Rattle.pin_core.specs.State.{link}
-use Rattle.buffer_frames.specs.Outside.{shown_count}
 use Rattle.backend_pass.specs.Managers.{Belongs}
 use Rattle.backend_pass.specs.Passes.{IsNumbered, PassState, view_in}
+use Rattle.backend_pass.proofs.Counted.{counted_kept, told_of}
 use Rattle.backend_pass.proofs.Releasing.{belongs_touched, numbered_self, same_touched, shown_self}
 use Rattle.backend_pass.proofs.Relocking.{Relocks, beside_lock, changes_lock, held_same, rests_relocked}
 use Rattle.backend_pass.proofs.Seated.{moved, moved_one, same_from}
@@ -29,7 +29,7 @@ invariant_of-self g c =
       subst (λ (id : ℕ). IsNumbered c.self.inside.number id (view_in c.return_seat.new.badge.views)) (sym same) (numbered_self c.self.inside.number c.self.inside.seat.id _ _ k.touches.self i.2),
       shown_self _ _ _ k.touches.self i.3,
       i.4,
-      i.5 ∙ ap (λ (x : View). shown_count x.turns) (sym k.touches.self),
+      counted_kept _ _ _ _ (ap told_of k.touches.self) i.5,
     )
 
 pub returns-clause-belongs : goal.returns-clause-belongs

@@ -30,5 +30,5 @@ returns-clause-does g c =
       refl {a = c.args.self.now.lines},
       refl {a = c.args.self.now.shares},
       block_done {L = g.row.L.Denot} {G = g.row.G.Denot} g.L.BlockLane.contents c.args.manager.now c.args.tag.rel.0 c.args.tag.fork c.args.self.now.lines c.args.tag.block c.args.pass.now c.copy_if_sound.new.pass c.in_ok-found.found c.copy_if_sound.new.page
-          c.args.self.now.printed.text.items c.add.new.self.text.items c.args.self.now.printed.totals c.add.new.self.totals c.requires.free c.in_ok-found.ensures.read c.in_ok-add.ensures.lines c.in_ok-add.ensures.totals w,
+          c.args.self.now.printed.text.items c.add.new.self.text.items c.args.self.now.printed.totals c.add.new.self.totals c.requires.free c.in_ok-found.ensures.read c.in_ok-found.ensures.found c.in_ok-add.ensures.lines c.in_ok-add.ensures.totals w,
     )

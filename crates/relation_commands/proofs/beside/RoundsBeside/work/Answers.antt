@@ -1,5 +1,6 @@
-use Rattle.std.proofs.Common.{ℕ, sym, ◌∙◌, subst, add-one, arith}
+use Rattle.std.proofs.Common.{ℕ, refl, sym, ◌∙◌, subst, add-one, arith}
 use Rattle.checkpointer.proofs.Stopping.{fails_later}
+use Rattle.page_jobs.proofs.BesideWork.{beside_none}
 use Rattle.relation_commands.specs.Rounds.{MadeRounds}
 use Rattle.relation_commands.proofs.PassesBeside.{refuses_since, works_on}
 use Rattle.relation_commands.proofs.beside.RoundsBeside.work.Goals as goal
@@ -29,6 +30,14 @@ returns-in-Err-clause-works g c =
     let i = c.loop.invariant in
     let count = i.count in
     record { made = c.loop.counter; pass = c.loop.pass; all = i.made; ends = (omega (arith, count), c.in-Err.ensures.rounds) }
+
+pub loop-init : goal.loop-init
+loop-init g c = record {
+  works = beside_none {L = g.row.L.Denot} {G = g.row.G.Denot} g.L.BlockLane.contents c.args.manager.now c.args.pass.now c.requires.free.belongs;
+  met = refl;
+  count = refl;
+  made = refl;
+}
 
 pub loop-preserved : goal.loop-preserved
 loop-preserved g c =

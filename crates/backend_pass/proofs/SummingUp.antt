@@ -1,0 +1,83 @@
+-- The passes publish one after the other, and what they counted is summed up.
+use Rattle.std.proofs.Common.{◌≡◌, ◌≢◌, ℕ, zero, suc, ◌+◌, ◌<◌, ◌≤◌, List, [], ◌∷◌, length, map, get_or, set, take, take_all, ⊎_elim, refl, sym, ap, ◌∙◌, subst, add-one, arith}
+use mathlib.Core.Option.{some, some-injective, some-ne-none}
+use lib.ListN.{get_elem?}
+use Rattle.atomic_table.specs.Seated.{TableId}
+use Rattle.grid.proofs.Lists.{at_set}
+use Rattle.table_rule.proofs.Opens.{length_low}
+use Rattle.io_counts.specs.declared.contexts.ByContext.{ByContext}
+use Rattle.io_counts.specs.Counts.{no_io}
+use Rattle.io_counts.specs.Sums.{AreAllSmall, io_sum}
+use Rattle.io_counts.specs.Tallies.{AreAllAtMost, last_io}
+use Rattle.io_counts.proofs.Small.{io_lasts, io_sum_assoc, io_sum_none, lasts_more, lasts_none, none_io_sum, small_lasts}
+use Rattle.backend_pass.specs.Closing.{EachPass}
+use Rattle.backend_pass.specs.Counts.{io_in_all}
+use Rattle.backend_pass.specs.Managers.{AreSpent}
+use Rattle.backend_pass.specs.Passes.{HasPublished, PassState}
+use Rattle.backend_pass.proofs.Told.{as_long, but_told, set_told, twin}
+
+-- The first n of the passes ps have published, and are qs then with the others; io is what these n
+-- counted
+pub record SumsUp (n : ℕ) (ps qs : List PassState) (io : ByContext) : Type 0 where
+  pub same : map but_told qs ≡ map but_told ps
+  pub told : (i : ℕ) (q : PassState) → i < n → get_elem? qs i ≡ some q → HasPublished q
+  pub sums : io ≡ io_in_all (take n ps)
+  pub most : AreAllAtMost io (io_lasts n)
+
+-- one more
+in_all_more : (n : ℕ) (ps : List PassState) (p : PassState) → get_elem? ps n ≡ some p → io_in_all (take (suc n) ps) ≡ io_sum (io_in_all (take n ps)) p.io
+in_all_more n [] p e = absurd (some-ne-none p (sym e))
+in_all_more zero (x ∷ xs) p e = io_sum_none x.io ∙ ap (λ (y : PassState). y.io) (some-injective x p e) ∙ sym (none_io_sum p.io)
+in_all_more (suc n) (x ∷ xs) p e = ap (io_sum x.io) (in_all_more n xs p e) ∙ sym (io_sum_assoc x.io (io_in_all (take n xs)) p.io)
+
+read_at : (qs : List PassState) (n : ℕ) (d : PassState) → n < length qs → get_elem? qs n ≡ some (get_or qs n d)
+read_at [] n d inside = absurd (omega arith)
+read_at (x ∷ xs) zero d inside = refl
+read_at (x ∷ xs) (suc n) d inside = read_at xs n d (omega arith)
+
+pub sums_none : (ps : List PassState) → SumsUp 0 ps ps no_io
+sums_none ps = record {
+  same = refl;
+  told = λ i q below. absurd (omega arith);
+  sums = refl;
+  most = lasts_none;
+}
+
+pub sums_more : (n : ℕ) (ps qs : List PassState) (d new : PassState) (io io' : ByContext) → n < length qs → but_told new ≡ but_told (get_or qs n d) → HasPublished new → io' ≡ io_sum io (get_or qs n d).io → AreAllAtMost (get_or qs n d).io last_io → SumsUp n ps qs io → SumsUp (n + 1) ps (set qs n new) io'
+sums_more n ps qs d new io io' inside kept published sum low s =
+    let old : PassState = get_or qs n d in
+    let t = twin ps qs s.same n old (read_at qs n d inside) in record {
+      same = set_told qs n d new kept ∙ s.same;
+      told = λ i q below at. ⊎_elim
+          (λ (x : (i ≡ n) × (new ≡ q)). subst HasPublished x.1 published)
+          (λ (x : (i ≢ n) × (get_elem? qs i ≡ some q)). s.told i q (let other = x.0 in omega arith) x.1)
+          (at_set qs n i new q at);
+      sums = sum ∙ ap (λ (x : ByContext). io_sum x old.io) s.sums
+          ∙ ap (io_sum (io_in_all (take n ps))) (ap (λ (p : PassState). p.io) (sym t.2))
+          ∙ sym (in_all_more n ps t.0 t.1)
+          ∙ ap (λ (k : ℕ). io_in_all (take k ps)) (sym (add-one n));
+      most = subst (λ (x : ByContext). AreAllAtMost x (io_lasts (n + 1))) (sym sum) (lasts_more n io old.io s.most low);
+    }
+
+-- the next one is of the same table
+spent_there : (t : TableId) (ps : List PassState) (i : ℕ) (p : PassState) → AreSpent t ps → get_elem? ps i ≡ some p → p.table ≡ t
+spent_there t [] i p s e = absurd (some-ne-none p (sym e))
+spent_there t (x ∷ xs) zero p s e = ap (λ (y : PassState). y.table) (sym (some-injective x p e)) ∙ s.0
+spent_there t (x ∷ xs) (suc i) p s e = spent_there t xs i p s.2 e
+
+pub table_of_next : (t : TableId) (n : ℕ) (ps qs : List PassState) (d : PassState) (io : ByContext) → n < length qs → AreSpent t ps → SumsUp n ps qs io → (get_or qs n d).table ≡ t
+table_of_next t n ps qs d io inside spent s =
+    let w = twin ps qs s.same n (get_or qs n d) (read_at qs n d inside) in
+    ap (λ (p : PassState). p.table) (sym w.2) ∙ spent_there t ps n w.0 spent w.1
+
+-- there are few passes, so the sums are small
+pub small_so_far : (n : ℕ) (ps qs : List PassState) (io : ByContext) → n ≤ length qs → length ps ≤ 64 → SumsUp n ps qs io → AreAllSmall io
+small_so_far n ps qs io inside few s = small_lasts n io (let long = as_long ps qs s.same in omega arith) s.most
+
+-- all have published
+module _ (n : ℕ) (ps qs : List PassState) (io : ByContext) (all : length qs ≤ n) (s : SumsUp n ps qs io) where
+  pub all_published : EachPass HasPublished qs
+  all_published i q at = s.told i q (let below = length_low qs i q at in omega arith) at
+
+  pub all_summed : io ≡ io_in_all ps
+  all_summed = s.sums ∙ ap io_in_all (take_all n ps (let long = as_long ps qs s.same in omega arith))

@@ -1,0 +1,14 @@
+use Rattle.io_counts.proofs.loads.load_context.Goals as goal
+
+pub returns-clause-did : goal.returns-clause-did
+returns-clause-did g c = (
+  c.load_counter-hits.new.seat.me.0,
+  c.load_counter-reads.new.seat.me.0,
+  c.load_counter-writes.new.seat.me.0,
+  c.load_counter-evictions.new.seat.me.0,
+  c.load_counter-hits.ensures.did,
+  c.load_counter-reads.ensures.did,
+  c.load_counter-writes.ensures.did,
+  c.load_counter-evictions.ensures.did,
+  c.load_counter-reuses.ensures.did,
+)
