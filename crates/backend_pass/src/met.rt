@@ -10,7 +10,7 @@ pub struct Met {
 }
 
 /// The front of a pass, and the faults that it met.
-#[derive(Clone, Copy, PartialEq, Eq, Debug)]
+#[derive(Clone, Copy, Debug)]
 pub struct Shown {
     pub front: u64,
     pub met: Met,
