@@ -14,7 +14,9 @@ use crate::locking::{Refusals, try_beside_exclusive, try_beside_shared};
 use crate::sharing::{Copied, copy_all_twice, copy_beside};
 use crate::waiting::{Waited, wait_at_both};
 use backend_pass::{CleanupError, FlushError, HintSeen, Manager, Pass, PutError, ReadError};
-use manager_bench::bench::{Bench, block, close, start};
+use io_counts::IoCounts;
+use manager_bench::bench::{Bench, block, close_counted, start};
+use manager_bench::counting::{publish_once, totals_once};
 use manager_bench::putting::{flush_once, put_once};
 use manager_bench::reading::{Access, read_once};
 use page_layout::{Lsn, Page};
@@ -44,6 +46,10 @@ pub enum Own {
     CopyShared(u32),
     /// It tries the cleanup lock of this block with two tokens of it, and with one.
     CleanTwice(u32),
+    /// It publishes what it has counted, and says what that is.
+    Publish,
+    /// It loads the sums of what all passes have published.
+    Totals,
 }
 
 /// What the first pass and the second one do together.
@@ -106,6 +112,8 @@ pub enum Answer {
     WaitAtOne(Option<Option<CleanupError>>, Option<Asked>),
     WaitAtBoth(Waited, Waited),
     CopyBeside(Copied),
+    /// What a pass has counted, or what all have published.
+    Io(IoCounts),
 }
 
 /// The pages that passes put and copy.
@@ -165,6 +173,8 @@ fn perform_own<R: Wait>(
             Answer::Copy(copy_shared(manager, rt, pass, _number, block(at), page))
         }
         Own::CleanTwice(at) => Answer::CleanTwice(try_twice(manager, rt, pass, block(at))),
+        Own::Publish => Answer::Io(publish_once(manager, pass, _number)),
+        Own::Totals => Answer::Io(totals_once(manager, pass, _number)),
     }
 }
 
@@ -298,6 +308,8 @@ pub struct Played {
     pub pages: Pages,
     pub lanes: Vec<TestLane>,
     pub log: TestLog,
+    /// The sums of what the passes counted.
+    pub io: IoCounts,
 }
 
 impl Played {
@@ -341,12 +353,13 @@ pub fn play<R: Threads + Wait + Sync>(
         &mut pages,
         alloc,
     );
-    let (lanes, log) = close(manager, first, second, third, passes);
+    let (lanes, log, io) = close_counted(manager, first, second, third, passes);
     let played = Played {
         answers: answers?,
         pages,
         lanes,
         log,
+        io,
     };
     Ok(Box::new(alloc, played)?)
 }

@@ -1,6 +1,6 @@
 //! Tests of passes over a small manager: pins, reads, puts, content and cleanup locks, hints,
-//! crowded pools. `acts` plays a list of acts by three passes and says what came of each; the other
-//! modules have the acts that take several calls.
+//! crowded pools, I/O counts. `acts` plays a list of acts by three passes and says what came of
+//! each; the other modules have the acts that take several calls.
 #![tactic(auto)]
 
 #[cfg(test)]
@@ -13,6 +13,8 @@ mod choosing;
 mod cleaning;
 #[cfg(test)]
 mod copying;
+#[cfg(test)]
+mod counting_tests;
 #[cfg(test)]
 mod crowding;
 #[cfg(test)]

@@ -9,6 +9,7 @@ use backend_pass::{FlushError, Manager, Met, Pass, PutError, ReadError};
 use bg_writer::Round;
 use byte_devices::LogDevice;
 use checkpointer::{Checkpoint, CheckpointError};
+use io_counts::IoCounts;
 use manager_bench::bench::{Bench, block, close};
 use manager_bench::putting::{flush_once, put_once};
 use manager_bench::reading::{Access, copy_once, pin, read_once, unpin};
@@ -187,6 +188,8 @@ pub struct Played {
     pub calls: Vec<TestCall>,
     /// What the second pass met.
     pub met: Met,
+    /// What each of the three counted.
+    pub io: [IoCounts; 3],
     pub lanes: Vec<PageLane>,
     pub log: ByteLog,
 }
@@ -229,6 +232,7 @@ pub fn play<R: Wait>(
         alloc,
     );
     let met = second.met();
+    let io = [first.io(), second.io(), third.io()];
     let (lanes, log) = close(manager, first, second, third, passes);
     let answers = answers?;
     let calls = calls_of(&lanes, &log, alloc)?;
@@ -236,6 +240,7 @@ pub fn play<R: Wait>(
         answers,
         calls,
         met,
+        io,
         lanes,
         log,
     };

@@ -6,6 +6,7 @@ use crate::devices::{ByteLog, Failing, Journal, PageLane, TestCall};
 use access_rings::{Ring, RingKind};
 use bg_writer::Round;
 use checkpointer::{Checkpoint, CheckpointError};
+use io_counts::IoCounts;
 use manager_bench::reading::Access;
 use page_layout::{Lsn, Page};
 use std::alloc::{AllocError, Global};
@@ -32,6 +33,8 @@ pub struct Case<'a> {
     pub answers: &'a [Answer],
     /// The calls of the devices after those puts, if they are to be compared.
     pub calls: Option<&'a [TestCall]>,
+    /// What each of the three passes counts, those puts with it; empty if that isn't compared.
+    pub io: &'a [IoCounts],
 }
 
 /// No act, by a manager of 16 frames over a lane and a log that don't fail.
@@ -45,6 +48,16 @@ pub const NO_ACTS: Case<'static> = Case {
     acts: &[],
     answers: &[],
     calls: None,
+    io: &[],
+};
+
+/// Nothing was counted.
+pub const NO_IO: IoCounts = IoCounts {
+    hits: [0, 0, 0, 0],
+    reads: [0, 0, 0, 0],
+    writes: [0, 0, 0, 0],
+    evictions: [0, 0, 0, 0],
+    reuses: [0, 0, 0, 0],
 };
 
 /// The pages of a relation, each with one item that tells its block's number.
@@ -116,6 +129,9 @@ pub fn check_case<R: Abort + Wait>(
     check_eq!(rt; run.answers.get(puts..), Some(case.answers));
     if case.calls.is_some() {
         check_eq!(rt; run.calls.get(2 * puts..), case.calls);
+    }
+    if !case.io.is_empty() {
+        check_eq!(rt; run.io.as_slice(), case.io);
     }
     Ok(run)
 }

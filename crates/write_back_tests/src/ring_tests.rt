@@ -1,8 +1,9 @@
 //! A pass puts a page by a ring of two places, and reads on.
 use crate::acts::Act;
-use crate::cases::{Case, NO_ACTS, check_case, checkpoint, put, read};
+use crate::cases::{Case, NO_ACTS, NO_IO, check_case, checkpoint, put, read};
 use crate::devices::TestCall::{Append, ReadBlock, SyncLane, SyncLog, WriteBlock};
 use access_rings::RingKind;
+use io_counts::IoCounts;
 use std::test::Fail;
 
 /// Block 0 stays in its frame, which is dirty still.
@@ -33,6 +34,22 @@ fn a_ring_for_bulk_reads_gives_a_dirty_frame_up(rt: HostRuntime) -> Result<(), F
             WriteBlock(0),
             SyncLane,
         ]),
+        // Block 2 takes the frame of block 1. The checkpoint's write is without a ring.
+        io: &[
+            IoCounts {
+                reads: [0, 3, 0, 0],
+                reuses: [0, 1, 0, 0],
+                ..NO_IO
+            },
+            IoCounts {
+                writes: [1, 0, 0, 0],
+                ..NO_IO
+            },
+            IoCounts {
+                hits: [1, 0, 0, 0],
+                ..NO_IO
+            },
+        ],
         ..NO_ACTS
     };
     check_case(&rt, rt.alloc(), &case)?;
@@ -53,6 +70,16 @@ fn a_ring_for_a_vacuum_writes_a_dirty_frame(rt: HostRuntime) -> Result<(), Fail>
             WriteBlock(0),
             ReadBlock(2),
         ]),
+        io: &[
+            IoCounts {
+                reads: [0, 0, 0, 3],
+                writes: [0, 0, 0, 1],
+                reuses: [0, 0, 0, 1],
+                ..NO_IO
+            },
+            NO_IO,
+            NO_IO,
+        ],
         ..NO_ACTS
     };
     check_case(&rt, rt.alloc(), &case)?;

@@ -1,12 +1,15 @@
 //! Rounds and checkpoints that are run.
 use crate::acts::{Act, Answer};
-use crate::cases::{Case, NO_ACTS, check_case, checkpoint, devices, put, read, refused, round};
+use crate::cases::{
+    Case, NO_ACTS, NO_IO, check_case, checkpoint, devices, put, read, refused, round,
+};
 use crate::checks::check_eq;
 use crate::devices::TestCall::{Append, ReadBlock, SyncLane, SyncLog, WriteBlock};
 use crate::devices::{Failing, PageLane};
 use crate::sharing::{TestJob, Use, run_beside};
 use backend_pass::{FlushError, Met};
 use checkpointer::CheckpointError;
+use io_counts::IoCounts;
 use manager_bench::bench::block;
 use page_layout::{Lsn, Page};
 use std::test::Fail;
@@ -31,6 +34,18 @@ fn a_round_leaves_a_used_page_to_a_checkpoint(rt: HostRuntime) -> Result<(), Fai
             SyncLane,
             SyncLane,
         ]),
+        // The write is the second pass's.
+        io: &[
+            IoCounts {
+                reads: [1, 0, 0, 0],
+                ..NO_IO
+            },
+            IoCounts {
+                writes: [1, 0, 0, 0],
+                ..NO_IO
+            },
+            NO_IO,
+        ],
         ..NO_ACTS
     };
     check_case(&rt, rt.alloc(), &case)?;
@@ -94,6 +109,18 @@ fn a_write_that_failed_is_made_by_the_next_checkpoint(rt: HostRuntime) -> Result
             WriteBlock(2),
             SyncLane,
         ]),
+        // The write that failed isn't counted.
+        io: &[
+            IoCounts {
+                reads: [3, 0, 0, 0],
+                ..NO_IO
+            },
+            IoCounts {
+                writes: [3, 0, 0, 0],
+                ..NO_IO
+            },
+            NO_IO,
+        ],
         ..NO_ACTS
     };
     let run = check_case(&rt, rt.alloc(), &case)?;
@@ -236,6 +263,20 @@ fn a_round_writes_100_pages(rt: HostRuntime) -> Result<(), Fail> {
             round(100, 100),
             round(128, 27),
             round(128, 0),
+        ],
+        // The first pass writes block 0, whose frame it takes for block 128.
+        io: &[
+            IoCounts {
+                reads: [129, 0, 0, 0],
+                writes: [1, 0, 0, 0],
+                evictions: [1, 0, 0, 0],
+                ..NO_IO
+            },
+            IoCounts {
+                writes: [127, 0, 0, 0],
+                ..NO_IO
+            },
+            NO_IO,
         ],
         ..NO_ACTS
     };
