@@ -10,17 +10,19 @@ use std::test::Fail;
 use std::thread::Threads;
 use test_devices::{TestLane, TestLog};
 
-/// Nothing was counted.
-const NO_IO: IoCounts = IoCounts {
-    hits: [0, 0, 0, 0],
-    reads: [0, 0, 0, 0],
-    writes: [0, 0, 0, 0],
-    evictions: [0, 0, 0, 0],
-    reuses: [0, 0, 0, 0],
-};
+/// So many hits, reads and evictions without a ring, and nothing else.
+fn counts(hits: u64, reads: u64, evictions: u64) -> IoCounts {
+    IoCounts {
+        hits: [hits, 0, 0, 0],
+        reads: [reads, 0, 0, 0],
+        writes: [0; 4],
+        evictions: [evictions, 0, 0, 0],
+        reuses: [0; 4],
+    }
+}
 
 /// The first pass reads block 0, and the second one finds it and puts a page to it. Others see
-/// nothing of that until it is published, and a count is published once.
+/// nothing of that until it is published, and each count is published once.
 #[test]
 fn what_passes_publish_is_added_up(rt: HostRuntime) -> Result<(), Fail> {
     let acts = [
@@ -33,84 +35,48 @@ fn what_passes_publish_is_added_up(rt: HostRuntime) -> Result<(), Fail> {
         Third(Own::Totals),
     ];
     let run = play_numbered(&rt, rt.alloc(), 64, &acts)?;
-    let read = IoCounts {
-        reads: [1, 0, 0, 0],
-        ..NO_IO
-    };
-    let found = IoCounts {
-        hits: [1, 0, 0, 0],
-        ..NO_IO
-    };
-    let both = IoCounts {
-        hits: [1, 0, 0, 0],
-        reads: [1, 0, 0, 0],
-        ..NO_IO
-    };
     let wanted = [
-        Answer::Io(NO_IO),
-        Answer::Io(read),
-        Answer::Io(found),
-        Answer::Io(both),
-        Answer::Io(read),
-        Answer::Io(both),
+        Answer::Io(counts(0, 0, 0)),
+        Answer::Io(counts(0, 1, 0)),
+        Answer::Io(counts(1, 0, 0)),
+        Answer::Io(counts(1, 1, 0)),
+        Answer::Io(counts(0, 1, 0)),
+        Answer::Io(counts(1, 1, 0)),
     ];
     check_eq!(rt; run.answers.get(1..), Some(wanted.as_slice()));
-    check_eq!(rt; run.io, both);
+    check_eq!(rt; run.io, counts(1, 1, 0));
     Ok(())
 }
 
-/// What is done with 64 blocks, of which one may have an unsound page, and what all passes count.
-struct Row {
-    unsound: Option<u32>,
-    acts: &'static [Act],
-    io: IoCounts,
-}
+/// Which page isn't sound, if any; what is done with 64 blocks; and how many hits, reads and
+/// evictions all passes count.
+type Row = (Option<u32>, &'static [Act], u64, u64, u64);
 
 static ROWS: [Row; 4] = [
     // Block 16 takes the frame of block 0.
-    Row {
-        unsound: None,
-        acts: &[First(Own::ReadInOrder(0, 17))],
-        io: IoCounts {
-            reads: [17, 0, 0, 0],
-            evictions: [1, 0, 0, 0],
-            ..NO_IO
-        },
-    },
+    (None, &[First(Own::ReadInOrder(0, 17))], 0, 17, 1),
     // So it does here, after two reads of it that are refused.
-    Row {
-        unsound: None,
-        acts: &[Three(All::Crowd)],
-        io: IoCounts {
-            reads: [17, 0, 0, 0],
-            evictions: [1, 0, 0, 0],
-            ..NO_IO
-        },
-    },
+    (None, &[Three(All::Crowd)], 0, 17, 1),
     // A further token of each block is a hit.
-    Row {
-        unsound: None,
-        acts: &[First(Own::CleanTwice(0)), First(Own::CleanTwice(1))],
-        io: IoCounts {
-            hits: [2, 0, 0, 0],
-            reads: [2, 0, 0, 0],
-            ..NO_IO
-        },
-    },
-    // Block 5 is read. Its frame keeps the tag, until block 21 takes it.
-    Row {
-        unsound: Some(5),
-        acts: &[
+    (
+        None,
+        &[First(Own::CleanTwice(0)), First(Own::CleanTwice(1))],
+        2,
+        2,
+        0,
+    ),
+    // Block 5 is refused once it was read. Its frame keeps the tag until block 21 takes it.
+    (
+        Some(5),
+        &[
             First(Own::Read(5)),
             First(Own::ReadInOrder(6, 21)),
             First(Own::Read(21)),
         ],
-        io: IoCounts {
-            reads: [17, 0, 0, 0],
-            evictions: [1, 0, 0, 0],
-            ..NO_IO
-        },
-    },
+        0,
+        17,
+        1,
+    ),
 ];
 
 /// Fails the test unless the passes count what the row says.
@@ -119,9 +85,10 @@ fn check_row<R: Abort + Threads + Wait + Sync>(
     alloc: Global,
     row: &Row,
 ) -> Result<(), Fail> {
-    let lane = TestLane::numbered(row.unsound);
-    let run = play(rt, alloc, 64, lane, TestLog::new(alloc, 0), 0, row.acts)?;
-    check_eq!(rt; run.io, row.io);
+    let (unsound, acts, hits, reads, evictions) = *row;
+    let lane = TestLane::numbered(unsound);
+    let run = play(rt, alloc, 64, lane, TestLog::new(alloc, 0), 0, acts)?;
+    check_eq!(rt; run.io, counts(hits, reads, evictions));
     Ok(())
 }
 

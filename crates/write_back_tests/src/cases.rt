@@ -33,7 +33,7 @@ pub struct Case<'a> {
     pub answers: &'a [Answer],
     /// The calls of the devices after those puts, if they are to be compared.
     pub calls: Option<&'a [TestCall]>,
-    /// What each of the three passes counts, those puts with it; empty if that isn't compared.
+    /// What each of the three passes counts, in those puts too; empty if it isn't to be compared.
     pub io: &'a [IoCounts],
 }
 
@@ -49,15 +49,6 @@ pub const NO_ACTS: Case<'static> = Case {
     answers: &[],
     calls: None,
     io: &[],
-};
-
-/// Nothing was counted.
-pub const NO_IO: IoCounts = IoCounts {
-    hits: [0, 0, 0, 0],
-    reads: [0, 0, 0, 0],
-    writes: [0, 0, 0, 0],
-    evictions: [0, 0, 0, 0],
-    reuses: [0, 0, 0, 0],
 };
 
 /// The pages of a relation, each with one item that tells its block's number.
@@ -154,6 +145,17 @@ pub fn round(looked: u32, written: u32) -> Answer {
 /// A checkpoint that was made.
 pub fn checkpoint(upto: Lsn, written: u32) -> Answer {
     Answer::Checkpoint(Ok(Checkpoint { upto, written }))
+}
+
+/// What a pass counts that is given no ring.
+pub fn no_ring(hits: u64, reads: u64, writes: u64, evictions: u64) -> IoCounts {
+    IoCounts {
+        hits: [hits, 0, 0, 0],
+        reads: [reads, 0, 0, 0],
+        writes: [writes, 0, 0, 0],
+        evictions: [evictions, 0, 0, 0],
+        reuses: [0; 4],
+    }
 }
 
 /// A checkpoint that was refused.

@@ -1,6 +1,6 @@
 //! A pass puts a page by a ring of two places, and reads on.
 use crate::acts::Act;
-use crate::cases::{Case, NO_ACTS, NO_IO, check_case, checkpoint, put, read};
+use crate::cases::{Case, NO_ACTS, check_case, checkpoint, no_ring, put, read};
 use crate::devices::TestCall::{Append, ReadBlock, SyncLane, SyncLog, WriteBlock};
 use access_rings::RingKind;
 use io_counts::IoCounts;
@@ -37,18 +37,14 @@ fn a_ring_for_bulk_reads_gives_a_dirty_frame_up(rt: HostRuntime) -> Result<(), F
         // Block 2 takes the frame of block 1. The checkpoint's write is without a ring.
         io: &[
             IoCounts {
+                hits: [0; 4],
                 reads: [0, 3, 0, 0],
+                writes: [0; 4],
+                evictions: [0; 4],
                 reuses: [0, 1, 0, 0],
-                ..NO_IO
             },
-            IoCounts {
-                writes: [1, 0, 0, 0],
-                ..NO_IO
-            },
-            IoCounts {
-                hits: [1, 0, 0, 0],
-                ..NO_IO
-            },
+            no_ring(0, 0, 1, 0),
+            no_ring(1, 0, 0, 0),
         ],
         ..NO_ACTS
     };
@@ -72,13 +68,14 @@ fn a_ring_for_a_vacuum_writes_a_dirty_frame(rt: HostRuntime) -> Result<(), Fail>
         ]),
         io: &[
             IoCounts {
+                hits: [0; 4],
                 reads: [0, 0, 0, 3],
                 writes: [0, 0, 0, 1],
+                evictions: [0; 4],
                 reuses: [0, 0, 0, 1],
-                ..NO_IO
             },
-            NO_IO,
-            NO_IO,
+            no_ring(0, 0, 0, 0),
+            no_ring(0, 0, 0, 0),
         ],
         ..NO_ACTS
     };

@@ -1,7 +1,7 @@
 //! Rounds and checkpoints that are run.
 use crate::acts::{Act, Answer};
 use crate::cases::{
-    Case, NO_ACTS, NO_IO, check_case, checkpoint, devices, put, read, refused, round,
+    Case, NO_ACTS, check_case, checkpoint, devices, no_ring, put, read, refused, round,
 };
 use crate::checks::check_eq;
 use crate::devices::TestCall::{Append, ReadBlock, SyncLane, SyncLog, WriteBlock};
@@ -9,7 +9,6 @@ use crate::devices::{Failing, PageLane};
 use crate::sharing::{TestJob, Use, run_beside};
 use backend_pass::{FlushError, Met};
 use checkpointer::CheckpointError;
-use io_counts::IoCounts;
 use manager_bench::bench::block;
 use page_layout::{Lsn, Page};
 use std::test::Fail;
@@ -36,15 +35,9 @@ fn a_round_leaves_a_used_page_to_a_checkpoint(rt: HostRuntime) -> Result<(), Fai
         ]),
         // The write is the second pass's.
         io: &[
-            IoCounts {
-                reads: [1, 0, 0, 0],
-                ..NO_IO
-            },
-            IoCounts {
-                writes: [1, 0, 0, 0],
-                ..NO_IO
-            },
-            NO_IO,
+            no_ring(0, 1, 0, 0),
+            no_ring(0, 0, 1, 0),
+            no_ring(0, 0, 0, 0),
         ],
         ..NO_ACTS
     };
@@ -111,15 +104,9 @@ fn a_write_that_failed_is_made_by_the_next_checkpoint(rt: HostRuntime) -> Result
         ]),
         // The write that failed isn't counted.
         io: &[
-            IoCounts {
-                reads: [3, 0, 0, 0],
-                ..NO_IO
-            },
-            IoCounts {
-                writes: [3, 0, 0, 0],
-                ..NO_IO
-            },
-            NO_IO,
+            no_ring(0, 3, 0, 0),
+            no_ring(0, 0, 3, 0),
+            no_ring(0, 0, 0, 0),
         ],
         ..NO_ACTS
     };
@@ -266,17 +253,9 @@ fn a_round_writes_100_pages(rt: HostRuntime) -> Result<(), Fail> {
         ],
         // The first pass writes block 0, whose frame it takes for block 128.
         io: &[
-            IoCounts {
-                reads: [129, 0, 0, 0],
-                writes: [1, 0, 0, 0],
-                evictions: [1, 0, 0, 0],
-                ..NO_IO
-            },
-            IoCounts {
-                writes: [127, 0, 0, 0],
-                ..NO_IO
-            },
-            NO_IO,
+            no_ring(0, 129, 1, 1),
+            no_ring(0, 0, 127, 0),
+            no_ring(0, 0, 0, 0),
         ],
         ..NO_ACTS
     };
