@@ -4,7 +4,7 @@ ghost use Rattle.block_tag.specs.Names.{lane_number, names_block};
 ghost use Rattle.pin_core.specs.State.{joined_view};
 ghost use Rattle.pin_core.specs.Steps.{HoldsNoHeader, HoldsNothing};
 ghost use Rattle.history_core.specs.Balances.{added_to};
-ghost use Rattle.history_core.specs.Words.{counter_count};
+ghost use Rattle.history_core.specs.Words.{counter_count, most_published};
 ghost use Rattle.table_rule.specs.Blocks.{has_block};
 ghost use Rattle.frame_table.specs.Seats.{Fits, IsSeat, frames_of, lanes_in, relations_of};
 ghost use Rattle.io_counts.specs.Additions.{additions, io_added, view_adding};
@@ -87,7 +87,8 @@ pub fn count_block<L: BlockLane, G: LogDevice, R: Wait>(
     read_block(table, rt, seat, held, sweep, backend, tag, ring)
 }
 
-/// What a backend publishes is what it has counted since it last did, once (`pgstat_flush_io`).
+/// What a backend publishes is what it has counted since it last did, once (`pgstat_flush_io`). It
+/// may publish one read more: an edit adds one that may have been published already.
 pub fn publish_counts<L: BlockLane, G: LogDevice>(
     table: &FrameTable<L, G>,
     seat: &mut Seat<Value<L, G>, View>,
@@ -95,6 +96,7 @@ pub fn publish_counts<L: BlockLane, G: LogDevice>(
 )
     requires seat { IsSeat table.now seat.old }
     requires told { io_added seat.old.me.0 ≡ tally.old.published }
+    requires room { added_to 1 seat.old.me.0 < most_published }
     ensures { seat.new.me.0
         ≡ view_adding (additions tally.old.published tally.old.counted) seat.old.me.0 }
 {
