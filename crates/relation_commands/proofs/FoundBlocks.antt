@@ -58,6 +58,10 @@ found_last (x ∷ ps) (suc last) p counted at =
     let others = found_sum x.io (io_in_all (take last ps)) in
     omega (arith, rest, all, others)
 
+-- the last one found what it had before, which is nothing
+added_up : (all workers before was now blocks : ℕ) → all ≡ workers + now → workers ≡ before + blocks → before ≡ 0 → now ≡ was → was ≡ 0 → all ≡ blocks
+added_up all workers before was now blocks sum more none same unread = omega arith
+
 module _ {L G : Type 0} (contents : L → Option Pages) (m : Manager L G) (blocks : ℕ) (ps qs : List PassState) (new : AreNewPasses contents m (length ps) ps) (several : 2 ≤ length ps)
     (last : StaysBeside contents m ps qs) where
   none : EachPass (λ p. p.io ≡ no_io) ps
@@ -79,7 +83,7 @@ module _ {L G : Type 0} (contents : L → Option Pages) (m : Manager L G) (block
       let kept : found_of q.0.io ≡ found_of p.0.io = ap found_of (found_kept p.0 q.0 beside.callers.io) in
       let unread = ap found_of (none (length ps - 1) p.0 p.1) in
       let all = found_last qs (length qs - 1) q.0 (omega (arith, as_many)) q.1 in
-      omega (arith, before, exact, kept, unread, all)
+      added_up (found_of (io_in_all qs)) (found_of (io_in_all (workers_in qs))) (found_of (io_in_all (workers_in ps))) (found_of p.0.io) (found_of q.0.io) blocks all exact before kept unread
 
   -- so the hits and reads that are shown add up to the blocks
   pub found_shown : (job : Result Totals JobError) (io : IoCounts) (n : ℕ) → blocks < 2 ^ 32 → OnOk job (FoundMoreIn blocks (workers_in ps) (workers_in qs)) → io ≡ io_shown (io_in_all qs)

@@ -15,8 +15,8 @@ puts_nothing text old e = record { ok = tt; failed = gains_nothing text old }
 -- the same was put, however the error is named
 pub puts_named : {E F : Type 0} (text : List ℕ) (old new : Option (List ℕ)) (r : Result Unit E) (s : Result Unit F) → is_ok s ≡ is_ok r → Puts text old new r → Puts text old new s
 puts_named text old new (Ok a) (Ok b) same puts = record { ok = puts.ok; failed = tt }
-puts_named text old new (Ok a) (Err f) same puts = let no : false ≡ true = same in cc
-puts_named text old new (Err e) (Ok b) same puts = let no : true ≡ false = same in cc
+puts_named text old new (Ok a) (Err f) same puts = absurd (let no : false ≡ true = same in cc)
+puts_named text old new (Err e) (Ok b) same puts = absurd (let no : true ≡ false = same in cc)
 puts_named text old new (Err e) (Err f) same puts = record { ok = tt; failed = puts.failed }
 
 -- a prefix of a text is one of the text with more behind it
@@ -44,10 +44,10 @@ gains_behind text more old (Some new) gains = record {
 }
 
 pub puts_behind : {E : Type 0} (text more : List ℕ) (old mid new : Option (List ℕ)) (r : Result Unit E) → mid ≡ option_map (λ bytes. bytes ++ text) old → Puts more mid new r → Puts (text ++ more) old new r
-puts_behind text more None mid new (Ok done) is puts = record { ok = puts.ok ∙ ap (λ (m : Option (List ℕ)). option_map (λ bytes. bytes ++ more) m) is; failed = tt }
+puts_behind text more None mid new (Ok done) is puts = record { ok = puts.ok ∙ ap (λ (m : Option (List ℕ)). option_map (λ (bytes : List ℕ). bytes ++ more) m) is; failed = tt }
 puts_behind text more None mid new (Err e) is puts = record { ok = tt; failed = tt }
 puts_behind text more (Some old) mid new (Ok done) is puts = record {
-  ok = puts.ok ∙ ap (λ (m : Option (List ℕ)). option_map (λ bytes. bytes ++ more) m) is ∙ ap (λ (l : List ℕ). Some l) (append_assoc old text more);
+  ok = puts.ok ∙ ap (λ (m : Option (List ℕ)). option_map (λ (bytes : List ℕ). bytes ++ more) m) is ∙ ap (λ (l : List ℕ). Some l) (append_assoc old text more);
   failed = tt;
 }
 puts_behind text more (Some old) mid new (Err e) is puts = record {

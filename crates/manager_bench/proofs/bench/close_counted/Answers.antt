@@ -15,5 +15,6 @@ close_counted-requires-clause-few g c =
     let one = c.push_reserved.ensures.items ∙ ap (λ (l : List PassState). l ++ c.args.third ∷ []) c.requires.room.0 in
     let two = c.push_reserved-2.ensures.items ∙ ap (λ (l : List PassState). l ++ c.args.first ∷ []) one in
     let three = c.push_reserved-3.ensures.items ∙ ap (λ (l : List PassState). l ++ c.args.second ∷ []) two in
-    let long = ap length three in
-    omega arith
+    let many = ap length three in
+    let long = c.push_reserved-3.new.self.ok.0 in
+    omega (arith, many, long)

@@ -26,7 +26,8 @@ pub close_counted-lanes-requires-clause-few : goal.close_counted-lanes-requires-
 close_counted-lanes-requires-clause-few g c =
     let as_many = c.list_blocks-passes.ensures.last.counted in
     let few = c.requires.started.several.1 in
-    omega (arith, as_many, few)
+    let long = c.list_blocks-passes.result.passes.ok.0 in
+    omega (arith, as_many, few, long)
 
 pub end_with_io-requires : goal.end_with_io-requires
 end_with_io-requires g c =
@@ -48,7 +49,7 @@ returns-clause-cause g c =
     let before =
     cause {L = g.row.L.Denot} {G = MemLog} _ c.args.manager c.args.listed.relation.fork c.args.listed.relation.blocks c.args.passes.items c.list_blocks-passes.result.passes.items
     c.close_counted-lanes.result.0.items c.close_counted-lanes.result.1 started.catalog started.counted started.several.0 started.passes
-    job.passes job.last c.close_counted-lanes.ensures.closes c.requires.reads _ _ job.later c.list_blocks-passes.result.end job.quiet job.met job.cause in
+    job.passes job.last c.close_counted-lanes.ensures.closes c.requires.reads (g.O.Sink.faults c.args.out.now) (g.O.Sink.faults c.list_blocks-passes.new.out) job.later c.list_blocks-passes.result.end job.quiet job.met job.cause in
     cause_behind c.list_blocks-passes.new.out c.end_with_io.new.out g.O.Sink.faults (sum_by g.L.BlockLane.read_faults c.close_counted-lanes.result.0.items) (g.O.Sink.faults c.args.out.now)
     c.list_blocks-passes.result.end c.end_of_job.result c.end_with_io.result c.end_of_job.ensures before end.stopped end.cause
 
