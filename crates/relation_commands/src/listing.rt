@@ -10,7 +10,6 @@ ghost use Rattle.segment_store.specs.Contents.{no_marks};
 ghost use Rattle.segment_store.specs.Lanes.{HasBlocks, HoldPages};
 ghost use Rattle.pin_core.specs.State.{Page};
 ghost use Rattle.command_line.specs.Numbers.{HasOptionsInRange};
-ghost use Rattle.io_counts.specs.Sums.{HaveSums, sums_of};
 ghost use Rattle.table_rule.specs.Shows.{devices};
 ghost use Rattle.frame_table.specs.Seats.{base_of, opened_of, relations_of};
 ghost use Rattle.page_jobs.specs.Beside.{LastDid, StaysBeside};
@@ -33,7 +32,7 @@ use backend_pass::{Manager, Pass};
 use block_tag::RelNo;
 use byte_devices::{LogDevice, MemLog, Sink};
 use command_line::{Listing, Options};
-use io_counts::{IoCounts, IoSums};
+use io_counts::IoSums;
 use page_jobs::{Gate, JobEnd, JobError, Totals, dump, scan};
 use page_layout::{Lsn, ScanTotals};
 use segment_store::BlockLane;
@@ -159,9 +158,8 @@ fn list_blocks<L: BlockLane + Send, R: Threads + Wait + Sync, O: Sink + Send, T:
 }
 
 /// Puts the line of the I/O counts.
-fn put_io_line<O: Sink>(alloc: Global, io: &IoCounts, out: &mut O) -> Result<(), ListingError>
-    requires { HaveSums io.now }
-    ensures text { Puts (io_line (sums_of io.now)) (O.bytes out.old) (O.bytes out.new) result }
+fn put_io_line<O: Sink>(alloc: Global, io: IoSums, out: &mut O) -> Result<(), ListingError>
+    ensures text { Puts (io_line io) (O.bytes out.old) (O.bytes out.new) result }
     ensures cause { HasListingCause 0 0 (O.faults out.old) (O.faults out.new) result }
 {
     let IoSums {
@@ -170,7 +168,7 @@ fn put_io_line<O: Sink>(alloc: Global, io: &IoCounts, out: &mut O) -> Result<(),
         writes,
         evictions,
         reuses,
-    } = io.sums();
+    } = io;
     let Ok(line) = format!(in alloc;
         "io hits {hits} reads {reads} writes {writes} evictions {evictions} reuses {reuses}\n"
     ) else {
@@ -187,23 +185,27 @@ fn end_with_io<O: Sink>(
     alloc: Global,
     end: Result<ScanTotals, ListingError>,
     stats: bool,
-    io: &IoCounts,
+    io: IoSums,
     out: &mut O,
 ) -> Result<ScanTotals, ListingError>
-    requires { HaveSums io.now }
     ensures silent { stats ≡ false → (result ≡ end) × (out.new ≡ out.old) }
     ensures stopped { IfErr end (λ e. (result ≡ Err e) × (out.new ≡ out.old)) }
     ensures line { stats ≡ true → OnOk end
-        (Puts (io_line (sums_of io.now)) (O.bytes out.old) (O.bytes out.new) (as_done result)) }
+        (Puts (io_line io) (O.bytes out.old) (O.bytes out.new) (as_done result)) }
     ensures totals { IfOk result (λ totals. end ≡ Ok totals) }
     ensures cause { OnOk end (HasListingCause 0 0 (O.faults out.old) (O.faults out.new) result) }
 {
-    let totals = end?;
+    let totals = match end {
+        Ok(totals) => totals,
+        Err(error) => return Err(error),
+    };
     if !stats {
         return Ok(totals);
     }
-    put_io_line(alloc, io, out)?;
-    Ok(totals)
+    match put_io_line(alloc, io, out) {
+        Ok(()) => Ok(totals),
+        Err(error) => Err(error),
+    }
 }
 
 /// The backends list the blocks, and the manager is closed, which returns its lanes.
@@ -243,7 +245,7 @@ fn list_and_close<L: BlockLane + Send, R: Threads + Wait + Sync, O: Sink + Send,
     let (lanes, _log, io) = manager.close_counted(passes);
     ListingEnd {
         lanes,
-        end: end_with_io(alloc, end_of_job(end), listed.stats, &io, out),
+        end: end_with_io(alloc, end_of_job(end), listed.stats, io.sums(), out),
     }
 }
 

@@ -1,12 +1,15 @@
 use Rattle.std.proofs.Common.{length, rules, subst, sym, ap, ◌∙◌, arith}
-use Rattle.std.specs.Prelude.{sum_by}
+use Rattle.std.specs.Prelude.{OnOk, sum_by}
+use Rattle.byte_devices.specs.Bytes.{Puts}
 use Rattle.byte_devices.specs.declared.memory_log.MemLog.{MemLog}
+use Rattle.io_counts.specs.declared.shown.IoSums.{IoSums}
 use Rattle.io_counts.specs.Sums.{HaveSums, sums_of}
 use Rattle.io_counts.proofs.Sums.{small_shown}
 use Rattle.page_layout.specs.Scan.{totals_of}
+use Rattle.page_jobs.specs.Ending.{as_done}
 use Rattle.page_jobs.proofs.Backends.{all_given, new_are_free}
 use Rattle.page_jobs.proofs.Starting.{is_origin}
-use Rattle.relation_commands.specs.Listings.{counted_text, text_of}
+use Rattle.relation_commands.specs.Listings.{counted_text, io_line, text_of}
 use Rattle.relation_commands.proofs.FoundBlocks.{found_shown}
 use Rattle.relation_commands.proofs.IoLines.{cause_behind, counted_behind, line_last, text_still, totals_behind}
 use Rattle.relation_commands.proofs.Listed.{all_at_base, cause, leaves, totals_as}
@@ -29,8 +32,8 @@ close_counted-lanes-requires-clause-few g c =
     let long = c.list_blocks-passes.result.passes.ok.0 in
     omega (arith, as_many, few, long)
 
-pub end_with_io-requires : goal.end_with_io-requires
-end_with_io-requires g c =
+pub sums-requires : goal.sums-requires
+sums-requires g c =
     let closed = c.close_counted-lanes.ensures in
     subst HaveSums (sym closed.counts) (small_shown _ closed.small)
 
@@ -81,7 +84,8 @@ returns-clause-counted g c asked pages held all =
     counted_behind c.list_blocks-passes.new.out c.end_with_io.new.out g.O.Sink.bytes (counted_text c.args.listed.listing pages) (sums_of c.close_counted-lanes.result.2) (g.O.Sink.bytes c.args.out.now)
     c.list_blocks-passes.result.end c.end_of_job.result c.end_with_io.result c.end_of_job.ensures
     (job.text pages (is_origin g.L.BlockLane.contents m fork c.args.listed.relation.blocks started.catalog started.counted pages held all) base)
-    found end.stopped (end.line asked)
+    found end.stopped
+    (subst (λ (sums : IoSums). OnOk c.end_of_job.result (Puts (io_line sums) (g.O.Sink.bytes c.list_blocks-passes.new.out) (g.O.Sink.bytes c.end_with_io.new.out) (as_done c.end_with_io.result))) c.sums.ensures (end.line asked))
 
 pub returns-clause-sums : goal.returns-clause-sums
 returns-clause-sums g c asked =
@@ -89,7 +93,8 @@ returns-clause-sums g c asked =
     let end = c.end_with_io.ensures in
     line_last {L = g.row.L.Denot} {G = MemLog} _ c.args.manager c.list_blocks-passes.result.passes.items c.close_counted-lanes.result.0.items c.close_counted-lanes.result.1
     c.close_counted-lanes.result.2 closed.published closed.counts c.end_of_job.result c.end_with_io.result
-    (g.O.Sink.bytes c.list_blocks-passes.new.out) (g.O.Sink.bytes c.end_with_io.new.out) end.totals (end.line asked)
+    (g.O.Sink.bytes c.list_blocks-passes.new.out) (g.O.Sink.bytes c.end_with_io.new.out) end.totals
+    (subst (λ (sums : IoSums). OnOk c.end_of_job.result (Puts (io_line sums) (g.O.Sink.bytes c.list_blocks-passes.new.out) (g.O.Sink.bytes c.end_with_io.new.out) (as_done c.end_with_io.result))) c.sums.ensures (end.line asked))
 
 pub returns-clause-totals : goal.returns-clause-totals
 returns-clause-totals g c pages held all =
