@@ -11,6 +11,7 @@ use block_tag::{Fork, RelNo, Tag};
 use buffer_frames::{Backend, HeldPins, HintSeen, PinnedBlock, Sought, read_block};
 use cleanup_lock::unpin_and_wake;
 use clock_sweep::{Census, QueuePass, Sweep};
+use io_counts::Tally;
 use map_partitions::store_hint;
 use page_layout::Page;
 use std::alloc::{AllocError, Global};
@@ -57,6 +58,7 @@ fn read_released<R: Wait>(
         census,
         page,
         lookups,
+        io: Tally::new(),
     };
     if BLOCK.block >= table.blocks(&BLOCK) {
         return Sighted {
