@@ -101,8 +101,8 @@ fn perform<'a, H: Host, R: Threads + Wait + Sync, O: Sink + Send, G: Gate + Sync
 ///
 /// - `scan PATH` prints a line for each block of the relation at the path, and their totals.
 /// - `dump PATH` prints besides a line for each line pointer of a page.
-/// - Both print the I/O counts of the backend in one line more if `--stats` is given, which only
-///   one backend takes, without rounds of the background writer.
+/// - With `--stats`, which needs one backend and no rounds of the background writer, both print the
+///   I/O counts in one line more.
 /// - `rewrite PATH --log FILE` rewrites each page that has dead line pointers or room between its
 ///   items, with a log of the pages at FILE, and prints the totals and the log's positions.
 /// - `recover PATH --log FILE` redoes the log of a rewrite: each record's page is written to its

@@ -5,7 +5,6 @@ use mathlib.Core.Option.{some, some-injective, some-ne-none}
 use lib.ListN.{get_elem?}
 use Rattle.segment_store.specs.Contents.{Pages}
 use Rattle.table_rule.proofs.Opens.{there_at}
-use Rattle.io_counts.specs.declared.shown.IoCounts.{IoCounts}
 use Rattle.io_counts.specs.Counts.{no_io}
 use Rattle.io_counts.specs.Found.{AreAllBelowLast, found_of}
 use Rattle.io_counts.specs.Sums.{io_shown, sums_of}
@@ -74,7 +73,7 @@ module _ {L G : Type 0} (contents : L → Option Pages) (m : Manager L G) (block
       let before = none_found (workers_in ps) (λ i p at. none i p (taken_from (length ps - 1) i ps p at)) in
       let most = found.most in
       let below : EachPass (λ q. AreAllBelowLast q.io) (workers_in qs) =
-          λ i q at. below_last q.io blocks (let w = found_within (workers_in qs) i q at in omega (arith, w, most, before)) (omega arith) in
+      λ i q at. below_last q.io blocks (let w = found_within (workers_in qs) i q at in omega (arith, w, most, before)) (omega arith) in
       let exact = found.exact below in
       let p = there_at ps (length ps - 1) (omega arith) in
       let q = there_at qs (length qs - 1) (omega (arith, as_many)) in
@@ -86,8 +85,7 @@ module _ {L G : Type 0} (contents : L → Option Pages) (m : Manager L G) (block
       added_up (found_of (io_in_all qs)) (found_of (io_in_all (workers_in qs))) (found_of (io_in_all (workers_in ps))) (found_of p.0.io) (found_of q.0.io) blocks all exact before kept unread
 
   -- so the hits and reads that are shown add up to the blocks
-  pub found_shown : (job : Result Totals JobError) (io : IoCounts) (n : ℕ) → blocks < 2 ^ 32 → OnOk job (FoundMoreIn blocks (workers_in ps) (workers_in qs)) → io ≡ io_shown (io_in_all qs)
-      → blocks ≡ n → OnOk job ((sums_of io).hits + (sums_of io).reads ≡ n)
-  found_shown (Ok totals) io n few found shown all =
-      ap (λ (c : IoCounts). (sums_of c).hits + (sums_of c).reads) shown ∙ sums_found (io_in_all qs) ∙ all_found few found ∙ all
-  found_shown (Err e) io n few found shown all = tt
+  pub found_shown : (job : Result Totals JobError) (n : ℕ) → blocks < 2 ^ 32 → OnOk job (FoundMoreIn blocks (workers_in ps) (workers_in qs)) → blocks ≡ n
+      → OnOk job ((sums_of (io_shown (io_in_all qs))).hits + (sums_of (io_shown (io_in_all qs))).reads ≡ n)
+  found_shown (Ok totals) n few found all = sums_found (io_in_all qs) ∙ all_found few found ∙ all
+  found_shown (Err e) n few found all = tt

@@ -1,26 +1,18 @@
 -- How a listing ends, and what it prints, once the line of its I/O counts is put.
-use Rattle.std.proofs.Common.{◌≡◌, ℕ, ◌+◌, List, ◌++◌, Bool, true, false, Option, Some, None, Result, Ok, Err, refl, sym, ap, ◌∙◌, subst, cond, arith}
+use Rattle.std.proofs.Common.{◌≡◌, ℕ, ◌+◌, List, ◌++◌, Bool, true, false, Option, Some, None, Result, Ok, Err, refl, sym, ◌∙◌, subst, cond, arith}
 use Rattle.std.specs.Prelude.{IfErr, IfOk, IfSome, OnOk, is_ok, option_map}
 use Rattle.byte_devices.specs.Bytes.{Puts}
 use Rattle.byte_devices.specs.Faults.{Rose}
 use Rattle.page_layout.specs.declared.scan.ScanTotals.{ScanTotals}
-use Rattle.table_rule.specs.Shows.{Devices}
-use Rattle.io_counts.specs.declared.shown.IoCounts.{IoCounts}
 use Rattle.io_counts.specs.declared.shown.IoSums.{IoSums}
-use Rattle.io_counts.specs.Additions.{io_counters}
-use Rattle.io_counts.specs.Sums.{io_shown, sums_of}
 use Rattle.segment_store.specs.Paths.{Paths}
-use Rattle.backend_pass.specs.declared.manager.Manager.{Manager}
-use Rattle.backend_pass.specs.Closing.{ClosesAll}
-use Rattle.backend_pass.specs.Counts.{io_in_all}
-use Rattle.backend_pass.specs.Passes.{PassState}
 use Rattle.page_jobs.specs.declared.ending.JobError.{JobError}
 use Rattle.page_jobs.specs.declared.ending.Totals.{Totals}
 use Rattle.page_jobs.specs.Ending.{as_done}
 use Rattle.relation_commands.specs.declared.listing.ListingError.{ListingError}
 use Rattle.relation_commands.specs.declared.listing.ListingError.TheVariants.{ReadFault, OutFault, Memory}
 use Rattle.relation_commands.specs.Causes.{HasListingCause, listing_end, listing_error}
-use Rattle.relation_commands.specs.Listings.{CountedText, PutsCounted, PutsCounters, io_line}
+use Rattle.relation_commands.specs.Listings.{CountedText, PutsCounted, io_line}
 use Rattle.relation_commands.proofs.Listed.{puts_as}
 use Rattle.relation_commands.proofs.Putting.{puts_behind, puts_named, puts_nothing, puts_part}
 
@@ -63,23 +55,6 @@ pub totals_behind : (totals : ScanTotals) (job : Result Totals JobError) (end af
     → IfOk (listing_end job) (λ t. t ≡ totals) → IfOk after (λ t. t ≡ totals)
 totals_behind totals job end (Ok t) is same had = subst (λ (r : Result ScanTotals ListingError). IfOk r (λ u. u ≡ totals)) (sym is ∙ same) had
 totals_behind totals job end (Err e) is same had = tt
-
--- the line of the sums that the passes of a manager have counted has those of the counters with which it was closed
-pub line_last : {L G : Type 0} (d : Devices L G) (m : Manager L G) (ps : List PassState) (lanes : List L) (log : G) (io : IoCounts)
-    → (x : ClosesAll d m.table.table.shared.key ps lanes log) × (io_counters x.state.counter ≡ io_in_all ps) → io ≡ io_shown (io_in_all ps)
-    → (end after : Result ScanTotals ListingError) (mid new : Option (List ℕ)) → IfOk after (λ t. end ≡ Ok t) → OnOk end (Puts (io_line (sums_of io)) mid new (as_done after))
-    → IfOk after (λ t. PutsCounters d m lanes new)
-line_last d m ps lanes log io closed shown end (Ok t) mid new same line =
-    let puts : Puts {E = ListingError} (io_line (sums_of io)) mid new (Ok tt) =
-    subst (λ (r : Result ScanTotals ListingError). OnOk r (Puts {E = ListingError} (io_line (sums_of io)) mid new (Ok tt))) same line in
-    record {
-      passes = ps;
-      log = log;
-      closed = closed.0;
-      before = mid;
-      line = puts.ok ∙ ap (λ (c : IoCounts). option_map (λ bytes. bytes ++ io_line (sums_of c)) mid) (shown ∙ ap io_shown (sym closed.1));
-    }
-line_last d m ps lanes log io closed shown end (Err e) mid new same line = tt
 
 module _ {O : Type 0} (mid new : O) where
   -- a listing that ended before its end ends so, and nothing is put

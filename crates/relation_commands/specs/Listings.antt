@@ -1,6 +1,6 @@
 -- What a scan and a dump print, start with, and leave.
 use Rattle.std.specs.Prelude.{◌≡◌, ℕ, ◌+◌, ◌<◌, false, true, List, [], ◌∷◌, ◌++◌, length, map}
-use Rattle.std.specs.Prelude.{Option, Result, codes, option_map, sum_by}
+use Rattle.std.specs.Prelude.{Option, Result, codes, sum_by}
 use Rattle.std.specs.Fmt.{decimal}
 use Rattle.std.specs.Str.{bytes_eq}
 use Rattle.block_tag.specs.declared.tag.Fork.{Fork}
@@ -13,13 +13,7 @@ use Rattle.segment_store.specs.Lanes.{HoldPages, mark_in, tag_at}
 use Rattle.segment_store.specs.Paths.{PathMarks, Paths}
 use Rattle.segment_store.specs.Relation.{relation_of}
 use Rattle.pin_core.specs.State.{Page}
-use Rattle.table_rule.specs.Shows.{Devices}
 use Rattle.io_counts.specs.declared.shown.IoSums.{IoSums}
-use Rattle.io_counts.specs.Additions.{io_counters}
-use Rattle.io_counts.specs.Sums.{io_shown, sums_of}
-use Rattle.backend_pass.specs.declared.manager.Manager.{Manager}
-use Rattle.backend_pass.specs.Closing.{ClosesAll}
-use Rattle.backend_pass.specs.Passes.{PassState}
 use Rattle.command_line.specs.declared.request.Listing.{Listing}
 use Rattle.command_line.specs.declared.request.Listing.TheVariants.{Scan, Dump}
 
@@ -51,18 +45,6 @@ pub record PutsCounted {E : Type 0} (t : CountedText) (old new : Option (List �
   pub io : IoSums
   pub found : io.hits + io.reads ≡ t.blocks
   pub puts : Puts (t.text ++ io_line io) old new result
-
--- A manager was closed and gave these lanes back, and last of all the line of the sums was put that
--- the counters of its table had then
-pub record PutsCounters {L G : Type 0} (d : Devices L G) (m : Manager L G) (lanes : List L)
-    (new : Option (List ℕ)) : Type 0 where
-  pub passes : List PassState
-  pub log : G
-  pub closed : ClosesAll d m.table.table.shared.key passes lanes log
-  -- what was out before
-  pub before : Option (List ℕ)
-  pub line : new ≡ option_map
-      (λ bytes. bytes ++ io_line (sums_of (io_shown (io_counters closed.state.counter)))) before
 
 -- Lanes after a listing of the blocks of a fork: if its pages are known, they are still in the
 -- lanes, and none of its blocks is one whose last write failed; no write failed

@@ -10,8 +10,12 @@ ghost use Rattle.segment_store.specs.Contents.{no_marks};
 ghost use Rattle.segment_store.specs.Lanes.{HasBlocks, HoldPages};
 ghost use Rattle.pin_core.specs.State.{Page};
 ghost use Rattle.command_line.specs.Numbers.{HasOptionsInRange};
+ghost use Rattle.io_counts.specs.Sums.{io_shown, sums_of};
 ghost use Rattle.table_rule.specs.Shows.{devices};
 ghost use Rattle.frame_table.specs.Seats.{base_of, opened_of, relations_of};
+ghost use Rattle.backend_pass.specs.Closing.{ClosesAll};
+ghost use Rattle.backend_pass.specs.Counts.{io_in_all};
+ghost use Rattle.backend_pass.specs.Managers.{AreAll};
 ghost use Rattle.page_jobs.specs.Beside.{LastDid, StaysBeside};
 ghost use Rattle.page_jobs.specs.Ending.{as_done};
 ghost use Rattle.page_jobs.specs.Jobs.{AllAtBase, EndsJob, FoundMoreIn, HaveNoTokens, IsOrigin};
@@ -21,8 +25,8 @@ ghost use Rattle.page_layout.specs.Scan.{totals_of};
 ghost use Rattle.history_core.specs.State.{last_position};
 ghost use Rattle.relation_commands.specs.Causes.{HasListingCause, listing_end, listing_error};
 ghost use Rattle.relation_commands.specs.Causes.{scan_totals_in};
-ghost use Rattle.relation_commands.specs.Listings.{LeavesLanes, PutsCounted, PutsCounters};
-ghost use Rattle.relation_commands.specs.Listings.{counted_text, io_line, text_of};
+ghost use Rattle.relation_commands.specs.Listings.{LeavesLanes, PutsCounted, counted_text};
+ghost use Rattle.relation_commands.specs.Listings.{io_line, text_of};
 ghost use Rattle.relation_commands.specs.Rounds.{MakesRounds};
 ghost use Rattle.relation_commands.specs.Starting.{IsStarted};
 
@@ -208,6 +212,34 @@ fn end_with_io<O: Sink>(
     }
 }
 
+/// Closes the manager and ends the listing, with the line of its I/O counts if they are asked for.
+fn close_and_end<L: BlockLane, O: Sink>(
+    manager: Manager<L, MemLog>,
+    alloc: Global,
+    passes: Vec<Pass>,
+    end: Result<ScanTotals, ListingError>,
+    stats: bool,
+    out: &mut O,
+) -> (Vec<L>, MemLog, Result<ScanTotals, ListingError>)
+    requires all { AreAll manager passes.items }
+    requires few { vec_len passes ≤ 64 }
+    ensures closes { ClosesAll (devices L.BlockLane ⟦<MemLog as LogDevice>⟧)
+        manager.table.table.shared.key passes.items result.0.items result.1 }
+    ensures silent { stats ≡ false → (result.2 ≡ end) × (out.new ≡ out.old) }
+    ensures stopped { IfErr end (λ e. (result.2 ≡ Err e) × (out.new ≡ out.old)) }
+    // The line has the sums of what these passes counted.
+    ensures line { stats ≡ true → OnOk end
+        (Puts (io_line (sums_of (io_shown (io_in_all passes.items)))) (O.bytes out.old)
+        (O.bytes out.new) (as_done result.2)) }
+    ensures totals { IfOk result.2 (λ totals. end ≡ Ok totals) }
+    ensures cause { OnOk end (HasListingCause 0 0 (O.faults out.old) (O.faults out.new) result.2) }
+{
+    let (lanes, log, io) = manager.close_counted(passes);
+    let sums = io.sums();
+    let end = end_with_io(alloc, end, stats, sums, out);
+    (lanes, log, end)
+}
+
 /// The backends list the blocks, and the manager is closed, which returns its lanes.
 fn list_and_close<L: BlockLane + Send, R: Threads + Wait + Sync, O: Sink + Send, T: Gate + Sync>(
     manager: Manager<L, MemLog>,
@@ -233,20 +265,14 @@ fn list_and_close<L: BlockLane + Send, R: Threads + Wait + Sync, O: Sink + Send,
         pages (map L.contents (opened_of manager.table)) → listed.relation.blocks ≡ length pages
         → PutsCounted (counted_text listed.listing pages) (O.bytes out.old) (O.bytes out.new)
         (as_done result.end) }
-    // The numbers of that line are the sums of the counters with which the manager was closed.
-    ensures sums { listed.stats ≡ true → IfOk result.end (λ _. PutsCounters
-        (devices L.BlockLane ⟦<MemLog as LogDevice>⟧) manager result.lanes.items
-        (O.bytes out.new)) }
     ensures totals { (pages : List Page) → HoldPages listed.relation.fork pages
         (map L.contents (opened_of manager.table)) → listed.relation.blocks ≡ length pages
         → IfOk result.end (λ totals. totals ≡ totals_of pages) }
 {
     let JobEnd { passes, end } = list_blocks(&manager, rt, alloc, passes, listed, out, gate);
-    let (lanes, _log, io) = manager.close_counted(passes);
-    ListingEnd {
-        lanes,
-        end: end_with_io(alloc, end_of_job(end), listed.stats, io.sums(), out),
-    }
+    let end = end_of_job(end);
+    let (lanes, _log, end) = close_and_end(manager, alloc, passes, end, listed.stats, out);
+    ListingEnd { lanes, end }
 }
 
 /// Lists the blocks of a relation from its lanes, by as many backends as the options say, and
