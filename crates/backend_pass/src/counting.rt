@@ -88,10 +88,11 @@ impl Pass {
         ensures belongs { Belongs L.contents manager.now self.new }
         ensures callers { KeepsCallers self.old self.new }
 
-        // Each of them is at least what the pass itself has published.
+        // Each of them is at least what the pass itself has published, and at most what 64 passes
+        // count.
         ensures new { (io : ByContext) × (result ≡ io_shown io)
             × (self.new ≡ record self.old { view = view_loading (loads_of io) self.old.view })
-            × AreAllAtMost (io_added self.old.view) io }
+            × AreAllAtMost (io_added self.old.view) io × AreAllSmall io }
 
         // Each was loaded in a state in which it is the sum of what all passes have published.
         ensures did { (io : ByContext) × (result ≡ io_shown io)

@@ -3,6 +3,7 @@ ghost use Rattle.std.specs.Prelude.{◌≡◌, ◌+◌, ◌≤◌};
 ghost use Rattle.history_core.specs.Words.{counter_count};
 ghost use Rattle.frame_table.specs.Seats.{IsSeat, SameSeat};
 ghost use Rattle.io_counts.specs.Additions.{added_in, io_added};
+ghost use Rattle.io_counts.specs.Sums.{AreAllSmall, AreSmall};
 ghost use Rattle.io_counts.specs.Tallies.{AreAllAtMost, AreAtMost};
 ghost use Rattle.io_counts.specs.Totals.{LoadsContext, LoadsCounters, loads_in, loads_of};
 ghost use Rattle.io_counts.specs.Totals.{view_loading};
@@ -25,6 +26,7 @@ fn load_context<L: BlockLane, G: LogDevice>(
     ensures seat { SameSeat seat.old seat.new }
     ensures view { seat.new.me.0 ≡ view_loading (loads_in base result) seat.old.me.0 }
     ensures least { AreAtMost (added_in base seat.old.me.0) result }
+    ensures most { AreSmall result }
     ensures did { LoadsContext base result seat.old.me.0 seat.new.me.0 }
 {
     let hits = table.load_counter(seat, base);
@@ -52,6 +54,8 @@ pub fn load_totals<L: BlockLane, G: LogDevice>(
     ensures view { seat.new.me.0 ≡ view_loading (loads_of result) seat.old.me.0 }
     // Each shows at least what this backend has published.
     ensures least { AreAllAtMost (io_added seat.old.me.0) result }
+    // And at most what 64 backends count.
+    ensures most { AreAllSmall result }
     ensures did { LoadsCounters result seat.old.me.0 seat.new.me.0 }
 {
     let no_ring = load_context(table, seat, 0);

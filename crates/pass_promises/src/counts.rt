@@ -2,7 +2,7 @@
 ghost use Rattle.std.specs.Prelude.{◌≡◌, ◌≤◌, vec_len};
 ghost use Rattle.io_counts.specs.declared.contexts.ByContext.{ByContext};
 ghost use Rattle.io_counts.specs.Additions.{io_added};
-ghost use Rattle.io_counts.specs.Sums.{io_shown};
+ghost use Rattle.io_counts.specs.Sums.{AreAllSmall, io_shown};
 ghost use Rattle.io_counts.specs.Tallies.{AreAllAtMost};
 ghost use Rattle.io_counts.specs.Totals.{loads_of, view_loading};
 ghost use Rattle.backend_pass.specs.Counts.{io_in_all};
@@ -23,13 +23,13 @@ pub fn publish<L: BlockLane, G: LogDevice>(manager: &Manager<L, G>, pass: &mut P
     pass.publish(manager);
 }
 
-/// The totals are those of the table's counters, each loaded in this call, and none is less than
-/// what the pass has published (`pg_stat_get_io`).
+/// The totals are those of the table's counters, each loaded in this call. None is less than what
+/// the pass has published, or more than what 64 passes count (`pg_stat_get_io`).
 pub fn io_totals<L: BlockLane, G: LogDevice>(manager: &Manager<L, G>, pass: &mut Pass) -> IoCounts
     requires { Belongs L.contents manager.now pass.old }
     ensures { (io : ByContext) × (result ≡ io_shown io)
         × (pass.new ≡ record pass.old { view = view_loading (loads_of io) pass.old.view })
-        × AreAllAtMost (io_added pass.old.view) io }
+        × AreAllAtMost (io_added pass.old.view) io × AreAllSmall io }
 {
     pass.io_totals(manager)
 }

@@ -14,6 +14,14 @@ returns-clause-view g c =
     (loads_then u x w (loads_in 5 c.load_context-bulk_read.result) (loads_in 10 c.load_context-bulk_write.result ++ loads_in 15 c.load_context-vacuum.result) c.load_context-bulk_read.ensures.view
     (loads_then x y w (loads_in 10 c.load_context-bulk_write.result) (loads_in 15 c.load_context-vacuum.result) c.load_context-bulk_write.ensures.view c.load_context-vacuum.ensures.view))
 
+pub returns-clause-most : goal.returns-clause-most
+returns-clause-most g c = record {
+  no_ring = c.load_context-no_ring.ensures.most;
+  bulk_read = c.load_context-bulk_read.ensures.most;
+  bulk_write = c.load_context-bulk_write.ensures.most;
+  vacuum = c.load_context-vacuum.ensures.most;
+}
+
 pub returns-clause-did : goal.returns-clause-did
 returns-clause-did g c = (
   c.load_context-no_ring.new.seat.me.0,

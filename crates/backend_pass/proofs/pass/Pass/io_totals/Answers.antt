@@ -48,6 +48,7 @@ returns-clause-new g c =
       c.shown.ensures,
       loading_pass _ _ _ c.self.view_is e.badge.table e.badge.id refl refl (loads_of c.load_totals-totals.result) e.did,
       subst (λ (v : View). AreAllAtMost (io_added v) c.load_totals-totals.result) (sym c.take_seat-seat.ensures.view ∙ ap (λ (p : PassState). p.view) c.self.view_is) c.load_totals-totals.ensures.least,
+      c.load_totals-totals.ensures.most,
     )
 
 pub returns-clause-belongs : goal.returns-clause-belongs
