@@ -26,6 +26,9 @@ impl Pass {
     pub fn io(&self) -> IoCounts
         ensures shown { result ≡ io_shown self.now.io }
 
+        // Each count is at most 2^48 - 1. So `sums` can be called.
+        ensures within { AreAllAtMost self.now.io last_io }
+
         // If no eviction and no reuse is counted, the pass took no tag from a frame.
         ensures taken { taken_in self.now.io ≡ 0 → self.now.view.cleared ≡ 0 }
     {
