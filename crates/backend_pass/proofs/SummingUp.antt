@@ -13,14 +13,22 @@ use Rattle.io_counts.proofs.Small.{io_lasts, io_sum_assoc, io_sum_none, lasts_mo
 use Rattle.backend_pass.specs.Closing.{EachPass}
 use Rattle.backend_pass.specs.Counts.{io_in_all}
 use Rattle.backend_pass.specs.Managers.{AreSpent}
-use Rattle.backend_pass.specs.Passes.{HasPublished, PassState}
+use Rattle.backend_pass.specs.Passes.{HasPublished, PassState, taken_in}
 use Rattle.backend_pass.proofs.Told.{as_long, but_told, set_told, twin}
+
+-- if no eviction and no reuse is counted of the pass, it took no tag from a frame
+abbrev pub CountsTags : PassState → Type 0
+CountsTags p = taken_in p.io ≡ 0 → p.view.cleared ≡ 0
+
+tags_told : (p q : PassState) → but_told q ≡ but_told p → CountsTags p → CountsTags q
+tags_told p q same tags none = ap (λ (x : PassState). x.view.cleared) same ∙ tags (ap (λ (x : PassState). taken_in x.io) (sym same) ∙ none)
 
 -- The first n of the passes ps have published, and are qs then with the others; io is what these n
 -- counted
 pub record SumsUp (n : ℕ) (ps qs : List PassState) (io : ByContext) : Type 0 where
   pub same : map but_told qs ≡ map but_told ps
   pub told : (i : ℕ) (q : PassState) → i < n → get_elem? qs i ≡ some q → HasPublished q
+  pub tags : (i : ℕ) (q : PassState) → i < n → get_elem? qs i ≡ some q → CountsTags q
   pub sums : io ≡ io_in_all (take n ps)
   pub most : AreAllAtMost io (io_lasts n)
 
@@ -39,18 +47,23 @@ pub sums_none : (ps : List PassState) → SumsUp 0 ps ps no_io
 sums_none ps = record {
   same = refl;
   told = λ i q below. absurd (omega arith);
+  tags = λ i q below. absurd (omega arith);
   sums = refl;
   most = lasts_none;
 }
 
-pub sums_more : (n : ℕ) (ps qs : List PassState) (d new : PassState) (io io' : ByContext) → n < length qs → but_told new ≡ but_told (get_or qs n d) → HasPublished new → io' ≡ io_sum io (get_or qs n d).io → AreAllAtMost (get_or qs n d).io last_io → SumsUp n ps qs io → SumsUp (n + 1) ps (set qs n new) io'
-sums_more n ps qs d new io io' inside kept published sum low s =
+pub sums_more : (n : ℕ) (ps qs : List PassState) (d new : PassState) (io io' : ByContext) → n < length qs → but_told new ≡ but_told (get_or qs n d) → HasPublished new → io' ≡ io_sum io (get_or qs n d).io → AreAllAtMost (get_or qs n d).io last_io → CountsTags (get_or qs n d) → SumsUp n ps qs io → SumsUp (n + 1) ps (set qs n new) io'
+sums_more n ps qs d new io io' inside kept published sum low tags s =
     let old : PassState = get_or qs n d in
     let t = twin ps qs s.same n old (read_at qs n d inside) in record {
       same = set_told qs n d new kept ∙ s.same;
       told = λ i q below at. ⊎_elim
           (λ (x : (i ≡ n) × (new ≡ q)). subst HasPublished x.1 published)
           (λ (x : (i ≢ n) × (get_elem? qs i ≡ some q)). s.told i q (let other = x.0 in omega arith) x.1)
+          (at_set qs n i new q at);
+      tags = λ i q below at. ⊎_elim
+          (λ (x : (i ≡ n) × (new ≡ q)). subst CountsTags x.1 (tags_told old new kept tags))
+          (λ (x : (i ≢ n) × (get_elem? qs i ≡ some q)). s.tags i q (let other = x.0 in omega arith) x.1)
           (at_set qs n i new q at);
       sums = sum ∙ ap (λ (x : ByContext). io_sum x old.io) s.sums
           ∙ ap (io_sum (io_in_all (take n ps))) (ap (λ (p : PassState). p.io) (sym t.2))
@@ -74,6 +87,15 @@ table_of_next t n ps qs d io inside spent s =
 pub small_so_far : (n : ℕ) (ps qs : List PassState) (io : ByContext) → n ≤ length qs → length ps ≤ 64 → SumsUp n ps qs io → AreAllSmall io
 small_so_far n ps qs io inside few s = small_lasts n io (let long = as_long ps qs s.same in omega arith) s.most
 
+-- no eviction and no reuse is counted of each, if none is of all
+taken_in_both : (a b : ByContext) → taken_in (io_sum a b) ≡ 0 → (taken_in a ≡ 0) × (taken_in b ≡ 0)
+taken_in_both a b none = (omega arith, omega arith)
+
+taken_each : (ps : List PassState) (i : ℕ) (p : PassState) → get_elem? ps i ≡ some p → taken_in (io_in_all ps) ≡ 0 → taken_in p.io ≡ 0
+taken_each [] i p e none = absurd (some-ne-none p (sym e))
+taken_each (x ∷ xs) zero p e none = ap (λ (y : PassState). taken_in y.io) (sym (some-injective x p e)) ∙ (taken_in_both x.io (io_in_all xs) none).0
+taken_each (x ∷ xs) (suc i) p e none = taken_each xs i p e (taken_in_both x.io (io_in_all xs) none).1
+
 -- all have published
 module _ (n : ℕ) (ps qs : List PassState) (io : ByContext) (all : length qs ≤ n) (s : SumsUp n ps qs io) where
   pub all_published : EachPass HasPublished qs
@@ -81,3 +103,8 @@ module _ (n : ℕ) (ps qs : List PassState) (io : ByContext) (all : length qs �
 
   pub all_summed : io ≡ io_in_all ps
   all_summed = s.sums ∙ ap io_in_all (take_all n ps (let long = as_long ps qs s.same in omega arith))
+
+  pub none_took : taken_in (io_in_all ps) ≡ 0 → EachPass (λ (p : PassState). p.view.cleared ≡ 0) ps
+  none_took none i p at =
+      let t = twin qs ps (sym s.same) i p at in
+      tags_told t.0 p (sym t.2) (s.tags i t.0 (let below = length_low qs i t.0 t.1 in omega arith) t.1) (taken_each ps i p at none)

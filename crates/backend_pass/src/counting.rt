@@ -63,6 +63,7 @@ impl Pass {
         ensures published { HasPublished self.new }
         ensures sum { io.new ≡ io_sum io.old self.old.io }
         ensures within { AreAllAtMost self.old.io last_io }
+        ensures taken { taken_in self.old.io ≡ 0 → self.old.view.cleared ≡ 0 }
     {
         self.publish_at(table);
         io.add(&self.backend.io.counted());

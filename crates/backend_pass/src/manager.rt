@@ -62,8 +62,9 @@ impl<L: BlockLane, G: LogDevice> Manager<L, G> {
     ghost use Rattle.io_counts.specs.Additions.{io_counters};
     ghost use Rattle.io_counts.specs.Sums.{AreAllSmall, io_shown};
     ghost use Rattle.backend_pass.specs.Managers.{AreAll, AreNewPasses, OpenedWith};
-    ghost use Rattle.backend_pass.specs.Closing.{ClosesAll};
+    ghost use Rattle.backend_pass.specs.Closing.{ClosesAll, EachPass};
     ghost use Rattle.backend_pass.specs.Counts.{io_in_all};
+    ghost use Rattle.backend_pass.specs.Passes.{taken_in};
 
     /// Starts a manager of these relations and devices, over a log that begins at `base`, and
     /// returns it with all its passes, in the order of their numbers. A refusal returns the
@@ -153,6 +154,10 @@ impl<L: BlockLane, G: LogDevice> Manager<L, G> {
             passes.items result.0.items result.1 }
         ensures counts { result.2 ≡ io_shown (io_in_all passes.items) }
         ensures small { AreAllSmall (io_in_all passes.items) }
+
+        // If no eviction and no reuse is counted, no pass took a tag from a frame.
+        ensures taken { taken_in (io_in_all passes.items) ≡ 0
+            → EachPass (λ p. p.view.cleared ≡ 0) passes.items }
 
         // The table's counters have these sums as it is closed.
         ensures published { (x : ClosesAll (devices L.BlockLane G.LogDevice)

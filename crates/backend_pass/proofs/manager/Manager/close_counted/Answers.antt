@@ -5,7 +5,7 @@ use Rattle.table_rule.specs.Shows.{devices}
 use Rattle.backend_pass.specs.Closing.{ClosesAll}
 use Rattle.backend_pass.specs.Managers.{AreAll}
 use Rattle.backend_pass.specs.Passes.{PassState}
-use Rattle.backend_pass.proofs.SummingUp.{SumsUp, all_published, all_summed, small_so_far, sums_more, sums_none, table_of_next}
+use Rattle.backend_pass.proofs.SummingUp.{SumsUp, all_published, all_summed, none_took, small_so_far, sums_more, sums_none, table_of_next}
 use Rattle.backend_pass.proofs.Told.{all_told, but_told, closes_published}
 use Rattle.backend_pass.proofs.manager.Manager.close_counted.Goals as goal
 
@@ -23,7 +23,7 @@ sum_up-requires-clause-small g c = let long = c.args.passes.ok.0 in let few = c.
 
 pub loop-pass-preserved : goal.loop-pass-preserved
 loop-pass-preserved g c = let e = c.sum_up.ensures in
-    sums_more c.loop-pass.pass-index c.args.passes.items c.loop-pass.pass-items _ c.sum_up.new.self c.loop-pass.io c.sum_up.new.io (omega arith) (ap but_told e.new) e.published e.sum e.within c.loop-pass.invariant
+    sums_more c.loop-pass.pass-index c.args.passes.items c.loop-pass.pass-items _ c.sum_up.new.self c.loop-pass.io c.sum_up.new.io (omega arith) (ap but_told e.new) e.published e.sum e.within e.taken c.loop-pass.invariant
 
 pub close-lanes-requires : goal.close-lanes-requires
 close-lanes-requires g c = let long = c.args.passes.ok.0 in
@@ -44,3 +44,6 @@ returns-clause-counts g c = c.shown.ensures ∙ ap io_shown (all_summed c.loop-p
 pub returns-clause-small : goal.returns-clause-small
 returns-clause-small g c = let long = c.args.passes.ok.0 in let few = c.requires.few in
     subst AreAllSmall (all_summed c.loop-pass.pass-index c.args.passes.items c.loop-pass.pass-items c.loop-pass.io (omega arith) c.loop-pass.invariant) (small_so_far c.loop-pass.pass-index c.args.passes.items c.loop-pass.pass-items c.loop-pass.io (omega arith) (omega arith) c.loop-pass.invariant)
+
+pub returns-clause-taken : goal.returns-clause-taken
+returns-clause-taken g c = none_took c.loop-pass.pass-index c.args.passes.items c.loop-pass.pass-items c.loop-pass.io (omega arith) c.loop-pass.invariant

@@ -3,7 +3,7 @@ use Rattle.io_counts.specs.declared.contexts.ByContext.{ByContext}
 use Rattle.io_counts.specs.Sums.{AreAllSmall, io_sum}
 use Rattle.io_counts.specs.Tallies.{AreAllAtMost, last_io}
 use Rattle.io_counts.proofs.Small.{small_within}
-use Rattle.backend_pass.specs.Passes.{PassState}
+use Rattle.backend_pass.specs.Passes.{PassState, taken_in}
 use Rattle.backend_pass.proofs.pass.Pass.sum_up.Goals.{After-counted}
 use Rattle.backend_pass.proofs.pass.Pass.sum_up.Goals as goal
 
@@ -19,3 +19,6 @@ returns-clause-sum g c = c.add.ensures ∙ ap (io_sum c.args.io.now) (counted g 
 
 pub returns-clause-within : goal.returns-clause-within
 returns-clause-within g c = subst (λ (io : ByContext). AreAllAtMost io last_io) (ap (λ (p : PassState). p.io) (c.self.view_is ∙ c.publish_at.ensures.new)) c.counted.ensures.tally.within
+
+pub returns-clause-taken : goal.returns-clause-taken
+returns-clause-taken g c none = ap (λ (p : PassState). p.view.cleared) (sym (c.self.view_is ∙ c.publish_at.ensures.new)) ∙ c.self.invariant.5.taken (ap (λ (p : PassState). taken_in p.io) (c.self.view_is ∙ c.publish_at.ensures.new) ∙ none)
