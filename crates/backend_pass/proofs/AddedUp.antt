@@ -1,5 +1,5 @@
 -- What the passes' views have added to the counters of the table.
-use Rattle.std.proofs.Common.{◌≡◌, ℕ, zero, suc, ◌+◌, List, [], ◌∷◌, refl, ap, ◌∙◌, arith}
+use Rattle.std.proofs.Common.{◌≡◌, ℕ, zero, suc, ◌+◌, ◌≤◌, List, [], ◌∷◌, refl, ap, ◌∙◌, arith}
 use Rattle.grid.specs.Shape.{at_key, total}
 use Rattle.grid.proofs.Sums.{total-both}
 use Rattle.pin_core.specs.declared.view.Published.{Published}
@@ -7,7 +7,7 @@ use Rattle.pin_core.specs.declared.view.View.{View}
 use Rattle.pin_core.specs.State.{joined_view}
 use Rattle.history_core.specs.Balances.{added_to}
 use Rattle.io_counts.specs.declared.contexts.ByContext.{ByContext}
-use Rattle.io_counts.specs.Additions.{io_counters}
+use Rattle.io_counts.specs.Additions.{io_counters, view_adding}
 use Rattle.io_counts.specs.Sums.{io_sum}
 use Rattle.backend_pass.specs.Closing.{EachPass, joined_views}
 use Rattle.backend_pass.specs.Counts.{io_in_all}
@@ -18,6 +18,10 @@ use Rattle.backend_pass.proofs.Joining.{at_later, first_here, first_past, others
 -- how much all passes have added to the counter of this number
 abbrev pub added_by_all : List PassState → ℕ → ℕ
 added_by_all ps n = total (λ (p : PassState). added_to n p.view) ps
+
+-- after further additions it is no less
+pub added_more : (n : ℕ) (more : List Published) (v : View) → added_to n v ≤ added_to n (view_adding more v)
+added_more n more v = let both : added_to n (view_adding more v) ≡ added_to n v + total (at_key (λ (q : Published). q.count) (λ (q : Published). q.more) n) more = total-both (at_key (λ (q : Published). q.count) (λ (q : Published). q.more) n) v.published more in omega arith
 
 -- a view that takes in others has added what they have
 added_joined : (n : ℕ) (v : View) (ps : List PassState) → added_to n (joined_views v ps) ≡ added_to n v + added_by_all ps n

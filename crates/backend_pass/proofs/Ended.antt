@@ -356,6 +356,7 @@ module _ {L G : Type 0} where
     without_puts = λ none. without_puts s h w c.first c.others ps (no_write none) each;
     frames = took;
     counters = λ told. counters_same s.counter (added_by_all ps) added ∙ added_counted ps told;
+    least = least;
   }
     where
       s : State
@@ -374,6 +375,9 @@ module _ {L G : Type 0} where
       added n = counters_sums s h n
           ∙ total-alone (λ (u : View). added_to n u) s.pool.core.views 0 w c.first (λ i u other at. ap (added_to n) (c.others i u other at) ∙ none_added n)
           ∙ ap (added_to n) joined ∙ added_first n ps k at
+
+      least : (n : ℕ) → added_by_all ps n ≤ s.counter n
+      least n = let all = added n in omega arith
 
       met : met_by_passes ps ≡ w.met
       met = met_split ps k at ∙ ap (λ (u : View). sum_of_met u.met (met_by_passes (others_in ps))) first ∙ sym j.met

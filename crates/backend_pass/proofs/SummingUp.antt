@@ -4,8 +4,13 @@ use mathlib.Core.Option.{some, some-injective, some-ne-none}
 use lib.ListN.{get_elem?}
 use Rattle.atomic_table.specs.Seated.{TableId}
 use Rattle.grid.proofs.Lists.{at_set}
+use Rattle.grid.proofs.Sums.{total-set}
+use Rattle.pin_core.specs.declared.view.Published.{Published}
+use Rattle.pin_core.specs.declared.view.View.{View}
+use Rattle.history_core.specs.Balances.{added_to}
 use Rattle.table_rule.proofs.Opens.{length_low}
 use Rattle.io_counts.specs.declared.contexts.ByContext.{ByContext}
+use Rattle.io_counts.specs.Additions.{view_adding}
 use Rattle.io_counts.specs.Counts.{no_io}
 use Rattle.io_counts.specs.Sums.{AreAllSmall, io_sum}
 use Rattle.io_counts.specs.Tallies.{AreAllAtMost, last_io}
@@ -14,6 +19,7 @@ use Rattle.backend_pass.specs.Closing.{EachPass}
 use Rattle.backend_pass.specs.Counts.{io_in_all}
 use Rattle.backend_pass.specs.Managers.{AreSpent}
 use Rattle.backend_pass.specs.Passes.{HasPublished, PassState, taken_in}
+use Rattle.backend_pass.proofs.AddedUp.{added_by_all, added_more}
 use Rattle.backend_pass.proofs.Told.{as_long, but_told, set_told, twin}
 
 -- if no eviction and no reuse is counted of the pass, it took no tag from a frame
@@ -29,6 +35,7 @@ pub record SumsUp (n : ℕ) (ps qs : List PassState) (io : ByContext) : Type 0 w
   pub same : map but_told qs ≡ map but_told ps
   pub told : (i : ℕ) (q : PassState) → i < n → get_elem? qs i ≡ some q → HasPublished q
   pub tags : (i : ℕ) (q : PassState) → i < n → get_elem? qs i ≡ some q → CountsTags q
+  pub least : (number : ℕ) → added_by_all ps number ≤ added_by_all qs number
   pub sums : io ≡ io_in_all (take n ps)
   pub most : AreAllAtMost io (io_lasts n)
 
@@ -48,12 +55,13 @@ sums_none ps = record {
   same = refl;
   told = λ i q below. absurd (omega arith);
   tags = λ i q below. absurd (omega arith);
+  least = λ number. omega arith;
   sums = refl;
   most = lasts_none;
 }
 
-pub sums_more : (n : ℕ) (ps qs : List PassState) (d new : PassState) (io io' : ByContext) → n < length qs → but_told new ≡ but_told (get_or qs n d) → HasPublished new → io' ≡ io_sum io (get_or qs n d).io → AreAllAtMost (get_or qs n d).io last_io → CountsTags (get_or qs n d) → SumsUp n ps qs io → SumsUp (n + 1) ps (set qs n new) io'
-sums_more n ps qs d new io io' inside kept published sum low tags s =
+pub sums_more : (n : ℕ) (ps qs : List PassState) (d new : PassState) (io io' : ByContext) (more : List Published) → n < length qs → but_told new ≡ but_told (get_or qs n d) → new.view ≡ view_adding more (get_or qs n d).view → HasPublished new → io' ≡ io_sum io (get_or qs n d).io → AreAllAtMost (get_or qs n d).io last_io → CountsTags (get_or qs n d) → SumsUp n ps qs io → SumsUp (n + 1) ps (set qs n new) io'
+sums_more n ps qs d new io io' more inside kept adds published sum low tags s =
     let old : PassState = get_or qs n d in
     let t = twin ps qs s.same n old (read_at qs n d inside) in record {
       same = set_told qs n d new kept ∙ s.same;
@@ -65,6 +73,11 @@ sums_more n ps qs d new io io' inside kept published sum low tags s =
           (λ (x : (i ≡ n) × (new ≡ q)). subst CountsTags x.1 (tags_told old new kept tags))
           (λ (x : (i ≢ n) × (get_elem? qs i ≡ some q)). s.tags i q (let other = x.0 in omega arith) x.1)
           (at_set qs n i new q at);
+      least = λ number.
+          let before = s.least number in
+          let rises : added_to number old.view ≤ added_to number new.view = subst (λ (w : View). added_to number old.view ≤ added_to number w) (sym adds) (added_more number more old.view) in
+          let one : added_by_all (set qs n new) number + added_to number old.view ≡ added_by_all qs number + added_to number new.view = total-set (λ (p : PassState). added_to number p.view) qs n old new (read_at qs n d inside) in
+          omega arith;
       sums = sum ∙ ap (λ (x : ByContext). io_sum x old.io) s.sums
           ∙ ap (io_sum (io_in_all (take n ps))) (ap (λ (p : PassState). p.io) (sym t.2))
           ∙ sym (in_all_more n ps t.0 t.1)

@@ -1,5 +1,5 @@
 -- Passes before and after they published: they differ in that alone.
-use Rattle.std.proofs.Common.{◌≡◌, ℕ, zero, suc, ◌+◌, ◌<◌, Bool, true, false, cond, List, [], ◌∷◌, ◌++◌, length, map, get_or, set, refl, sym, ap, ◌∙◌, subst, arith}
+use Rattle.std.proofs.Common.{◌≡◌, ℕ, zero, suc, ◌+◌, ◌<◌, ◌≤◌, Bool, true, false, cond, List, [], ◌∷◌, ◌++◌, length, map, get_or, set, refl, sym, ap, ◌∙◌, subst, arith}
 use mathlib.Core.Option.{some, some-injective, some-ne-none}
 use lib.ListN.{get_elem?}
 use Rattle.grid.specs.Shape.{total}
@@ -22,6 +22,7 @@ use Rattle.backend_pass.specs.Closing.{ClosesAll, ClosesPass, EachPass, NothingP
 use Rattle.backend_pass.specs.Counts.{io_in_all}
 use Rattle.backend_pass.specs.Managers.{AreAll, AreFronted, AreSpent, HaveQueues, first_in, is_first, others_in}
 use Rattle.backend_pass.specs.Passes.{HasPublished, PassState}
+use Rattle.backend_pass.proofs.AddedUp.{added_by_all}
 
 -- all of a pass but what its view published, and the steps by which it did
 abbrev pub but_told : PassState → PassState
@@ -194,8 +195,8 @@ module _ (ps qs : List PassState) (same : map but_told qs ≡ map but_told ps) w
 
   -- the passes that published are closed, so are those that they were before, and the counters have
   -- what these counted
-  pub closes_published : {L G : Type 0} (d : Devices L G) (o : Opening L G) (lanes : List L) (log : G) → EachPass HasPublished qs → ClosesAll d o qs lanes log → (x : ClosesAll d o ps lanes log) × (io_counters x.state.counter ≡ io_in_all ps)
-  closes_published d o lanes log told c =
+  pub closes_published : {L G : Type 0} (d : Devices L G) (o : Opening L G) (lanes : List L) (log : G) → EachPass HasPublished qs → ((number : ℕ) → added_by_all ps number ≤ added_by_all qs number) → ClosesAll d o qs lanes log → (x : ClosesAll d o ps lanes log) × (io_counters x.state.counter ≡ io_in_all ps)
+  closes_published d o lanes log told fewer c =
       let added : io_counters c.state.counter ≡ io_in_all ps = c.counters told ∙ io_same ps qs same in (
         record {
           state = c.state;
@@ -232,6 +233,7 @@ module _ (ps qs : List PassState) (same : map but_told qs ≡ map but_told ps) w
             each = λ f below. ap (λ (n : ℕ). n + times f c.frames.left) (sym (takes_same f)) ∙ c.frames.each f below ∙ ap (λ (n : ℕ). 1 + n) (pushes_same f);
           };
           counters = λ published. added;
+          least = λ number. let had = fewer number in let all : added_by_all qs number ≤ c.state.counter number = c.least number in let both : added_by_all ps number ≤ c.state.counter number = omega arith in both;
         },
         added,
       )

@@ -17,6 +17,7 @@ use Rattle.history_core.specs.History.{IsHistory}
 use Rattle.history_core.specs.Laws.{Laws}
 use Rattle.history_core.specs.TornRecords.{IsOfPage}
 use Rattle.history_core.specs.Unentered.{IsUnentered}
+use Rattle.history_core.specs.Balances.{added_to}
 use Rattle.history_core.specs.Promises.{AreDurable, AreStored, AreSynced}
 use Rattle.block_tag.specs.declared.tag.Tag.{Tag}
 use Rattle.segment_store.specs.Lanes.{HoldTheirs}
@@ -206,3 +207,6 @@ module _ {L G : Type 0} where
     pub frames : TookEach o.config.frames ps
     -- if each pass has published what it counted, the counters have the sums of that
     pub counters : EachPass HasPublished ps → io_counters state.counter ≡ io_in_all ps
+    -- each counter has at least what the passes had added to it before the close
+    pub least : (number : ℕ)
+        → total (λ (p : PassState). added_to number p.view) ps ≤ state.counter number

@@ -23,7 +23,7 @@ sum_up-requires-clause-small g c = let long = c.args.passes.ok.0 in let few = c.
 
 pub loop-pass-preserved : goal.loop-pass-preserved
 loop-pass-preserved g c = let e = c.sum_up.ensures in
-    sums_more c.loop-pass.pass-index c.args.passes.items c.loop-pass.pass-items _ c.sum_up.new.self c.loop-pass.io c.sum_up.new.io (omega arith) (ap but_told e.new) e.published e.sum e.within e.taken c.loop-pass.invariant
+    sums_more c.loop-pass.pass-index c.args.passes.items c.loop-pass.pass-items _ c.sum_up.new.self c.loop-pass.io c.sum_up.new.io _ (omega arith) (ap but_told e.new) (ap (λ (p : PassState). p.view) e.new) e.published e.sum e.within e.taken c.loop-pass.invariant
 
 pub close-lanes-requires : goal.close-lanes-requires
 close-lanes-requires g c = let long = c.args.passes.ok.0 in
@@ -32,7 +32,7 @@ close-lanes-requires g c = let long = c.args.passes.ok.0 in
 
 pub returns-clause-published : goal.returns-clause-published
 returns-clause-published g c = let i = c.loop-pass.invariant in let long = c.args.passes.ok.0 in
-    closes_published c.args.passes.items c.loop-pass.pass-items i.same _ _ _ _ (all_published c.loop-pass.pass-index c.args.passes.items c.loop-pass.pass-items c.loop-pass.io (omega arith) i)
+    closes_published c.args.passes.items c.loop-pass.pass-items i.same _ _ _ _ (all_published c.loop-pass.pass-index c.args.passes.items c.loop-pass.pass-items c.loop-pass.io (omega arith) i) i.least
     (subst (λ (qs : List PassState). ClosesAll {L = g.row.L.Denot} {G = g.row.G.Denot} (devices g.L.BlockLane g.G.LogDevice) c.args.self.table.table.shared.key qs c.close-lanes.result.0.items c.close-lanes.result.1) (with_items_is c.args.passes c.loop-pass.pass-items (omega arith)) c.close-lanes.ensures)
 
 pub returns-clause-closes : goal.returns-clause-closes
