@@ -16,9 +16,11 @@ pub enum IoEvent {
     Read,
     /// A lane took a page (`IOOP_WRITE`).
     Write,
-    /// A frame lost its block for another one (`IOOP_EVICT`).
+    /// A frame that was chosen as a victim, not at a ring's current place, lost its tag, even if
+    /// that victim was lost then (`IOOP_EVICT`).
     Eviction,
-    /// The frame at the current place of the ring lost its block for another one (`IOOP_REUSE`).
+    /// A frame that was chosen as a victim at a ring's current place lost its tag, even if that
+    /// victim was lost then (`IOOP_REUSE`).
     Reuse,
 }
 

@@ -13,9 +13,10 @@ pub struct IoCounts {
     pub reads: [u64; 4],
     /// Pages that lanes took.
     pub writes: [u64; 4],
-    /// Frames that lost their blocks for others.
+    /// Tags that victims lost which weren't at rings' current places, even if the victim was lost
+    /// then.
     pub evictions: [u64; 4],
-    /// Frames at the current places of rings that lost their blocks for others.
+    /// Tags that victims at rings' current places lost, even if the victim was lost then.
     pub reuses: [u64; 4],
 }
 
