@@ -37,7 +37,7 @@ pub record PassState : Type 0 where
   pub marked : List MarkedFrame
   -- what its last read saw of the block's hint
   pub hint : HintSeen
-  -- what it has counted of its reads, writes and victims
+  -- what it has counted of its hits, reads, writes and victims
   pub io : ByContext
 
 abbrev pub view_in : List View → View

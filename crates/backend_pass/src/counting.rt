@@ -21,8 +21,8 @@ impl Pass {
     ghost use Rattle.backend_pass.specs.Managers.{Belongs};
     ghost use Rattle.backend_pass.specs.Passes.{HasPublished, KeepsCallers, taken_in};
 
-    /// What the pass has counted of its reads, writes and victims. Each count stands still at
-    /// 2^48 - 1.
+    /// What the pass has counted of its hits, reads, writes and victims. Each count stands still
+    /// at 2^48 - 1.
     pub fn io(&self) -> IoCounts
         ensures shown { result ≡ io_shown self.now.io }
 

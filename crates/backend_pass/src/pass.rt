@@ -49,8 +49,8 @@ impl Model for Pass {
     } };
 
     // Its seat has one view, which holds what its tokens say and nothing else. It has room to mark
-    // each frame, and counts the latches of partitions that it took, and its reads, writes and
-    // victims.
+    // each frame, and counts the latches of partitions that it took, and its hits, reads, writes
+    // and victims.
     ghost invariant = { λ p. let v = view_in p.seat.views in
         (p.seat.views ≡ v ∷ [])
         × OnlyTokens p.held v

@@ -18,6 +18,6 @@ pub struct Backend {
     pub page: Page,
     /// What its last look-up saw of the block's hint, and how many latches of partitions it took.
     pub lookups: Sought,
-    /// What it counts of its reads, writes and victims.
+    /// What it counts of its hits, reads, writes and victims.
     pub io: Tally,
 }

@@ -1,4 +1,4 @@
--- Blocks that were looked up and found, in the pool or in their lanes: hits and reads.
+-- Blocks that backends found, in the pool or in their lanes: hits and reads.
 use Rattle.std.specs.Prelude.{◌≡◌, ℕ, ◌+◌, ◌<◌, ◌≤◌}
 use Rattle.history_core.specs.Words.{most_published}
 use Rattle.io_counts.specs.declared.contexts.ByContext.{ByContext}

@@ -10,7 +10,8 @@ pub(crate) const MOST_COUNTED: u64 = (1 << 48) - 1;
 /// What is counted.
 #[derive(Clone, Copy, PartialEq, Eq, Debug)]
 pub enum IoEvent {
-    /// A block that was looked up was in the pool (`IOOP_HIT`).
+    /// A `read_buffer` was answered with a block whose page was in the pool; a further token
+    /// counts, too (`IOOP_HIT`).
     Hit,
     /// A lane gave a page, sound or not (`IOOP_READ`).
     Read,

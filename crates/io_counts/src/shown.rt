@@ -3,11 +3,11 @@ ghost use Rattle.std.specs.Prelude.{◌≡◌, ◌<◌, ◌^◌, sum};
 
 use crate::contexts::{ByContext, ContextCounts};
 
-/// The counts of reads, writes and victims, each by its context: without a ring, bulk reads, bulk
-/// writes, vacuum.
+/// The counts of hits, reads, writes and victims, each by its context: without a ring, bulk reads,
+/// bulk writes, vacuum.
 #[derive(Clone, Copy, PartialEq, Eq, Debug)]
 pub struct IoCounts {
-    /// Blocks that were looked up, and were in the pool.
+    /// Answers of `read_buffer` with a block whose page was in the pool, further tokens among them.
     pub hits: [u64; 4],
     /// Pages that lanes gave, sound or not.
     pub reads: [u64; 4],
