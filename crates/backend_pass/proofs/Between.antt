@@ -197,7 +197,7 @@ module _ {L G : Type 0} (contents : L → Option Pages) (m : Manager L G) where
 
   -- a pass that nothing was done with
   pub held_none : (p : PassState) → Belongs contents m p → KeepsHeld contents m p p
-  held_none p b = record { belongs = b; same = record { keeps = pass_none p; upto = refl; torn = refl; unentered = refl }; tokens = refl; locks = λ f. refl }
+  held_none p b = record { belongs = b; same = record { keeps = pass_none p; upto = refl; published = refl; torn = refl; unentered = refl }; tokens = refl; locks = λ f. refl }
 
   pub held_on : (p u q : PassState) → KeepsHeld contents m p u → KeepsHeld contents m u q → KeepsHeld contents m p q
   held_on p u q a b = record { belongs = b.belongs; same = same_on p u q a.same b.same; tokens = b.tokens ∙ a.tokens; locks = λ f. b.locks f ∙ a.locks f }

@@ -169,6 +169,7 @@ same_kept p q table id census e advances = record {
     advances = advances;
   };
   upto = ap (λ (x : View). x.upto) e;
+  published = ap (λ (x : View). x.published) e;
   torn = ap (λ (x : View). x.torn) e;
   unentered = ap (λ (x : View). x.unentered) e;
 }
@@ -179,7 +180,7 @@ calls_kept p q e = record { calls = ap (λ (x : View). x.calls) e; front = ap (�
 -- what a call leaves of a pass is no matter of the hint that it had
 module _ (p q : PassState) (seen : HintSeen) where
   pub same_hinted : SamePass (record p { hint = seen }) q → SamePass p q
-  same_hinted s = let k = s.keeps in record { keeps = record { table = k.table; id = k.id; own = k.own; number = k.number; next = k.next; joined = k.joined; kept = k.kept; advances = k.advances }; upto = s.upto; torn = s.torn; unentered = s.unentered }
+  same_hinted s = let k = s.keeps in record { keeps = record { table = k.table; id = k.id; own = k.own; number = k.number; next = k.next; joined = k.joined; kept = k.kept; advances = k.advances }; upto = s.upto; published = s.published; torn = s.torn; unentered = s.unentered }
 
   pub calls_hinted : KeepsCalls (record p { hint = seen }) q → KeepsCalls p q
   calls_hinted k = record { calls = k.calls; front = k.front; place_loads = k.place_loads }

@@ -104,6 +104,7 @@ same_put f p q table id census k = let e = k.kept in record {
     advances = k.advances;
   };
   upto = ap (λ (x : View). x.upto) e;
+  published = ap (λ (x : View). x.published) e;
 }
 
 pub front_put : (base : ℕ) (relations : List RelEntry) (f : ℕ) (tag : Tag) (page : Page)

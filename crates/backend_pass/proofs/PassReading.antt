@@ -61,6 +61,7 @@ same_read p q table id census k = let e = k.kept in record {
     advances = k.rises;
   };
   upto = ap (λ (x : View). x.upto) e;
+  published = ap (λ (x : View). x.published) e;
   torn = ap (λ (x : View). x.torn) e;
   unentered = ap (λ (x : View). x.unentered) e;
 }

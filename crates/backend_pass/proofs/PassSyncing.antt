@@ -154,7 +154,7 @@ callers_synced lane done p q table id tokens census hint io e rises locks = reco
 }
 
 pub same_synced : (lane : ℕ) (done : Bool) (p q : PassState) → q.table ≡ p.table → q.id ≡ p.id → q.tokens ≡ p.tokens → beside_of q ≡ beside_of p → q.hint ≡ p.hint → q.io ≡ p.io → work_of q.view ≡ synced_work lane done p.view → OnlyRises p.view q.view → SameLocks p.view q.view → SamePass p q
-same_synced lane done p q table id tokens census hint io e rises locks = record { keeps = (callers_synced lane done p q table id tokens census hint io e rises locks).keeps; upto = ap (λ (x : View). x.upto) e; torn = ap (λ (x : View). x.torn) e; unentered = ap (λ (x : View). x.unentered) e }
+same_synced lane done p q table id tokens census hint io e rises locks = record { keeps = (callers_synced lane done p q table id tokens census hint io e rises locks).keeps; upto = ap (λ (x : View). x.upto) e; published = ap (λ (x : View). x.published) e; torn = ap (λ (x : View). x.torn) e; unentered = ap (λ (x : View). x.unentered) e }
 
 module _ {L G : Type 0} (contents : L → Option Pages) (t : FrameTable L G) where
   pub sync_complete : (only : SyncOnly) (f : ℕ) (p q : PassState) (r : Result Synced FlushError) → SyncsFrame contents t only f p.view q.view (frame_answer r) → q.view.met ≡ met_flushing (frame_answer r) p.view.met → NothingFails contents t p q → IsOk r

@@ -93,6 +93,7 @@ same_none p q table id census e = record {
     advances = subst (λ (w : View). OnlyRises p.view w) (sym e) (rises_none p.view);
   };
   upto = ap (λ (x : View). x.upto) e;
+  published = ap (λ (x : View). x.published) e;
   torn = ap (λ (x : View). x.torn) e;
   unentered = ap (λ (x : View). x.unentered) e;
 }
@@ -110,6 +111,7 @@ same_touched p q f table id census k = let e = k.self in record {
     advances = rises_touched f p.view q.view k;
   };
   upto = ap (λ (x : View). x.upto) e;
+  published = ap (λ (x : View). x.published) e;
   torn = ap (λ (x : View). x.torn) e;
   unentered = ap (λ (x : View). x.unentered) e;
 }

@@ -135,6 +135,7 @@ same_given_up f p q table id census k = let e = k.touches.self in record {
     advances = rises_given_up f p.view q.view k;
   };
   upto = ap (λ (x : View). x.upto) e;
+  published = ap (λ (x : View). x.published) e;
   torn = ap (λ (x : View). x.torn) e;
 }
 

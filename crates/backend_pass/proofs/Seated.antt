@@ -14,20 +14,21 @@ use Rattle.backend_pass.specs.Seats.{IsSeatOf}
 use Rattle.backend_pass.proofs.Keeping.{pass_on}
 
 pub same_on : (p q r : PassState) → SamePass p q → SamePass q r → SamePass p r
-same_on p q r a b = record { keeps = pass_on p q r a.keeps b.keeps; upto = b.upto ∙ a.upto; torn = b.torn ∙ a.torn; unentered = b.unentered ∙ a.unentered }
+same_on p q r a b = record { keeps = pass_on p q r a.keeps b.keeps; upto = b.upto ∙ a.upto; published = b.published ∙ a.published; torn = b.torn ∙ a.torn; unentered = b.unentered ∙ a.unentered }
 
 pub same_from : (a p q : PassState) → p ≡ a → SamePass p q → SamePass a q
 same_from a p q e same = subst (λ (x : PassState). SamePass x q) e same
 
 -- it is the same one but for the blocks that it noted as unentered
 pub but_unentered : (p q : PassState) → SamePass p q → SameButUnentered p q
-but_unentered p q s = record { keeps = s.keeps; upto = s.upto; torn = s.torn }
+but_unentered p q s = record { keeps = s.keeps; upto = s.upto; published = s.published; torn = s.torn }
 
 pub unentered_on : (p q r : PassState) → SameButUnentered p q → SameButUnentered q r
     → SameButUnentered p r
 unentered_on p q r a b = record {
   keeps = pass_on p q r a.keeps b.keeps;
   upto = b.upto ∙ a.upto;
+  published = b.published ∙ a.published;
   torn = b.torn ∙ a.torn;
 }
 
@@ -37,19 +38,20 @@ pub same_unentered : (p q : PassState) → SameButUnentered p q
 same_unentered p q s none = record {
   keeps = s.keeps;
   upto = s.upto;
+  published = s.published;
   torn = s.torn;
   unentered = none;
 }
 
 -- it is the same one but for the records that it failed to append, and the blocks that it noted
 pub but_torn : (p q : PassState) → SamePass p q → SameButTorn p q
-but_torn p q s = record { keeps = s.keeps; upto = s.upto }
+but_torn p q s = record { keeps = s.keeps; upto = s.upto; published = s.published }
 
 pub but_torn_unentered : (p q : PassState) → SameButUnentered p q → SameButTorn p q
-but_torn_unentered p q s = record { keeps = s.keeps; upto = s.upto }
+but_torn_unentered p q s = record { keeps = s.keeps; upto = s.upto; published = s.published }
 
 pub torn_on : (p q r : PassState) → SameButTorn p q → SameButTorn q r → SameButTorn p r
-torn_on p q r a b = record { keeps = pass_on p q r a.keeps b.keeps; upto = b.upto ∙ a.upto }
+torn_on p q r a b = record { keeps = pass_on p q r a.keeps b.keeps; upto = b.upto ∙ a.upto; published = b.published ∙ a.published }
 
 pub put_from : (a p q : PassState) → p ≡ a → SameButTorn p q → SameButTorn a q
 put_from a p q e same = subst (λ (x : PassState). SameButTorn x q) e same

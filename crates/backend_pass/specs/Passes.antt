@@ -106,24 +106,27 @@ pub record KeepsPass (p q : PassState) : Type 0 where
   pub kept : q.view.joined_checkpoints ≡ p.view.joined_checkpoints
   pub advances : OnlyRises p.view q.view
 
--- It is the same pass, its checkpoint began where it did before, and it may have failed to append
--- records, and noted blocks as unentered
+-- It is the same pass, its checkpoint began where it did before, it published nothing, and it may
+-- have failed to append records, and noted blocks as unentered
 pub record SameButTorn (p q : PassState) : Type 0 where
   pub keeps : KeepsPass p q
   pub upto : q.view.upto ≡ p.view.upto
+  pub published : q.view.published ≡ p.view.published
 
--- It is the same pass, its checkpoint began where it did before, it failed to append no record, and
--- it may have noted blocks as unentered
+-- It is the same pass, its checkpoint began where it did before, it published nothing, it failed to
+-- append no record, and it may have noted blocks as unentered
 pub record SameButUnentered (p q : PassState) : Type 0 where
   pub keeps : KeepsPass p q
   pub upto : q.view.upto ≡ p.view.upto
+  pub published : q.view.published ≡ p.view.published
   pub torn : q.view.torn ≡ p.view.torn
 
--- It is the same pass, its checkpoint began where it did before, it failed to append no record, and
--- it noted no block as unentered
+-- It is the same pass, its checkpoint began where it did before, it published nothing, it failed to
+-- append no record, and it noted no block as unentered
 pub record SamePass (p q : PassState) : Type 0 where
   pub keeps : KeepsPass p q
   pub upto : q.view.upto ≡ p.view.upto
+  pub published : q.view.published ≡ p.view.published
   pub torn : q.view.torn ≡ p.view.torn
   pub unentered : q.view.unentered ≡ p.view.unentered
 

@@ -172,7 +172,7 @@ module _ {L G : Type 0} (contents : L → Option Pages) (m : Manager L G) where
   pub going_begun : (p q : PassState) (hand : ℕ) → Belongs contents m q → KeepsCallers p q → q ≡ record p { view = view_of load_hand hand p.view } → DidWord load_hand p.view q.view hand → Going p q hand 0 0
   going_begun p q hand belongs callers new did = record {
     belongs = belongs;
-    same = record { keeps = callers.keeps; upto = ap (λ (x : PassState). x.view.upto) new; torn = ap (λ (x : PassState). x.view.torn) new; unentered = ap (λ (x : PassState). x.view.unentered) new };
+    same = record { keeps = callers.keeps; upto = ap (λ (x : PassState). x.view.upto) new; published = ap (λ (x : PassState). x.view.published) new; torn = ap (λ (x : PassState). x.view.torn) new; unentered = ap (λ (x : PassState). x.view.unentered) new };
     callers = callers;
     mark = ap (λ (x : PassState). x.view.dirtied_or_synced) new;
     pins = λ g. ap (λ (x : PassState). (link x.view g).role) new;

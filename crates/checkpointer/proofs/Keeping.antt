@@ -20,7 +20,7 @@ use Rattle.checkpointer.proofs.Flushing.{flushes_none, flushes_on, synced_flushe
 
 module _ {L G : Type 0} (contents : L → Option Pages) (m : Manager L G) where
   pub keeps_none : (p : PassState) → Belongs contents m p → KeepsBackend contents m p p
-  keeps_none p b = record { belongs = b; same = record { keeps = pass_none p; upto = refl; torn = refl; unentered = refl }; callers = callers_none p }
+  keeps_none p b = record { belongs = b; same = record { keeps = pass_none p; upto = refl; published = refl; torn = refl; unentered = refl }; callers = callers_none p }
 
   pub keeps_on : (p q r : PassState) → KeepsBackend contents m p q → KeepsBackend contents m q r → KeepsBackend contents m p r
   keeps_on p q r a b = record { belongs = b.belongs; same = same_on p q r a.same b.same; callers = callers_on p q r a.callers b.callers }
@@ -45,7 +45,7 @@ module _ {L G : Type 0} (contents : L → Option Pages) (m : Manager L G) where
   marks_listed p marked b = record {
     keeps = record {
       belongs = belongs_listed p marked b;
-      same = record { keeps = record { table = refl; id = refl; own = refl; number = refl; next = refl; joined = refl; kept = refl; advances = rises_none p.view }; upto = refl; torn = refl; unentered = refl };
+      same = record { keeps = record { table = refl; id = refl; own = refl; number = refl; next = refl; joined = refl; kept = refl; advances = rises_none p.view }; upto = refl; published = refl; torn = refl; unentered = refl };
       callers = record {
         keeps = record { table = refl; id = refl; own = refl; number = refl; next = refl; joined = refl; kept = refl; advances = rises_none p.view };
         tokens = refl;

@@ -80,6 +80,7 @@ begins_to upto p q r s same = record {
   view = s.view;
   until = rises_on s.began.view q.view r.view s.same.keeps.advances same.keeps.advances;
   last = same.upto ∙ s.same.upto ∙ ap (λ (v : View). v.upto) s.view;
+  published = same.published ∙ s.same.published ∙ ap (λ (v : View). v.published) s.view;
 }
 
 pub callers_to : {frames : ℕ} (upto : ℕ) (p q r : PassState) → Started frames upto p q → KeepsCallers q r → KeepsCallers p r

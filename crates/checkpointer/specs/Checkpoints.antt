@@ -15,13 +15,14 @@ use Rattle.checkpointer.specs.Stages.{syncs_below}
 use Rattle.checkpointer.specs.Writes.{MarksAndWrites}
 
 -- A checkpoint of the view began as the first step, where the log ended at `upto`, and is its last
--- one still
+-- one still. The view published nothing
 pub record Begins (upto : ℕ) (v w : View) : Type 0 where
   pub began : View
   pub did : DidWord begin_checkpoint v began upto
   pub view : began ≡ view_of begin_checkpoint upto v
   pub until : OnlyRises began w
   pub last : w.upto ≡ upto
+  pub published : w.published ≡ v.published
 
 -- The last step to the view left the latch of a lane. In the state of that step each entry of the
 -- log up to `upto` is durable, the syncs of the lanes have covered it, and its block's lane holds

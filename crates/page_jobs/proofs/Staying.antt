@@ -10,7 +10,7 @@ use Rattle.backend_pass.proofs.Keeping.{pass_none}
 use Rattle.page_jobs.specs.Reads.{Stays}
 
 pub same_none : (p : PassState) → SamePass p p
-same_none p = record { keeps = pass_none p; upto = refl; torn = refl; unentered = refl }
+same_none p = record { keeps = pass_none p; upto = refl; published = refl; torn = refl; unentered = refl }
 
 module _ {L G : Type 0} (contents : L → Option Pages) (m : Manager L G) where
   pub stays_none : (p : PassState) → Belongs contents m p → Stays contents m p p
