@@ -1,15 +1,20 @@
 -- What calls leave of the passes of a small manager, and that the three can be given back.
 use Rattle.std.proofs.Common.{◌≡◌, ◌+◌, ◌∙◌, ℕ, List, [], ◌∷◌, ◌++◌, length, nat_eq, Option, refl, sym, ap, subst, arith}
+use Rattle.std.specs.Prelude.{Err, IfOk, Ok, Result}
+use Rattle.block_tag.specs.declared.tag.Tag.{Tag}
 use Rattle.segment_store.specs.Contents.{Pages}
 use Rattle.pin_core.specs.declared.view.Content.{Content}
+use Rattle.pin_core.specs.declared.view.Content.TheVariants.{Unlocked}
 use Rattle.pin_core.specs.declared.view.View.{View}
+use Rattle.buffer_frames.specs.Tokens.{IsPinnedFor, tokens_less}
+use Rattle.backend_pass.specs.declared.errors.ReadError.{ReadError}
 use Rattle.backend_pass.specs.declared.manager.Manager.{Manager}
 use Rattle.backend_pass.specs.declared.pinned.Pinned.{Pinned}
 use Rattle.backend_pass.specs.Locks.{ChangesLock}
 use Rattle.backend_pass.specs.Managers.{AreAll, AreNewPasses, Belongs, IsNewPass, first_in}
 use Rattle.backend_pass.specs.Passes.{KeepsCallers, KeepsLocks, KeepsPass, PassState, SameButTorn, SamePass}
 use Rattle.grid.specs.Shape.{total}
-use Rattle.backend_pass.proofs.Between.{idle_kept, new_idle, new_number, number_kept, only_kept, only_relocked}
+use Rattle.backend_pass.proofs.Between.{idle_kept, new_idle, new_number, number_kept, only_kept, only_pinned, only_relocked}
 use Rattle.backend_pass.proofs.Joining.{first_here, first_past}
 use Rattle.manager_bench.specs.Bench.{IsHolding, IsFree}
 
@@ -58,6 +63,12 @@ module _ {L G : Type 0} (contents : L → Option Pages) (m : Manager L G) where
   -- a call that keeps what callers have of the pass
   pub free_on : (i : ℕ) (p q : PassState) → IsFree contents m i p → Belongs contents m q → KeepsCallers p q → IsFree contents m i q
   free_on i p q free b k = record { is = number_kept 3 i p q free.is k.keeps; idle = idle_kept contents m p q free.idle b k.tokens k.locks }
+
+  -- a block that is read is pinned
+  pub holds_read : (tag : Tag) (i : ℕ) (p q : PassState) (r : Result Pinned ReadError) → IsFree contents m i p → Belongs contents m q → SamePass p q → KeepsLocks p q
+      → IfOk r (λ x. x.tag ≡ tag) → IfOk r (λ x. IsPinnedFor tag x.frame q.tokens) → IfOk r (λ x. tokens_less x.frame q.tokens ≡ p.tokens) → IfOk r (λ x. IsHolding contents Unlocked x m i q)
+  holds_read tag i p q (Ok x) free b s locks same token back = record { is = number_kept 3 i p q free.is s.keeps; only = only_pinned contents m tag x p q free.idle same b token back locks }
+  holds_read tag i p q (Err why) free b s locks same token back = tt
 
   -- a call that keeps tokens and locks
   holds_kept : (lock : Content) (pinned : Pinned) (i : ℕ) (p q : PassState) → IsHolding contents lock pinned m i p → Belongs contents m q → KeepsPass p q → q.tokens ≡ p.tokens → KeepsLocks p q → IsHolding contents lock pinned m i q

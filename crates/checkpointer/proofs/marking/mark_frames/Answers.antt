@@ -5,7 +5,7 @@ use Rattle.buffer_frames.proofs.WorkSteps.{made_none}
 use Rattle.backend_pass.specs.declared.marked.MarkedFrame.{MarkedFrame}
 use Rattle.backend_pass.specs.Passes.{PassState}
 use Rattle.checkpointer.specs.Marked.{AreInside, AreMarked, NotesInOrder, nothing}
-use Rattle.checkpointer.proofs.Keeping.{marks_none, marks_on}
+use Rattle.checkpointer.proofs.Keeping.{marks_as, marks_none, marks_on}
 use Rattle.checkpointer.proofs.MarkedFrames.{inside_moved, inside_none, marked_moved, marked_none, visited_more, visited_none}
 use Rattle.checkpointer.proofs.marking.mark_frames.Goals as goal
 
@@ -35,6 +35,12 @@ loop-frame-preserved g c =
       room = e.room;
       notes = e.notes c.args.pass.now.view i.notes;
     }
+
+pub returns-clause-marks : goal.returns-clause-marks
+returns-clause-marks g c =
+    let i = c.loop-frame.invariant in
+    marks_on {L = g.row.L.Denot} {G = g.row.G.Denot} g.L.BlockLane.contents c.args.manager.now c.args.pass.now c.loop-frame.pass c.sort_marked.new.self i.marks
+    (marks_as {L = g.row.L.Denot} {G = g.row.G.Denot} g.L.BlockLane.contents c.args.manager.now c.loop-frame.pass c.sort_marked.new.self c.sort_marked.new.self.marked c.sort_marked.ensures.same i.marks.keeps.belongs)
 
 pub returns-clause-marked : goal.returns-clause-marked
 returns-clause-marked g c =
