@@ -33,8 +33,6 @@ pub struct Case<'a> {
     pub answers: &'a [Answer],
     /// The calls of the devices after those puts, if they are to be compared.
     pub calls: Option<&'a [TestCall]>,
-    /// What each of the three passes counts, in those puts too; empty if it isn't to be compared.
-    pub io: &'a [IoCounts],
 }
 
 /// No act, by a manager of 16 frames over a lane and a log that don't fail.
@@ -48,7 +46,6 @@ pub const NO_ACTS: Case<'static> = Case {
     acts: &[],
     answers: &[],
     calls: None,
-    io: &[],
 };
 
 /// The pages of a relation, each with one item that tells its block's number.
@@ -120,9 +117,6 @@ pub fn check_case<R: Abort + Wait>(
     check_eq!(rt; run.answers.get(puts..), Some(case.answers));
     if case.calls.is_some() {
         check_eq!(rt; run.calls.get(2 * puts..), case.calls);
-    }
-    if !case.io.is_empty() {
-        check_eq!(rt; run.io.as_slice(), case.io);
     }
     Ok(run)
 }

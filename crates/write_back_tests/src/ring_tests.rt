@@ -1,6 +1,7 @@
 //! A pass puts a page by a ring of two places, and reads on.
 use crate::acts::Act;
 use crate::cases::{Case, NO_ACTS, check_case, checkpoint, no_ring, put, read};
+use crate::checks::check_eq;
 use crate::devices::TestCall::{Append, ReadBlock, SyncLane, SyncLog, WriteBlock};
 use access_rings::RingKind;
 use io_counts::IoCounts;
@@ -34,21 +35,22 @@ fn a_ring_for_bulk_reads_gives_a_dirty_frame_up(rt: HostRuntime) -> Result<(), F
             WriteBlock(0),
             SyncLane,
         ]),
-        // Block 2 takes the frame of block 1. The checkpoint's write is without a ring.
-        io: &[
-            IoCounts {
-                hits: [0; 4],
-                reads: [0, 3, 0, 0],
-                writes: [0; 4],
-                evictions: [0; 4],
-                reuses: [0, 1, 0, 0],
-            },
-            no_ring(0, 0, 1, 0),
-            no_ring(1, 0, 0, 0),
-        ],
         ..NO_ACTS
     };
-    check_case(&rt, rt.alloc(), &case)?;
+    let run = check_case(&rt, rt.alloc(), &case)?;
+    // Block 2 takes the frame of block 1. The checkpoint's write is without a ring.
+    let counted = [
+        IoCounts {
+            hits: [0; 4],
+            reads: [0, 3, 0, 0],
+            writes: [0; 4],
+            evictions: [0; 4],
+            reuses: [0, 1, 0, 0],
+        },
+        no_ring(0, 0, 1, 0),
+        no_ring(1, 0, 0, 0),
+    ];
+    check_eq!(rt; run.io, counted);
     Ok(())
 }
 
@@ -66,19 +68,20 @@ fn a_ring_for_a_vacuum_writes_a_dirty_frame(rt: HostRuntime) -> Result<(), Fail>
             WriteBlock(0),
             ReadBlock(2),
         ]),
-        io: &[
-            IoCounts {
-                hits: [0; 4],
-                reads: [0, 0, 0, 3],
-                writes: [0, 0, 0, 1],
-                evictions: [0; 4],
-                reuses: [0, 0, 0, 1],
-            },
-            no_ring(0, 0, 0, 0),
-            no_ring(0, 0, 0, 0),
-        ],
         ..NO_ACTS
     };
-    check_case(&rt, rt.alloc(), &case)?;
+    let run = check_case(&rt, rt.alloc(), &case)?;
+    let counted = [
+        IoCounts {
+            hits: [0; 4],
+            reads: [0, 0, 0, 3],
+            writes: [0, 0, 0, 1],
+            evictions: [0; 4],
+            reuses: [0, 0, 0, 1],
+        },
+        no_ring(0, 0, 0, 0),
+        no_ring(0, 0, 0, 0),
+    ];
+    check_eq!(rt; run.io, counted);
     Ok(())
 }
