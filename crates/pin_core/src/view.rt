@@ -554,7 +554,7 @@ pub struct View {
     pub changes: [WordChange; 0],
     /// The stores of hint words, in order.
     pub hints: [HintStore; 0],
-    /// What it added to the counters of the table, in order. No call of a manager adds to one yet.
+    /// What it added to the counters of the table, in order.
     pub published: [Published; 0],
     /// The blocks that it has seen in frames.
     pub residents: [Resident; 0],
