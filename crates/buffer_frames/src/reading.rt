@@ -51,6 +51,7 @@ pub struct PinnedBlock {
 
 /// Counts the hit of a block whose page was there already, or the read of a page that a lane gave,
 /// sound or not.
+#[inline(always)]
 fn count_fetch(io: &mut Tally, context: Option<RingKind>, came: Result<FetchedPage, FetchError>)
     ensures { io.new
         ≡ record io.old { counted = io_with context (fetch_counts came) io.old.counted } }

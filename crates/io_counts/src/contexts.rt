@@ -45,6 +45,7 @@ pub struct ByContext {
 }
 
 /// The context of calls that are given this ring, or none.
+#[inline(always)]
 pub fn context_of(ring: &Option<Ring>) -> Option<RingKind>
     ensures { result ≡ context_of ring.now }
 {
@@ -55,6 +56,7 @@ pub fn context_of(ring: &Option<Ring>) -> Option<RingKind>
 }
 
 /// A count that rises by 1.
+#[inline(always)]
 fn one_more(count: u64) -> u64
     ensures { result ≡ raised count 1 }
 {
@@ -82,6 +84,8 @@ impl ContextCounts {
     }
 
     /// Counts an event.
+    // Each hit counts: once this is inlined, the event is known, and only the context is tested.
+    #[inline(always)]
     fn count(&mut self, event: IoEvent)
         ensures { self.new ≡ counts_with (one_of event) self.old }
     {
@@ -112,6 +116,7 @@ impl ByContext {
     }
 
     /// Counts an event in the context of a ring of this kind, or of none.
+    #[inline(always)]
     pub fn count(&mut self, context: Option<RingKind>, event: IoEvent)
         ensures { self.new ≡ io_with context (one_of event) self.old }
     {

@@ -45,6 +45,7 @@ impl Tally {
     }
 
     /// Counts an event in the context of a ring of this kind, or of none.
+    #[inline(always)]
     pub fn count(&mut self, context: Option<RingKind>, event: IoEvent)
         ensures { self.new
             ≡ record self.old { counted = io_with context (one_of event) self.old.counted } }
