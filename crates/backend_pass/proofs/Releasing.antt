@@ -23,7 +23,7 @@ use Rattle.backend_pass.specs.declared.met.Shown.{Shown}
 use Rattle.backend_pass.specs.Managers.{Belongs}
 use Rattle.backend_pass.proofs.Fronts.{front_kept}
 use Rattle.buffer_frames.specs.Outside.{shown_count}
-use Rattle.backend_pass.specs.Passes.{IsNumbered, IsShown, PassState, SamePass, PassOwn, own_of}
+use Rattle.backend_pass.specs.Passes.{IsNumbered, IsShown, KeepsDevices, PassState, SamePass, PassOwn, own_of}
 use Rattle.table_rule.specs.Blocks.{is_block}
 
 -- The pin of the frame f was given up
@@ -34,6 +34,17 @@ pub record Unpins (f : ℕ) (v w : View) : Type 0 where
 
 pub unpins_at : (f g : ℕ) (a b v w : View) → g ≡ f → a ≡ v → b ≡ w → Unpins g v w → Unpins f a b
 unpins_at f g a b v w e x y u = subst (λ (h : ℕ). Unpins h a b) e (subst (λ (z : View). Unpins g z b) (sym x) (subst (Unpins g v) (sym y) u))
+
+-- and so of anything between two views
+pub moved_at : (P : ℕ → View → View → Type 0) (f g : ℕ) (a b v w : View) → g ≡ f → a ≡ v → b ≡ w → P g v w → P f a b
+moved_at P f g a b v w e x y p = subst (λ (h : ℕ). P h a b) e (subst (λ (z : View). P g z b) (sym x) (subst (P g v) (sym y) p))
+
+-- what the pin of a frame with tokens knows
+pub saw_valid : (o : Option HeldFrame) (h : HeldFrame) (l : Link) → o ≡ Some h → LinkRests o l → l.seen_valid ≡ true
+saw_valid o h l e r = r.seen (λ none. none-some h (sym none ∙ e))
+
+pub knows_tag : (o : Option HeldFrame) (h : HeldFrame) (l : Link) → o ≡ Some h → LinkRests o l → l.tag ≡ Some h.tag
+knows_tag o h l e r = r.tag ∙ ap (option_map HeldFrame.tag) e
 
 -- a pin that rests may be given up once its content is unlocked
 pub may_unpin : (o : Option HeldFrame) (h : HeldFrame) (l : Link) → o ≡ Some h → l.content ≡ Unlocked → LinkRests o l → MayUnpin l
@@ -78,6 +89,13 @@ shown_self v w s e n = record {
   writes = n.writes ∙ ap (λ (x : View). shown_count x.met.writes) (sym e);
   logs = n.logs ∙ ap (λ (x : View). shown_count x.met.logs) (sym e);
 }
+
+-- no device was called, and nothing counted
+pub devices_self : (p q : PassState) → SameSelf p.view q.view → q.io ≡ p.io → KeepsDevices p q
+devices_self p q e io = record { device_calls = ap (λ (x : View). x.device_calls) e; met = ap (λ (x : View). x.met) e; io = io }
+
+pub devices_from : (a p q : PassState) → p ≡ a → KeepsDevices p q → KeepsDevices a q
+devices_from a p q e k = subst (λ (x : PassState). KeepsDevices x q) e k
 
 -- it is the same pass
 pub same_none : (p q : PassState) → q.table ≡ p.table → q.id ≡ p.id → beside_of q ≡ beside_of p → q.view ≡ p.view → SamePass p q

@@ -10,6 +10,7 @@ use Rattle.block_tag.specs.declared.catalogue.RelEntry.{RelEntry}
 use Rattle.block_tag.specs.declared.tag.Tag.{Tag}
 use Rattle.block_tag.specs.Names.{lane_number, names_block, packed_tag}
 use Rattle.byte_devices.specs.declared.device.Failed.{Failed}
+use Rattle.state_word.specs.Fields.{fields}
 use Rattle.segment_store.specs.Contents.{Pages}
 use Rattle.pin_core.specs.declared.view.Content.TheVariants.{Unlocked, Exclusive}
 use Rattle.pin_core.specs.declared.view.View.{View}
@@ -23,7 +24,7 @@ use Rattle.frame_table.specs.FrameSteps.{Did}
 use Rattle.frame_table.specs.Kinds.{pages}
 use Rattle.frame_table.specs.Latches.{work_of}
 use Rattle.frame_table.specs.declared.table.FrameTable.{FrameTable}
-use Rattle.frame_table.specs.Seats.{OnlyRises, SameMarks, SameSeat, Touches, frames_of, lanes_in}
+use Rattle.frame_table.specs.Seats.{IsWordOf, OnlyRises, SameMarks, SameSeat, Touches, frames_of, lanes_in}
 use Rattle.frame_table.specs.WordSteps.{DidWord, begin_checkpoint, load_hand, view_of}
 use Rattle.wal_flush.specs.declared.flushes.FlushLog.{FlushLog}
 use Rattle.wal_flush.specs.declared.flushes.FlushedBy.{FlushedBy}
@@ -36,6 +37,8 @@ use Rattle.buffer_frames.specs.declared.flushing.FlushedPage.{FlushedPage}
 use Rattle.buffer_frames.specs.declared.flushing.FlushedPage.TheVariants.{Written}
 use Rattle.buffer_frames.specs.declared.flushing.FrameFlushError.{FrameFlushError}
 use Rattle.buffer_frames.specs.Flushing.{EndedInError, EndedWritten, FlushAnswer, met_flushing}
+use Rattle.buffer_frames.specs.declared.inspecting.Seen.{Seen}
+use Rattle.buffer_frames.specs.Inspections.{Inspects}
 use Rattle.buffer_frames.specs.Puts.{PutAnswer, PutsAt, met_put, put_calls}
 use Rattle.buffer_frames.specs.declared.hinting.HintSeen.{HintSeen}
 use Rattle.buffer_frames.specs.declared.reading.BlockError.{BlockError}
@@ -78,6 +81,14 @@ pub record NeedsOne (f : ℕ) (v w : View) (r : Option Tag) : Type 0 where
       (λ a b. (word : ℕ) × Did (pages need_checkpoint) f a b word) v w)
   pub noted : IfSome r (λ tag. NotesBlock f tag v w)
   pub named : IfSome r (λ tag. names_block tag ≡ true)
+
+-- The frame f was looked at under its header
+pub record InspectsOne (f : ℕ) (seen : Seen) (v w : View) : Type 0 where
+  pub touches : Touches f v w
+  pub marks : SameMarks v w
+  pub lock : (link w f).content ≡ (link v f).content
+  pub inspects : Inspects f seen v w
+  pub word : IsWordOf (link v f) (fields seen.word)
 
 -- The log was flushed up to `lsn`, or this is why not
 pub record FlushesLog (lsn : ℕ) (v w : View) (r : Result Unit FlushLog) : Type 0 where

@@ -16,6 +16,7 @@ mod closing;
 mod counting;
 mod errors;
 mod flushing;
+mod inspecting;
 mod locks;
 mod manager;
 mod marked;
@@ -33,7 +34,7 @@ mod seats;
 mod syncs;
 mod tokens;
 
-pub use buffer_frames::{HintSeen, SyncOnly, Synced};
+pub use buffer_frames::{HintSeen, Seen, SyncOnly, Synced};
 pub use cleanup_lock::{CleanupError, TryCleanup};
 pub use content_locks::TryLock;
 pub use errors::{FlushError, ReadError, Refused, Setting, StartError, StartRefused};

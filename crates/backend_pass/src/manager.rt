@@ -159,7 +159,8 @@ impl<L: BlockLane, G: LogDevice> Manager<L, G> {
         ensures taken { taken_in (io_in_all passes.items) ≡ 0
             → EachPass (λ p. p.view.cleared ≡ 0) passes.items }
 
-        // The table's counters have these sums as it is closed.
+        // The state that the table is closed in has these sums in its counters: what was left to
+        // publish is published.
         ensures published { (x : ClosesAll (devices L.BlockLane G.LogDevice)
             self.table.table.shared.key passes.items result.0.items result.1)
             × (io_counters x.state.counter ≡ io_in_all passes.items) }

@@ -8,7 +8,7 @@ ghost use Rattle.std.specs.List.Sorted.{IsNonDecreasingBy, IsPermutation};
 use crate::pass::Pass;
 
 /// A frame that a checkpoint has to write, and the packed tag that the frame had as it was marked.
-#[derive(Clone, Copy, PartialEq, Eq, Debug)]
+#[derive(Clone, Copy, PartialEq, Eq)]
 pub struct MarkedFrame {
     pub tag: u64,
     pub frame: u32,

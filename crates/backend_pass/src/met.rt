@@ -10,7 +10,7 @@ pub struct Met {
 }
 
 /// The front of a pass, and the faults that it met.
-#[derive(Clone, Copy, Debug)]
+#[derive(Clone, Copy)]
 pub struct Shown {
     pub front: u64,
     pub met: Met,

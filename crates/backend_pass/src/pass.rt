@@ -62,8 +62,10 @@ impl Model for Pass {
 
 impl Pass {
     ghost use Rattle.std.specs.Prelude.{◌≡◌, ◌≢◌, ℕ};
+    ghost use Rattle.block_tag.specs.Names.{packed_tag};
     ghost use Rattle.pin_core.specs.declared.view.Content.TheVariants.{Unlocked};
     ghost use Rattle.pin_core.specs.State.{link};
+    ghost use Rattle.frame_table.specs.Seats.{HasResident};
     ghost use Rattle.cleanup_lock.specs.Waking.{Woken};
     ghost use Rattle.buffer_frames.specs.Tokens.{IsPinnedFor, held_at, tokens_less, tokens_of};
     ghost use Rattle.backend_pass.specs.Locks.{HasLock};
@@ -138,6 +140,10 @@ impl Pass {
         // the backend is woken that waits for its own pin to be the only one.
         ensures unpins { tokens_of (held_at self.old.tokens pinned.frame) ≡ 1
             → Woken pinned.frame self.old.view self.new.view }
+
+        // So the view lists the block, which that pin has seen in the frame with BM_VALID.
+        ensures resident { tokens_of (held_at self.old.tokens pinned.frame) ≡ 1
+            → HasResident pinned.frame (packed_tag pinned.tag) self.new.view }
 
         // What the pass has at other frames is untouched, and all of it if another token of the
         // frame is left.

@@ -5,7 +5,7 @@ ghost use Rattle.block_tag.specs.Names.{names_block, tag_of_parts};
 ghost use Rattle.frame_table.specs.Seats.{frames_of, lanes_in, relations_of};
 
 use crate::manager::Manager;
-use block_tag::{Fork, RelNo, Tag};
+use block_tag::{Catalog, Fork, RelNo, Tag};
 use byte_devices::LogDevice;
 use segment_store::BlockLane;
 
@@ -22,6 +22,13 @@ impl<L: BlockLane, G: LogDevice> Manager<L, G> {
         ensures { result ≡ lanes_in self.now.table }
     {
         self.table.lanes()
+    }
+
+    /// The relations whose blocks it holds.
+    pub fn catalog(&self) -> &Catalog
+        ensures { result.now ≡ relations_of self.now.table }
+    {
+        self.table.catalog()
     }
 
     /// How many blocks a fork of a relation has (`RelationGetNumberOfBlocksInFork`), none if the

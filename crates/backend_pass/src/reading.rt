@@ -283,20 +283,22 @@ impl Pass {
             (λ pinned. tokens_of (held_at self.new.tokens pinned.frame) ≡ 1
             → (link self.new.view pinned.frame).content ≡ Unlocked) }
     {
-        self.backend.lookups.hint = HintSeen::Unused;
         let blocks = manager.table.blocks(&tag);
         if tag.block >= blocks {
+            self.backend.lookups.hint = HintSeen::Unused;
             return Err(ReadError::PastEnd {
                 block: tag.block,
                 blocks,
             });
         }
         if self.held.is_full() {
+            self.backend.lookups.hint = HintSeen::Unused;
             return Err(ReadError::PinsFull);
         }
         let Some(frame) = self.held.frame_of(&tag) else {
             return self.read_new(manager, rt, &tag, ring);
         };
+        self.backend.lookups.hint = HintSeen::Unused;
         self.held.add_token(frame);
         self.backend.io.count(context_of(ring), IoEvent::Hit);
         Ok(Pinned {

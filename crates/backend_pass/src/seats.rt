@@ -11,8 +11,6 @@ use segment_store::BlockLane;
 use std::mem::replace;
 
 /// Takes the seat out of its badge.
-// Each call of a pass does: inlined, so that a badge isn't copied by a call of its own.
-#[inline(always)]
 pub(crate) fn take_seat<L: BlockLane, G: LogDevice>(
     badge: &mut Badge<View>,
 ) -> Seat<Value<L, G>, View>
@@ -23,7 +21,6 @@ pub(crate) fn take_seat<L: BlockLane, G: LogDevice>(
 }
 
 /// Puts the seat back, which has no slot.
-#[inline(always)]
 pub(crate) fn return_seat<L: BlockLane, G: LogDevice>(
     badge: &mut Badge<View>,
     seat: Seat<Value<L, G>, View>,

@@ -26,5 +26,6 @@ pub mod Keeps
 pub mod Bringing
 pub mod HasTags
 pub mod Passing
+pub mod Inspections
 pub mod PagesWritten
 pub mod Syncs

@@ -16,4 +16,5 @@ pub mod Reads
 pub mod PageReads
 pub mod Puts
 pub mod Syncs
+pub mod Inspections
 pub mod Counting

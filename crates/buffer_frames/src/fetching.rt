@@ -106,6 +106,8 @@ fn install_page<L: BlockLane, G: LogDevice>(
 }
 
 /// If the backend has the right to read the block into the frame, does so, and ends that.
+// Not inlined: a hit doesn't come here, and is shorter without it.
+#[inline(never)]
 fn read_in<L: BlockLane, G: LogDevice, R: Wait>(
     table: &FrameTable<L, G>,
     rt: &R,

@@ -13,7 +13,8 @@
 //!
 //! For the background writer and checkpoints (`SyncOneBuffer`) [`sync_one`] writes a buffer unless
 //! its state word says that it needn't be written, [`need_checkpoint`] marks one for a checkpoint,
-//! and [`sync_lane`] makes the writes to a lane durable.
+//! and [`sync_lane`] makes the writes to a lane durable. [`inspect`] shows the state word and the
+//! tag of a buffer (`pg_buffercache_pages`).
 #![tactic(auto)]
 
 mod backend;
@@ -23,6 +24,7 @@ mod erasing;
 mod fetching;
 mod flushing;
 mod hinting;
+mod inspecting;
 mod lanes;
 mod lookup;
 mod marking;
@@ -40,6 +42,7 @@ pub use flushing::{
     FlushedPage, FrameFlushError, VictimPage, flush_frame, flush_pinned, flush_victim,
 };
 pub use hinting::{HintSeen, Sought};
+pub use inspecting::{Seen, inspect};
 pub use lanes::sync_lane;
 pub use marking::need_checkpoint;
 pub use page_reads::{read_copy, share_to_read};

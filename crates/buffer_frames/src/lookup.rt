@@ -113,6 +113,8 @@ pub(crate) fn take_counted<L: BlockLane, G: LogDevice, R: Wait>(
 
 /// Searches the map under its partition's latch for a block that callers have no pin of, and pins
 /// the frame that it gives.
+// Not inlined: a hit doesn't come here, and is shorter without it.
+#[inline(never)]
 fn search<L: BlockLane, G: LogDevice, R: Wait>(
     table: &FrameTable<L, G>,
     rt: &R,

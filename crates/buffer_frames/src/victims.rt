@@ -191,6 +191,8 @@ fn make_victim<L: BlockLane, G: LogDevice, R: Wait>(
 
 /// Frees a frame for a block and brings the block there, or pins the frame that another backend has
 /// brought it into meanwhile.
+// Not inlined: a hit doesn't come here, and is shorter without it.
+#[inline(never)]
 pub(crate) fn bring_in<L: BlockLane, G: LogDevice, R: Wait>(
     table: &FrameTable<L, G>,
     rt: &R,

@@ -9,14 +9,15 @@ use Rattle.pin_core.specs.declared.view.Link.{Link}
 use Rattle.pin_core.specs.declared.view.View.{View}
 use Rattle.pin_core.specs.State.{link}
 use Rattle.pin_core.specs.Steps.{HoldsNoHeader}
-use Rattle.pin_core.specs.Kinds.{lock_header}
+use Rattle.pin_core.specs.Kinds.{lock_header, unpin}
 use Rattle.frame_table.specs.Content.{CanWake}
-use Rattle.frame_table.specs.FrameSteps.{Did, Looks}
-use Rattle.frame_table.specs.Kinds.{pins}
-use Rattle.frame_table.specs.Seats.{HoldsHeader, Looked, locked_link, unlocked_link}
-use Rattle.frame_table.proofs.Told.{looked_by, quiet, quiet_link}
+use Rattle.frame_table.specs.FrameSteps.{Did, Looks, Unpinned}
+use Rattle.frame_table.specs.Kinds.{FrameKind, pins}
+use Rattle.frame_table.specs.Seats.{Grows, HasResident, HoldsHeader, KeepsResidents, Looked, locked_link, unlocked_link}
+use Rattle.frame_table.proofs.Told.{grows, grows_on, looked_by, looks_link, looks_touch, quiet, quiet_link}
+use Rattle.history_core.proofs.Listed.{pins_listed}
 use Rattle.content_locks.specs.Io.{LocksHeader}
-use Rattle.cleanup_lock.specs.Waking.{Wakes, end_of_wake, is_lone_waiter}
+use Rattle.cleanup_lock.specs.Waking.{Wakes, Woken, end_of_wake, is_lone_waiter}
 
 -- a view that holds no header holds none after steps at f that leave none there
 pub headless_on : (f : ℕ) (v w : View) → ((g : ℕ) → (g ≡ f → ⊥) → link w g ≡ link v g) → (link w f).header ≡ (link v f).header → HoldsNoHeader v → HoldsNoHeader w
@@ -64,3 +65,30 @@ wakes_by b f word given v u w d e g = record {
   locks = locks_header f word v u d;
   did = subst (λ (x : Bool). Did (end_of_wake x) f u w given) (sym (lone_found word d.1 d.4 ∙ e)) g;
 }
+
+-- a block that is listed stays listed
+pub resident_kept : (f tag : ℕ) (v w : View) → KeepsResidents v.residents w.residents → HasResident f tag v → HasResident f tag w
+resident_kept f tag v w keeps (k, r, at, frame, tag_is) = let x = keeps k r at in (k, x.0, x.1, x.2.frame ∙ frame, x.2.tag ∙ tag_is)
+
+-- at any step of the view it lists what its pin of the frame knows
+pin_listed : (k : FrameKind) (f found tag : ℕ) (v w : View) → Did k f v w found → (link v f).seen_valid ≡ true → (link v f).tag ≡ Some tag → HasResident f tag v
+pin_listed k f found tag v w d saw known = pins_listed d.state d.laws d.seat v d.there f tag d.inside saw known
+
+-- a view that gives up its pin lists the block that the pin knew, if the pin had seen BM_VALID
+unpinned_lists : (f left tag : ℕ) (v w : View) → Unpinned f left v w → (link v f).seen_valid ≡ true → (link v f).tag ≡ Some tag → HasResident f tag w
+unpinned_lists f left tag v w (u, was, looks, d, is) saw known = let same = looks_link f v u looks in
+    resident_kept f tag u w (grows (pins unpin) f was u w d).residents (pin_listed (pins unpin) f was tag u w d (same.seen_valid saw) (same.tag ∙ known))
+
+wakes_grow : (f : ℕ) (v w : View) → Wakes f v w → Grows v w
+wakes_grow f v w k = let before = k.locks.before in
+    grows_on v k.under w
+    (grows_on v before k.under (looks_touch f v before k.locks.looks).grows (grows (pins lock_header) f k.was before k.under k.locks.did))
+    (grows (end_of_wake (is_lone_waiter (fields k.was))) f k.word k.under w k.did)
+
+-- and still does once a waiter is woken
+pub woken_lists : (f tag : ℕ) (v w : View) → Woken f v w → (link v f).seen_valid ≡ true → (link v f).tag ≡ Some tag → HasResident f tag w
+woken_lists f tag v w x saw known = by_waiter (is_lone_waiter (fields x.left)) refl (unpinned_lists f x.left tag v x.between x.unpins saw known)
+  where
+    by_waiter : (b : Bool) → is_lone_waiter (fields x.left) ≡ b → HasResident f tag x.between → HasResident f tag w
+    by_waiter true e has = resident_kept f tag x.between w (wakes_grow f x.between w (x.wakes e)).residents has
+    by_waiter false e has = subst (HasResident f tag) (sym (x.rests e)) has

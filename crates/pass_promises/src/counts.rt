@@ -1,10 +1,12 @@
 //! What passes count.
 ghost use Rattle.std.specs.Prelude.{◌≡◌, ◌≤◌, vec_len};
 ghost use Rattle.io_counts.specs.declared.contexts.ByContext.{ByContext};
-ghost use Rattle.io_counts.specs.Additions.{io_added};
+ghost use Rattle.table_rule.specs.Shows.{devices};
+ghost use Rattle.io_counts.specs.Additions.{io_added, io_counters};
 ghost use Rattle.io_counts.specs.Sums.{AreAllSmall, io_shown};
 ghost use Rattle.io_counts.specs.Tallies.{AreAllAtMost};
 ghost use Rattle.io_counts.specs.Totals.{loads_of, view_loading};
+ghost use Rattle.backend_pass.specs.Closing.{ClosesAll};
 ghost use Rattle.backend_pass.specs.Counts.{io_in_all};
 ghost use Rattle.backend_pass.specs.Managers.{AreAll, Belongs};
 ghost use Rattle.backend_pass.specs.Passes.{HasPublished};
@@ -44,4 +46,20 @@ pub fn close_counted<L: BlockLane, G: LogDevice>(
     ensures { result.2 ≡ io_shown (io_in_all passes.items) }
 {
     manager.close_counted(passes)
+}
+
+/// A close publishes what the passes had left to publish: it gives the devices back in a state
+/// whose counters have all that the passes counted (`pgstat_shutdown_hook` reports once more).
+pub fn publish_and_close<L: BlockLane, G: LogDevice>(
+    manager: Manager<L, G>,
+    passes: Vec<Pass>,
+) -> (Vec<L>, G)
+    requires all { AreAll manager passes.items }
+    requires few { vec_len passes ≤ 64 }
+    ensures { (x : ClosesAll (devices L.BlockLane G.LogDevice) manager.table.table.shared.key
+        passes.items result.0.items result.1)
+        × (io_counters x.state.counter ≡ io_in_all passes.items) }
+{
+    let (lanes, log, _sums) = manager.close_counted(passes);
+    (lanes, log)
 }

@@ -9,7 +9,7 @@ mod reads;
 mod refusals;
 mod writes;
 
-pub use counts::{close_counted, io_totals, publish};
+pub use counts::{close_counted, io_totals, publish, publish_and_close};
 pub use faults::read_buffer;
 pub use reads::{read_new, read_page};
 pub use refusals::{lock_cleanup, read_inside};

@@ -1,5 +1,5 @@
 //! Pins, tags and locks of frames.
-ghost use Rattle.std.specs.Prelude.{◌≡◌, ◌≢◌, ℕ, IfNone, IfOk, IfSome, None, Some, false, true};
+ghost use Rattle.std.specs.Prelude.{◌≡◌, ◌≢◌, ◌<◌, ℕ, IfNone, IfOk, IfSome, None, Some, false, true};
 ghost use Rattle.std.specs.Bool.{OnTrue};
 ghost use Rattle.state_word.specs.Fields.{fields};
 ghost use Rattle.block_tag.specs.Names.{names_block, packed_tag, partition_number};
@@ -21,11 +21,13 @@ ghost use Rattle.frame_table.specs.Seats.{mapped_link, relations_of, stored_link
 ghost use Rattle.clock_sweep.specs.FreeLists.{IsOfSweep};
 ghost use Rattle.cleanup_lock.specs.Waking.{Woken};
 ghost use Rattle.map_partitions.specs.Partition.{HoldsLatch};
-ghost use Rattle.buffer_frames.specs.Rests.{HasOneLatch};
+ghost use Rattle.buffer_frames.specs.Inspections.{Inspects};
+ghost use Rattle.buffer_frames.specs.Rests.{HasOneLatch, LinksRest, Stands};
 
 use access_rings::Ring;
 use atomic_table::Seat;
 use block_tag::Tag;
+use buffer_frames::{HeldPins, Seen, inspect};
 use byte_devices::LogDevice;
 use cleanup_lock::unpin_and_wake;
 use clock_sweep::{Census, NoUnpinned, QueuePass, Sweep, victim};
@@ -92,6 +94,24 @@ pub fn has_tag<L: BlockLane, G: LogDevice>(
         → IfSome (link seat.old.me.0 frame).header (λ word. result ≡ word.tag_valid) }
 {
     table.load_tag(seat, frame).is_some()
+}
+
+/// The state word and the tag that are answered of a frame are those that it had while the call
+/// held its header, once (`pg_buffercache_pages` copies both between `LockBufHdr` and
+/// `UnlockBufHdr`).
+pub fn inspect_frame<L: BlockLane, G: LogDevice, R: Wait>(
+    table: &FrameTable<L, G>,
+    rt: &R,
+    seat: &mut Seat<Value<L, G>, View>,
+    held: &HeldPins,
+    frame: u32,
+) -> Seen
+    requires stands { Stands table.now seat.old }
+    requires rests { LinksRest held.now seat.old.me.0 }
+    requires inside { frame < frames_of table.now }
+    ensures { Inspects frame result seat.old.me.0 seat.new.me.0 }
+{
+    inspect(table, rt, seat, held, frame)
 }
 
 /// The word that a victim's header is held at shows no pin (`StrategyGetBuffer` looks at the

@@ -13,8 +13,8 @@ pub use backends::{
     count_block, give_token_back, join_queues, join_seats, load_total, publish_counts, record_taken,
 };
 pub use frames::{
-    has_tag, insert_new, is_of_block, lock_exclusively, lock_victim, lower_usage, pin_found,
-    take_tag, unpin,
+    has_tag, insert_new, inspect_frame, is_of_block, lock_exclusively, lock_victim, lower_usage,
+    pin_found, take_tag, unpin,
 };
 pub use pages::{begin_read, copy, end_write, flush, lock_for_cleanup, put, read, write_flushed};
 pub use victims::{choose_victim, free_frame};

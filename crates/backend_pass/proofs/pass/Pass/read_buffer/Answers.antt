@@ -9,16 +9,15 @@ use Rattle.buffer_frames.specs.Rests.{OnlyTokens, SameLocks}
 use Rattle.buffer_frames.specs.declared.hinting.HintSeen.TheVariants.{Unused}
 use Rattle.buffer_frames.specs.Hinting.{TakesTurns}
 use Rattle.backend_pass.specs.Managers.{Belongs}
-use Rattle.backend_pass.specs.Passes.{KeepsCalls, PassState, view_in}
+use Rattle.backend_pass.specs.Passes.{PassState, view_in}
 use Rattle.backend_pass.specs.Reading.{ReadsBlock, met_reading}
-use Rattle.backend_pass.proofs.BlockReads.{calls_hinted, frame_again, not_both, pinned_more, pinned_read, reads_hinted, rests_again, same_hinted, same_kept, unlocked_read}
+use Rattle.backend_pass.proofs.BlockReads.{frame_again, not_both, pinned_more, pinned_read, rests_again, same_kept, unlocked_read}
 use Rattle.buffer_frames.proofs.Counting.{counts_hit}
 use Rattle.buffer_frames.proofs.HeldLists.{above_one}
-use Rattle.frame_table.specs.Seats.{frames_of, relations_of}
+use Rattle.frame_table.specs.Seats.{relations_of}
 use Rattle.frame_table.proofs.Rising.{rises_none}
 use Rattle.buffer_frames.proofs.Keeping.{same_locks_none}
 use Rattle.backend_pass.proofs.Complete.{at_once_none, not_at_once, read_complete, read_short, unsound_was}
-use Rattle.backend_pass.specs.HintsSeen.{StoresHints}
 use Rattle.backend_pass.proofs.Counted.{counted_more}
 use Rattle.backend_pass.proofs.HintsSeen.{shows_hint, turns_counted, turns_risen, turns_told}
 use Rattle.backend_pass.proofs.Releasing.{AreHeld, belongs_held, held_again}
@@ -29,14 +28,13 @@ use Rattle.backend_pass.proofs.pass.Pass.read_buffer.Goals as goal
 
 -- what the look-up tells of the pass as the call found it
 reads : (g : Over) (c : goal.After-read_new g) → ReadsBlock {L = g.row.L.Denot} {G = g.row.G.Denot} g.L.BlockLane.contents c.args.manager.now.table c.args.tag c.args.ring.now c.read_new.new.ring c.args.self.now c.read_new.new.self c.read_new.result
-reads g c = subst (λ (p : PassState). ReadsBlock {L = g.row.L.Denot} {G = g.row.G.Denot} g.L.BlockLane.contents c.args.manager.now.table c.args.tag c.args.ring.now c.read_new.new.ring p c.read_new.new.self c.read_new.result) c.self.view_is
-    (reads_hinted {L = g.row.L.Denot} {G = g.row.G.Denot} g.L.BlockLane.contents c.args.manager.now.table c.args.tag c.args.ring.now c.read_new.new.ring _ c.read_new.new.self Unused c.read_new.result c.read_new.ensures.answer)
+reads g c = c.read_new.ensures.answer
 
 met : (g : Over) (c : goal.After-read_new g) → c.read_new.new.self.view.met ≡ met_reading c.read_new.result c.args.self.now.view.met
-met g c = c.read_new.ensures.met ∙ ap (λ (p : PassState). met_reading c.read_new.result p.view.met) c.self.view_is
+met g c = c.read_new.ensures.met
 
 turns : (g : Over) (c : goal.After-read_new g) → TakesTurns c.read_new.new.self.hint c.args.self.now.view.turns c.read_new.new.self.view.turns
-turns g c = subst (λ (p : PassState). TakesTurns c.read_new.new.self.hint p.view.turns c.read_new.new.self.view.turns) c.self.view_is c.read_new.ensures.turns
+turns g c = c.read_new.ensures.turns
 
 -- a hit is counted in the context of the ring
 hit : (g : Over) (c : goal.After-count g) → c.count.new.self.counted ≡ io_with (context_of c.args.ring.now) (one_of Hit) c.self.inside.backend.io.counted
@@ -109,10 +107,10 @@ pub returns-clause-census : goal.returns-clause-census
 returns-clause-census g c = inl (ap (λ (p : PassState). p.census) c.self.view_is)
 
 pub returns-in_default-clause-same : goal.returns-in_default-clause-same
-returns-in_default-clause-same g c = same_from _ _ _ c.self.view_is (same_hinted _ _ Unused c.read_new.ensures.same)
+returns-in_default-clause-same g c = c.read_new.ensures.same
 
 pub returns-in_default-clause-calls : goal.returns-in_default-clause-calls
-returns-in_default-clause-calls g c = subst (λ (p : PassState). KeepsCalls p c.read_new.new.self) c.self.view_is (calls_hinted _ _ Unused c.read_new.ensures.calls)
+returns-in_default-clause-calls g c = c.read_new.ensures.calls
 
 pub returns-in_default-clause-new : goal.returns-in_default-clause-new
 returns-in_default-clause-new g c none new = reads g c
@@ -130,12 +128,10 @@ pub returns-in_default-clause-rises : goal.returns-in_default-clause-rises
 returns-in_default-clause-rises g c = turns_risen c.read_new.new.self.hint c.args.self.now.view.turns c.read_new.new.self.view.turns (turns g c)
 
 pub returns-in_default-clause-stored : goal.returns-in_default-clause-stored
-returns-in_default-clause-stored g c = subst (λ (p : PassState). StoresHints (frames_of c.args.manager.now.table) c.args.tag c.read_new.new.self.hint p.view.hints c.read_new.new.self.view.hints c.read_new.result) c.self.view_is c.read_new.ensures.hints
+returns-in_default-clause-stored g c = c.read_new.ensures.hints
 
 pub read_new-requires-clause-belongs : goal.read_new-requires-clause-belongs
-read_new-requires-clause-belongs g c =
-    belongs_held {L = g.row.L.Denot} {G = g.row.G.Denot} g.L.BlockLane.contents c.args.manager.now _ _ refl refl refl refl (rises_none (view_in c.self.inside.seat.views)).end_seen (λ f h at. (h, at, refl))
-    (subst (Belongs {L = g.row.L.Denot} {G = g.row.G.Denot} g.L.BlockLane.contents c.args.manager.now) (sym c.self.view_is) c.requires.belongs)
+read_new-requires-clause-belongs g c = c.requires.belongs
 
 pub returns-then-tag-blocks-clause-same : goal.returns-then-tag-blocks-clause-same
 returns-then-tag-blocks-clause-same g c = same_from _ _ _ c.self.view_is (same_kept _ _ refl refl refl refl (rises_none (view_in c.self.inside.seat.views)))

@@ -3,6 +3,9 @@ use Rattle.pin_core.specs.declared.view.Content.TheVariants.{Unlocked}
 use Rattle.pin_core.specs.declared.view.View.{View}
 use Rattle.pin_core.specs.State.{link}
 use Rattle.pin_core.specs.Steps.{HoldsNoHeader}
+use Rattle.block_tag.specs.Names.{packed_tag}
+use Rattle.cleanup_lock.specs.Waking.{Woken}
+use Rattle.cleanup_lock.proofs.Unpins.{woken_lists}
 use Rattle.frame_table.specs.Seats.{MayUnpin}
 use Rattle.frame_table.proofs.Rising.{rises_none}
 use Rattle.buffer_frames.specs.Tokens.{Tokens, held_at, tokens_of}
@@ -12,7 +15,7 @@ use Rattle.buffer_frames.proofs.Keeping.{same_locks_at, same_locks_none}
 use Rattle.backend_pass.specs.Managers.{Belongs}
 use Rattle.backend_pass.specs.Passes.{IsNumbered, PassState, view_in}
 use Rattle.backend_pass.proofs.Counted.{counted_kept, told_of}
-use Rattle.backend_pass.proofs.Releasing.{AreHeld, Unpins, belongs_held, belongs_touched, held_last, held_several, may_unpin, numbered_self, rests_fewer, rests_unpinned, same_touched, shown_self, unpins_at}
+use Rattle.backend_pass.proofs.Releasing.{AreHeld, Unpins, belongs_held, belongs_touched, held_last, held_several, knows_tag, may_unpin, moved_at, numbered_self, rests_fewer, rests_unpinned, same_touched, saw_valid, shown_self, unpins_at}
 use Rattle.backend_pass.proofs.BlockReads.{same_kept}
 use Rattle.backend_pass.proofs.Seated.{same_from}
 use Rattle.backend_pass.proofs.pass.Pass.release.Goals as goal
@@ -105,3 +108,18 @@ unpin_and_wake-requires-clause-settled g c =
 
 pub returns-in_default-clause-same : goal.returns-in_default-clause-same
 returns-in_default-clause-same g c = same_from _ _ _ c.self.view_is (same_kept _ _ refl refl refl refl (rises_none (view_in c.self.inside.seat.views)))
+
+pub returns-in_default-clause-resident : goal.returns-in_default-clause-resident
+returns-in_default-clause-resident g c one = absurd (above_one _ c.in_default.ensures.others.0 (subst (λ (p : PassState). tokens_of (held_at p.tokens c.args.pinned.frame) ≡ 1) (sym c.self.view_is) one))
+
+pub returns-clause-resident : goal.returns-clause-resident
+returns-clause-resident g c one =
+    let f = c.args.pinned.frame in
+    let v = view_in c.self.inside.seat.views in
+    let w = view_in c.return_seat.new.badge.views in
+    let h = c.requires.pinned.held in
+    let o = held_at c.self.inside.held f in
+    let there = subst (λ (p : PassState). held_at p.tokens f ≡ Some h) (sym c.self.view_is) c.requires.pinned.there in
+    let rests = c.self.invariant.1.links f in
+    let woken = moved_at Woken f c.in-Some.pin.frame v w _ _ c.in-Some.ensures.last.0 c.take_seat-seat.ensures.view c.return_seat.ensures.view c.unpin_and_wake.ensures.did in
+    woken_lists f (packed_tag c.args.pinned.tag) v w woken (saw_valid o h (link v f) there rests) (knows_tag o h (link v f) there rests ∙ ap Some c.requires.pinned.same)
