@@ -30,6 +30,9 @@ MOST_LINKS = 6
 # Words in backquotes in comments, in no code, and not PostgreSQL's.
 NOT_POSTGRESQL = ["help"]
 
+# Words of code that are PostgreSQL's in comments: `itoa` has a `Buffer`, too.
+POSTGRESQL_TOO = {"Buffer"}
+
 NOTATION = [
     ("`self.old`, `self.new`", "`self` before the call and after it; so with each `&mut` parameter"),
     ("`x.now`", "the value behind a `&`"),
@@ -386,7 +389,7 @@ def words_of_code(crates):
         specs = files_in(f"crates/{crate.name}/specs", ".antt")
         for path in crate.files + crate.test_files + specs:
             words.update(re.findall(r"\w+", re.sub(r"(//|--).*", "", read(path))))
-    return words
+    return words - POSTGRESQL_TOO
 
 
 def comments_of(item):
