@@ -123,7 +123,7 @@ module _ {L G : Type 0} (contents : L → Option Pages) (m : Manager L G) where
     last_did did (Ok a) d = λ x y at there. subst (λ (z : PassState). did z y) (some-injective p x (sym was_last ∙ at)) (subst (did p) (some-injective q y (sym is_last ∙ there)) d)
     last_did did (Err e) d = tt
 
-    last_refused : (e : JobError) → WorkIsRefused contents m p q e → LastIsRefused contents m all all' e
+    pub last_refused : (e : JobError) → WorkIsRefused contents m p q e → LastIsRefused contents m all all' e
     last_refused e r = record { before = p; after = q; was = was_last; is = is_last; refused = r }
 
     worked : workers_in all ≡ ps

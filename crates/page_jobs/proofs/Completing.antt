@@ -28,6 +28,7 @@ use Rattle.page_jobs.specs.declared.ending.Totals.{Totals}
 use Rattle.page_jobs.specs.Beside.{LastIsRefused, WorkIsRefused, fault_of_flush}
 use Rattle.page_jobs.specs.Completeness.{IsDoneFullOrMemory, IsDoneFullShortOrMemory, IsDoneOrMemory, IsDoneShortOrMemory, NoDeviceFailsIn, NothingFailsIn, OutIsQuiet}
 use Rattle.page_jobs.specs.Jobs.{AnyMeets, EndsJob, workers_in}
+use Rattle.page_jobs.specs.Loads.{AnyMeetsListed, EndsLoad}
 use Rattle.page_jobs.specs.Reads.{fault_of_refusal}
 use Rattle.page_jobs.specs.RewriteJobs.{EndsRewrite, FailsFirst}
 use Rattle.page_jobs.specs.Rewriting.{fault_of_put}
@@ -41,7 +42,7 @@ none_rose : (before now : ℕ) → OutIsQuiet before now → Rose before now →
 none_rose before now quiet rose = let same = quiet.same in let below = quiet.below in omega arith
 
 -- Why a job ends, where of each of its passes this is known
-module _ {L G : Type 0} (contents : L → Option Pages) (m : Manager L G) (rel : ℕ) (fork : Fork) (Quiet : PassState → PassState → Type 0) (Ends : JobError → Type 0) (memory_ends : Ends Memory)
+module _ {L G : Type 0} (contents : L → Option Pages) (m : Manager L G) (Quiet : PassState → PassState → Type 0) (Ends : JobError → Type 0) (memory_ends : Ends Memory)
     (read_ends : (tag : Tag) (p b q : PassState) (why : ReadError) (e : JobError) → OnlyRises p.view b.view → fault_of_refusal why ≡ Some e → ReadingRefused contents m.table tag b q why → q.view.met ≡ met_read_refused why p.view.met → Quiet p q → Ends e)
     (work_ends : (p q : PassState) (e : JobError) → WorkIsRefused contents m p q e → Quiet p q → Ends e) where
   abbrev QuietIn : List PassState → List PassState → Type 0
@@ -53,32 +54,45 @@ module _ {L G : Type 0} (contents : L → Option Pages) (m : Manager L G) (rel :
   last_ends : (ps qs : List PassState) (e : JobError) → QuietIn ps qs → LastIsRefused contents m ps qs e → Ends e
   last_ends ps qs e n x = work_ends x.before x.after e x.refused (n (length ps - 1) x.before x.after x.was x.is)
 
-  any_ends : (ps qs : List PassState) (e : JobError) → QuietIn ps qs → AnyMeets contents m rel fork ps qs e → Ends e
-  any_ends [] [] e n any = absurd any
-  any_ends [] (q ∷ qs) e n any = absurd any
-  any_ends (p ∷ ps) [] e n any = absurd any
-  any_ends (p ∷ ps) (q ∷ qs) e n (inl x) = read_ends (tag_of_parts rel fork x.block) p x.before q x.why e x.since x.fault x.refused x.met (n 0 p q refl refl)
-  any_ends (p ∷ ps) (q ∷ qs) e n (inr any) = any_ends ps qs e (λ w. n (suc w)) any
+  any_listed_ends : (tags : List Tag) (ps qs : List PassState) (e : JobError) → QuietIn ps qs → AnyMeetsListed contents m tags ps qs e → Ends e
+  any_listed_ends tags [] [] e n any = absurd any
+  any_listed_ends tags [] (q ∷ qs) e n any = absurd any
+  any_listed_ends tags (p ∷ ps) [] e n any = absurd any
+  any_listed_ends tags (p ∷ ps) (q ∷ qs) e n (inl x) = let y = x.meets in read_ends x.tag p y.before q y.why e y.since y.fault y.refused y.met (n 0 p q refl refl)
+  any_listed_ends tags (p ∷ ps) (q ∷ qs) e n (inr any) = any_listed_ends tags ps qs e (λ w. n (suc w)) any
 
-  job_ends : (ps qs : List PassState) (outs outs_now : ℕ) (e : JobError) → EndsJob contents m rel fork ps qs outs outs_now e → QuietIn ps qs → OutIsQuiet outs outs_now → Ends e
-  job_ends ps qs outs outs_now e (inl memory) n quiet = subst Ends (sym memory) memory_ends
-  job_ends ps qs outs outs_now e (inr (inl any)) n quiet = any_ends (workers_in ps) (workers_in qs) e (workers_quiet ps qs n) any
-  job_ends ps qs outs outs_now e (inr (inr (inl last))) n quiet = last_ends ps qs e n last
-  job_ends ps qs outs outs_now e (inr (inr (inr out))) n quiet = absurd (none_rose outs outs_now quiet out.1)
+  load_ends : (tags : List Tag) (ps qs : List PassState) (e : JobError) → EndsLoad contents m tags ps qs e → QuietIn ps qs → Ends e
+  load_ends tags ps qs e (inl memory) n = subst Ends (sym memory) memory_ends
+  load_ends tags ps qs e (inr (inl any)) n = any_listed_ends tags (workers_in ps) (workers_in qs) e (workers_quiet ps qs n) any
+  load_ends tags ps qs e (inr (inr last)) n = last_ends ps qs e n last
 
-  module _ (put_ends : (p q : PassState) (why : InsertError) → RefusalShows why q.view → Quiet p q → Ends (fault_of_put why)) where
-    fails_end : (ps qs : List PassState) (e : JobError) → QuietIn ps qs → FailsFirst contents m rel fork ps qs e → Ends e
-    fails_end [] [] e n fails = absurd fails
-    fails_end [] (q ∷ qs) e n fails = absurd fails
-    fails_end (p ∷ ps) [] e n fails = absurd fails
-    fails_end (p ∷ ps) (q ∷ qs) e n (inl (inl x)) = read_ends (tag_of_parts rel fork x.block) p x.before q x.why e x.since x.fault x.refused x.met (n 0 p q refl refl)
-    fails_end (p ∷ ps) (q ∷ qs) e n (inl (inr x)) = subst Ends x.fault (put_ends p q x.why x.fails.shows (n 0 p q refl refl))
-    fails_end (p ∷ ps) (q ∷ qs) e n (inr later) = fails_end ps qs e (λ w. n (suc w)) later.1
+  module _ (rel : ℕ) (fork : Fork) where
+    any_ends : (ps qs : List PassState) (e : JobError) → QuietIn ps qs → AnyMeets contents m rel fork ps qs e → Ends e
+    any_ends [] [] e n any = absurd any
+    any_ends [] (q ∷ qs) e n any = absurd any
+    any_ends (p ∷ ps) [] e n any = absurd any
+    any_ends (p ∷ ps) (q ∷ qs) e n (inl x) = read_ends (tag_of_parts rel fork x.block) p x.before q x.why e x.since x.fault x.refused x.met (n 0 p q refl refl)
+    any_ends (p ∷ ps) (q ∷ qs) e n (inr any) = any_ends ps qs e (λ w. n (suc w)) any
 
-    rewrite_ends : (ps qs : List PassState) (e : JobError) → EndsRewrite contents m rel fork ps qs e → QuietIn ps qs → Ends e
-    rewrite_ends ps qs e (inl memory) n = subst Ends (sym memory) memory_ends
-    rewrite_ends ps qs e (inr (inl fails)) n = fails_end (workers_in ps) (workers_in qs) e (workers_quiet ps qs n) fails
-    rewrite_ends ps qs e (inr (inr last)) n = last_ends ps qs e n last.1
+    job_ends : (ps qs : List PassState) (outs outs_now : ℕ) (e : JobError) → EndsJob contents m rel fork ps qs outs outs_now e → QuietIn ps qs → OutIsQuiet outs outs_now → Ends e
+    job_ends ps qs outs outs_now e (inl memory) n quiet = subst Ends (sym memory) memory_ends
+    job_ends ps qs outs outs_now e (inr (inl any)) n quiet = any_ends (workers_in ps) (workers_in qs) e (workers_quiet ps qs n) any
+    job_ends ps qs outs outs_now e (inr (inr (inl last))) n quiet = last_ends ps qs e n last
+    job_ends ps qs outs outs_now e (inr (inr (inr out))) n quiet = absurd (none_rose outs outs_now quiet out.1)
+
+    module _ (put_ends : (p q : PassState) (why : InsertError) → RefusalShows why q.view → Quiet p q → Ends (fault_of_put why)) where
+      fails_end : (ps qs : List PassState) (e : JobError) → QuietIn ps qs → FailsFirst contents m rel fork ps qs e → Ends e
+      fails_end [] [] e n fails = absurd fails
+      fails_end [] (q ∷ qs) e n fails = absurd fails
+      fails_end (p ∷ ps) [] e n fails = absurd fails
+      fails_end (p ∷ ps) (q ∷ qs) e n (inl (inl x)) = read_ends (tag_of_parts rel fork x.block) p x.before q x.why e x.since x.fault x.refused x.met (n 0 p q refl refl)
+      fails_end (p ∷ ps) (q ∷ qs) e n (inl (inr x)) = subst Ends x.fault (put_ends p q x.why x.fails.shows (n 0 p q refl refl))
+      fails_end (p ∷ ps) (q ∷ qs) e n (inr later) = fails_end ps qs e (λ w. n (suc w)) later.1
+
+      rewrite_ends : (ps qs : List PassState) (e : JobError) → EndsRewrite contents m rel fork ps qs e → QuietIn ps qs → Ends e
+      rewrite_ends ps qs e (inl memory) n = subst Ends (sym memory) memory_ends
+      rewrite_ends ps qs e (inr (inl fails)) n = fails_end (workers_in ps) (workers_in qs) e (workers_quiet ps qs n) fails
+      rewrite_ends ps qs e (inr (inr last)) n = last_ends ps qs e n last.1
 
 module _ {L G : Type 0} (contents : L → Option Pages) (m : Manager L G) where
   -- where no device fails, a read of a block is a fault only as a page is past the log's end
@@ -156,31 +170,46 @@ module _ {L G : Type 0} (contents : L → Option Pages) (m : Manager L G) where
     pub job_complete : (ps qs : List PassState) (outs outs_now : ℕ) (r : Result Totals JobError) → IfErr r (EndsJob contents m rel fork ps qs outs outs_now)
         → NothingFailsIn contents m ps qs → OutIsQuiet outs outs_now → IsDoneOrMemory r
     job_complete ps qs outs outs_now (Ok totals) cause n quiet = tt
-    job_complete ps qs outs outs_now (Err e) cause n quiet = job_ends contents m rel fork (NothingFails contents m.table) (λ x. IsDoneOrMemory (Err x)) refl
+    job_complete ps qs outs outs_now (Err e) cause n quiet = job_ends contents m (NothingFails contents m.table) (λ x. IsDoneOrMemory (Err x)) refl
         (λ tag p b q why x since is refused met f. absurd (read_none tag p b q why x since is refused met f))
         (λ p q x w f. absurd (work_none p q w.why w.refuses f))
-        ps qs outs outs_now e cause n quiet
+        rel fork ps qs outs outs_now e cause n quiet
 
     pub job_short : (ps qs : List PassState) (outs outs_now : ℕ) (r : Result Totals JobError) → IfErr r (EndsJob contents m rel fork ps qs outs outs_now)
         → NoDeviceFailsIn ps qs → OutIsQuiet outs outs_now → IsDoneShortOrMemory r
     job_short ps qs outs outs_now (Ok totals) cause n quiet = tt
-    job_short ps qs outs outs_now (Err e) cause n quiet = job_ends contents m rel fork NoDeviceFails (λ x. IsDoneShortOrMemory (Err x)) refl
+    job_short ps qs outs outs_now (Err e) cause n quiet = job_ends contents m NoDeviceFails (λ x. IsDoneShortOrMemory (Err x)) refl
         (λ tag p b q why x since is refused met f. let s = read_short_is tag p b q why x is refused met f in subst (λ (y : JobError). IsDoneShortOrMemory (Err y)) s.2 tt)
         (λ p q x w f. let s = work_short_is p q x w f in subst (λ (y : JobError). IsDoneShortOrMemory (Err y)) s.2 tt)
-        ps qs outs outs_now e cause n quiet
+        rel fork ps qs outs outs_now e cause n quiet
 
     pub rewrite_complete : (ps qs : List PassState) (r : Result Totals JobError) → IfErr r (EndsRewrite contents m rel fork ps qs) → NothingFailsIn contents m ps qs → IsDoneFullOrMemory r
     rewrite_complete ps qs (Ok totals) cause n = tt
-    rewrite_complete ps qs (Err e) cause n = rewrite_ends contents m rel fork (NothingFails contents m.table) (λ x. IsDoneFullOrMemory (Err x)) refl
+    rewrite_complete ps qs (Err e) cause n = rewrite_ends contents m (NothingFails contents m.table) (λ x. IsDoneFullOrMemory (Err x)) refl
         (λ tag p b q why x since is refused met f. absurd (read_none tag p b q why x since is refused met f))
         (λ p q x w f. absurd (work_none p q w.why w.refuses f))
+        rel fork
         (λ p q why shows f. put_full p q why shows f.devices)
         ps qs e cause n
 
     pub rewrite_short : (ps qs : List PassState) (r : Result Totals JobError) → IfErr r (EndsRewrite contents m rel fork ps qs) → NoDeviceFailsIn ps qs → IsDoneFullShortOrMemory r
     rewrite_short ps qs (Ok totals) cause n = tt
-    rewrite_short ps qs (Err e) cause n = rewrite_ends contents m rel fork NoDeviceFails (λ x. IsDoneFullShortOrMemory (Err x)) refl
+    rewrite_short ps qs (Err e) cause n = rewrite_ends contents m NoDeviceFails (λ x. IsDoneFullShortOrMemory (Err x)) refl
         (λ tag p b q why x since is refused met f. let s = read_short_is tag p b q why x is refused met f in subst (λ (y : JobError). IsDoneFullShortOrMemory (Err y)) s.2 tt)
         (λ p q x w f. let s = work_short_is p q x w f in subst (λ (y : JobError). IsDoneFullShortOrMemory (Err y)) s.2 tt)
-        put_full_or_short
-        ps qs e cause n
+        rel fork put_full_or_short ps qs e cause n
+
+  module _ (tags : List Tag) where
+    pub load_complete : (ps qs : List PassState) (r : Result Totals JobError) → IfErr r (EndsLoad contents m tags ps qs) → NothingFailsIn contents m ps qs → IsDoneOrMemory r
+    load_complete ps qs (Ok totals) cause n = tt
+    load_complete ps qs (Err e) cause n = load_ends contents m (NothingFails contents m.table) (λ x. IsDoneOrMemory (Err x)) refl
+        (λ tag p b q why x since is refused met f. absurd (read_none tag p b q why x since is refused met f))
+        (λ p q x w f. absurd (work_none p q w.why w.refuses f))
+        tags ps qs e cause n
+
+    pub load_short : (ps qs : List PassState) (r : Result Totals JobError) → IfErr r (EndsLoad contents m tags ps qs) → NoDeviceFailsIn ps qs → IsDoneShortOrMemory r
+    load_short ps qs (Ok totals) cause n = tt
+    load_short ps qs (Err e) cause n = load_ends contents m NoDeviceFails (λ x. IsDoneShortOrMemory (Err x)) refl
+        (λ tag p b q why x since is refused met f. let s = read_short_is tag p b q why x is refused met f in subst (λ (y : JobError). IsDoneShortOrMemory (Err y)) s.2 tt)
+        (λ p q x w f. let s = work_short_is p q x w f in subst (λ (y : JobError). IsDoneShortOrMemory (Err y)) s.2 tt)
+        tags ps qs e cause n

@@ -2,6 +2,7 @@
 use mathlib.Core.List.{[], ◌∷◌}
 use mir.Syntax.{Sym}
 use denote.RattleType.{RattleType}
+use denote.Ref.{NamedLft}
 use denote.Struct.Tuple.{TupleAt}
 use denote.Param.Send.{IsSend, IsSync, sendable}
 use Rattle.std.proofs.Crossing.{crosses, frees}
@@ -9,7 +10,7 @@ use Rattle.std.proofs.CrossingOver as over
 use Rattle.chunk_claims.specs.contracts.claims.Claims as claims
 use Rattle.backend_pass.proofs.Crossing.{lease_sync, passes_sent, seat_send, shared_sync}
 use Rattle.page_jobs.specs.contracts.working.Worker as worker
-use Rattle.page_jobs.specs.contracts.working.ForkBlocks as blocks
+use Rattle.page_jobs.specs.contracts.job_blocks.JobBlocks as blocks
 
 pub claims_shared : IsSync claims.the_row
 claims_shared = search (sendable, crosses, over.crosses, shared_sync, lease_sync, frees) depth 50 fits 40000
@@ -24,8 +25,8 @@ eight_sent ν A B C D E F G H a b c d e f g h = search (sendable, crosses) depth
 pub workers_sent : (K : RattleType) → IsSend K → IsSend (worker.the_row K)
 workers_sent K k = search (sendable, crosses, over.crosses, passes_sent, seat_send, frees) depth 40 fits 20000
 
-pub blocks_shared : IsSync blocks.the_row
-blocks_shared = search (sendable, crosses, over.crosses) depth 20
+pub blocks_shared : (κ : NamedLft) → IsSync (blocks.the_row κ)
+blocks_shared κ = search (sendable, crosses, over.crosses) depth 20
 
 -- what captures five values may be shared where they may
 pub captures_shared : (ν : Sym) (A B C D E : RattleType) → IsSync A → IsSync B → IsSync C → IsSync D → IsSync E → IsSync (TupleAt ν (A ∷ B ∷ C ∷ D ∷ E ∷ []))

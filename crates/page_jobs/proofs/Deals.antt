@@ -3,7 +3,6 @@ use Rattle.std.proofs.Common.{◌≡◌, ℕ, zero, suc, ◌+◌, ◌-◌, ◌<�
 use Rattle.std.specs.Prelude.{Option, slice_index_or}
 use Rattle.std.proofs.lemmas.List.{append-nil, length-append, map-append, reverse-append}
 use mathlib.Core.List.{reverse}
-use Rattle.block_tag.specs.declared.tag.Fork.{Fork}
 use Rattle.segment_store.specs.Contents.{Pages}
 use Rattle.backend_pass.specs.declared.manager.Manager.{Manager}
 use Rattle.chunk_claims.specs.declared.claims.Claims.{Claims}
@@ -81,7 +80,7 @@ gathered {K = K} ws ws' ps ps' all w so_far split more =
     ∙ ap (λ (l : List (Worker K)). map (λ (x : Worker K). x.pass) l ++ reverse ps) (sym split)
     ∙ so_far
 
-module _ {L G : Type 0} (contents : L → Option Pages) (m : Manager L G) (rel : ℕ) (fork : Fork) where
+module _ {L G : Type 0} (contents : L → Option Pages) (m : Manager L G) where
   module _ {K : Type 0} (begins : K → Type 0) (claims : Claims) (fits : K → ℕ → Type 0) (opens : K → Type 0) (starts : (k : K) → begins k → CanBegin fits k × opens k) where
     ready_one : (number : ℕ) (p : PassState) (w : Worker K) → IsDealt begins claims number p w → HasNoTokens contents m p → IsReady contents m claims fits opens w
     ready_one number p w d free = let s = starts w.task d.task in record { free = subst (HasNoTokens contents m) (sym d.pass) free; seat = d.seat; task = s.0; opened = s.1 }

@@ -1,4 +1,5 @@
 mod Staying
+mod JobPlaces
 mod Blocks
 mod FoundReads
 mod Sums
@@ -23,7 +24,6 @@ pub mod ReadersLeave
 pub mod Backends
 pub mod Counted
 pub mod Starting
-pub mod Surveys
 mod TornBlocks
 mod BlockRewrites
 mod RewriteTotals
@@ -41,3 +41,10 @@ mod RewriteFull
 pub mod RewriteDown
 pub mod RewriteBackends
 mod Completing
+mod ClosedResidents
+mod Prewarmed
+mod LoadedBlocks
+mod LoadedChunks
+mod LoadWorkers
+mod LoadedLists
+pub mod LoadBackends

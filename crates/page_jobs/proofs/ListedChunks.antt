@@ -16,6 +16,9 @@ use Rattle.text_window.specs.Texts.{Job}
 use Rattle.io_counts.specs.Found.{FoundMore}
 use Rattle.backend_pass.specs.declared.manager.Manager.{Manager}
 use Rattle.backend_pass.specs.Passes.{PassState}
+use Rattle.block_tag.specs.declared.tag.Tag.{Tag}
+use Rattle.page_jobs.specs.declared.job_blocks.JobBlocks.{JobBlocks}
+use Rattle.page_jobs.specs.declared.job_blocks.JobBlocks.TheVariants as those
 use Rattle.page_jobs.specs.declared.ending.JobError.{JobError}
 use Rattle.page_jobs.specs.declared.ending.JobError.TheVariants.{Memory}
 use Rattle.page_jobs.specs.declared.listing.Lister.{Lister}
@@ -23,7 +26,8 @@ use Rattle.page_jobs.specs.declared.printing.Lines.{Lines}
 use Rattle.page_jobs.specs.declared.working.Worker.{Worker}
 use Rattle.page_jobs.specs.Blocks.{blocks_from}
 use Rattle.page_jobs.specs.Chunks.{Ascend, Claimed, CoversAll, blocks_in_all, blocks_of, chunk_count, chunk_size, chunk_start}
-use Rattle.page_jobs.specs.ChunkTexts.{ClosesText, IsChunkText, OpensText}
+use Rattle.page_jobs.specs.ChunkTexts.{ClosesText, IsChunkText, OpensBlocks, OpensText}
+use Rattle.page_jobs.specs.JobBlocks.{DoesAt, count_in}
 use Rattle.page_jobs.specs.Dealt.{HaveDone}
 use Rattle.page_jobs.specs.Jobs.{HaveNoTokens, ReadsChunks}
 use Rattle.page_jobs.specs.Parts.{AllReads, AreKnown, EndsFor, ListsBlocks, blocks_in}
@@ -428,3 +432,29 @@ module _ {L G N A : Type 0} (contents : L → Option Pages) (m : Manager L G) (r
       let one = lists_claims base lines x.seat.me.0.drawn p x.pass d.0.0 x.task x.end d.0.1 free.0 d.0.2 in
       let rest = do_lists base lines ps xs free.1 d.1 in
       record { claimed = one.claimed ∷ rest.claimed; lists = (one.lists, rest.lists) }
+
+-- Whatever blocks a lister is given, they are those of a fork
+module _ {L G N A : Type 0} (contents : L → Option Pages) (m : Manager L G) (texts : ℕ → ℕ → List ℕ → Type 0) (job : Job) (chunk : ℕ) (q : PassState) (k : Lister N A) where
+  abbrev lists_tag : Tag → PassState → PassState → Lister N A → Lister N A → Result Unit JobError → Type 0
+  lists_tag tag p r i l end = lists_block contents m tag.rel.0 tag.fork tag.block p r i l end
+
+  abbrev IsListedAtEnd : JobBlocks → Type 0
+  IsListedAtEnd blocks = IsAtEnd (DoesAt lists_tag blocks) (HasNoTokens contents m) (OpensBlocks contents m blocks texts job) (count_in m blocks) chunk q k
+
+  pub is_job_chunk : (blocks : JobBlocks) → IsListedAtEnd blocks → chunk < chunk_count (count_in m blocks) → chunk < job.chunks
+  is_job_chunk (those.Fork fork) a low = let chunks = a.opened.chunks in omega (arith, low, chunks)
+  is_job_chunk (those.Tags tags) a low = absurd a.opened
+
+  pub takes_text : (blocks : JobBlocks) (place : ℕ) → place ≡ q.view.front → IsListedAtEnd blocks → texts place chunk k.printed.text.items
+  takes_text (those.Fork fork) place front a =
+      let is = chunk_text_is contents m fork.rel.0 fork.fork texts job chunk q k a in
+      a.opened.takes place chunk k.printed.text.items (subst (λ (x : ℕ). IsChunkText contents m fork.rel.0 fork.fork a.task.lines x chunk k.printed.text.items) (sym front) is.0)
+  takes_text (those.Tags tags) place front a = absurd a.opened
+
+  pub parts_then : (blocks : JobBlocks) → IsListedAtEnd blocks → (0 < k.shares.delivered.parts) × (0 < k.shares.above.parts)
+  parts_then (those.Fork fork) a = parts_at_end contents m fork.rel.0 fork.fork texts job chunk q k a
+  parts_then (those.Tags tags) a = absurd a.opened
+
+  pub opens_then : (blocks : JobBlocks) → IsListedAtEnd blocks → (l : Lister N A) → l.lines ≡ k.lines → l.printed.text.items ≡ [] → l.printed.totals ≡ k.printed.totals → KeepsParts k.shares l.shares → OpensBlocks contents m blocks texts job l
+  opens_then (those.Fork fork) a l lines none totals parts = opens_next contents m fork.rel.0 fork.fork texts job chunk q k a l lines none totals parts
+  opens_then (those.Tags tags) a l lines none totals parts = absurd a.opened

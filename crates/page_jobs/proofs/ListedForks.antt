@@ -71,8 +71,8 @@ is_steady worked beside outs now (Err e) (inr other) = inr other.0
 
 -- a job whose own task has these lines ran with workers that print them
 pub ran_of : {L G N A : Type 0} (contents : L → Option Pages) (m : Manager L G) (rel : ℕ) (fork : Fork) (base : ℕ) (lines : Lines) (did : PassState → PassState → Type 0) (all : List PassState) (ran : Ran (Lister N A)) (task : Lister N A) → task.lines ≡ lines
-    → HasRun contents m rel fork (lists_block contents m rel fork) (closes_text base) (lister_begins task.lines) did all ran → HasRun contents m rel fork (lists_block contents m rel fork) (closes_text base) (lister_begins lines) did all ran
-ran_of contents m rel fork base lines did all ran task is h = subst (λ (x : Lines). HasRun contents m rel fork (lists_block contents m rel fork) (closes_text base) (lister_begins x) did all ran) is h
+    → HasRun contents m (blocks_in m rel fork) (lists_block contents m rel fork) (closes_text base) (lister_begins task.lines) did all ran → HasRun contents m (blocks_in m rel fork) (lists_block contents m rel fork) (closes_text base) (lister_begins lines) did all ran
+ran_of contents m rel fork base lines did all ran task is h = subst (λ (x : Lines). HasRun contents m (blocks_in m rel fork) (lists_block contents m rel fork) (closes_text base) (lister_begins x) did all ran) is h
 
 module _ {L G : Type 0} (contents : L → Option Pages) (m : Manager L G) (rel : ℕ) (fork : Fork) (lines : Lines) (did : PassState → PassState → Type 0) (all : List PassState) where
   -- no worker began
@@ -171,7 +171,7 @@ module _ {L G : Type 0} (contents : L → Option Pages) (m : Manager L G) (rel :
       )
 
   module _ {N A : Type 0} (base : ℕ) (ran : Ran (Lister N A)) (several : 2 ≤ length all) (few : length all ≤ 64) (free : HaveNoTokens contents m all) (named : (block : ℕ) → block < blocks_in m rel fork → names_block (tag_of_parts rel fork block) ≡ true)
-      (h : HasRun contents m rel fork (lists_block contents m rel fork) (closes_text base) (lister_begins lines) did all ran) where
+      (h : HasRun contents m (blocks_in m rel fork) (lists_block contents m rel fork) (closes_text base) (lister_begins lines) did all ran) where
     counted : length all ≡ length h.before + 1
     counted = ap length h.split ∙ length-append h.before (h.last ∷ [])
 
@@ -182,7 +182,7 @@ module _ {L G : Type 0} (contents : L → Option Pages) (m : Manager L G) (rel :
     before = workers_before all h.before h.last h.split
 
     free_workers : HaveNoTokens contents m h.before
-    free_workers = free_front contents m rel fork h.before (h.last ∷ []) (subst (HaveNoTokens contents m) h.split free)
+    free_workers = free_front contents m h.before (h.last ∷ []) (subst (HaveNoTokens contents m) h.split free)
 
     lists_done : HaveLists contents m rel fork base lines h.before ran.workers.items
     lists_done = do_lists contents m rel fork base lines h.before ran.workers.items free_workers h.done

@@ -47,7 +47,7 @@ pub record ComesTo {L G : Type 0} (contents : L → Option Pages) (m : Manager L
 
 module _ {L G : Type 0} (contents : L → Option Pages) (m : Manager L G) (rel : ℕ) (fork : Fork) (did : PassState → PassState → Type 0) (all : List PassState) (ran : Ran Rewriter)
     (many : 2 ≤ length all) (free : HaveNoTokens contents m all) (named : (block : ℕ) → block < blocks_in m rel fork → names_block (tag_of_parts rel fork block) ≡ true)
-    (h : HasRun contents m rel fork (rewrites_block contents m rel fork) rewrites_closes rewriter_begins did all ran) where
+    (h : HasRun contents m (blocks_in m rel fork) (rewrites_block contents m rel fork) rewrites_closes rewriter_begins did all ran) where
   long : length all ≡ length h.before + 1
   long = ap length h.split ∙ length-append h.before (h.last ∷ [])
 
@@ -61,7 +61,7 @@ module _ {L G : Type 0} (contents : L → Option Pages) (m : Manager L G) (rel :
   module _ (xs : List (Worker Rewriter)) (same : xs ≡ ran.workers.items) where
     did_claim : (cs : List (Claimed Outcome)) × DoRewrites contents m rel fork (blocks_in m rel fork) h.before xs cs
     did_claim = subst (λ (l : List (Worker Rewriter)). (cs : List (Claimed Outcome)) × DoRewrites contents m rel fork (blocks_in m rel fork) h.before l cs) (sym same)
-        (do_rewrites contents m rel fork (blocks_in m rel fork) h.before ran.workers.items (free_front contents m rel fork h.before (h.last ∷ []) (subst (HaveNoTokens contents m) h.split free)) h.done)
+        (do_rewrites contents m rel fork (blocks_in m rel fork) h.before ran.workers.items (free_front contents m h.before (h.last ∷ []) (subst (HaveNoTokens contents m) h.split free)) h.done)
 
     pub some_work : 0 < length xs
     some_work = let d = did_claim in let l = workers_long contents m rel fork (blocks_in m rel fork) h.before xs d.0 d.1 in let more = several in omega (arith, l, more)

@@ -7,6 +7,8 @@ use Rattle.segment_store.specs.Contents.{Pages}
 use Rattle.text_window.specs.Shares.{KeepsParts}
 use Rattle.text_window.specs.Texts.{Job}
 use Rattle.backend_pass.specs.declared.manager.Manager.{Manager}
+use Rattle.page_jobs.specs.declared.job_blocks.JobBlocks.{JobBlocks}
+use Rattle.page_jobs.specs.declared.job_blocks.JobBlocks.TheVariants as those
 use Rattle.page_jobs.specs.declared.ending.JobError.{JobError}
 use Rattle.page_jobs.specs.declared.ending.JobError.TheVariants.{Memory}
 use Rattle.page_jobs.specs.declared.listing.Lister.{Lister}
@@ -49,6 +51,13 @@ module _ {L G : Type 0} (contents : L → Option Pages) (m : Manager L G) (rel :
     pub chunks : job.chunks ≡ chunk_count (blocks_in m rel fork)
     pub takes : (place chunk : ℕ) (text : List ℕ) → IsChunkText k.lines place chunk text
         → texts place chunk text
+
+-- a lister can begin a chunk of these blocks: they are those of a fork
+abbrev pub OpensBlocks : {L G N A : Type 0} → (L → Option Pages) → Manager L G → JobBlocks
+    → (ℕ → ℕ → List ℕ → Type 0) → Job → Lister N A → Type 0
+OpensBlocks contents m (those.Fork fork) texts job k =
+    OpensText contents m fork.rel.0 fork.fork texts job k
+OpensBlocks contents m (those.Tags tags) texts job k = ⊥
 
 -- one text more was delivered; or the job had stopped, for which a worker ends as out of memory
 abbrev pub HasDelivered : ℕ → ℕ → Result Unit JobError → Type 0

@@ -4,7 +4,6 @@ use Rattle.std.specs.Prelude.{◌∷◌, ◌++◌, Option, Some, Result, Ok, Err
 use Rattle.std.specs.Prelude.{vec_capacity, vec_len}
 use mathlib.Core.Option.{some}
 use lib.ListN.{get_elem?}
-use Rattle.block_tag.specs.declared.tag.Fork.{Fork}
 use Rattle.chunk_claims.specs.declared.claimant.Claimant.{Claimant}
 use Rattle.chunk_claims.specs.declared.claims.Claims.{Claims}
 use Rattle.chunk_claims.specs.Claims.{SitsAt}
@@ -25,7 +24,6 @@ use Rattle.page_jobs.specs.declared.running.Ran.{Ran}
 use Rattle.page_jobs.specs.declared.working.Worker.{Worker}
 use Rattle.page_jobs.specs.Beside.{EndsBeside}
 use Rattle.page_jobs.specs.Chunks.{chunk_count}
-use Rattle.page_jobs.specs.Parts.{blocks_in}
 use Rattle.page_jobs.specs.Printed.{totals_line}
 use Rattle.backend_pass.specs.Between.{HasNoTokens}
 use Rattle.page_jobs.specs.Working.{CanBegin, ClaimsNothing, WorksChunks}
@@ -174,24 +172,23 @@ module _ {L G : Type 0} (contents : L → Option Pages) (m : Manager L G) where
     pub task : CanBegin fits w.task
     pub opened : opens w.task
 
-  -- All passes but the last worked on chunks of the fork's blocks, and the last one worked beside
-  -- them: if its work ended well, it did this. There is room for all of them in the list that they
+  -- All passes but the last worked on chunks of n blocks, and the last one worked beside them: if its work ended well, it did this. There is room for all of them in the list that they
   -- were in, and their seats can be given back
-  pub record HasRun {K : Type 0} (rel : ℕ) (fork : Fork)
+  pub record HasRun {K : Type 0} (n : ℕ)
       (does : ℕ → PassState → PassState → K → K → Result Unit JobError → Type 0)
       (closes : ℕ → PassState → K → K → Result Unit JobError → Type 0) (begins : K → Type 0)
       (did : PassState → PassState → Type 0) (ps : List PassState) (ran : Ran K) : Type 0 where
     pub before : List PassState
     pub last : PassState
     pub split : ps ≡ before ++ last ∷ []
-    pub done : HaveDone begins does closes (blocks_in m rel fork) before ran.workers.items
+    pub done : HaveDone begins does closes n before ran.workers.items
     pub beside : EndsBeside contents m last ran.last ran.beside_end
     pub did_beside : OnOk ran.beside_end (did last ran.last)
     pub none : ran.passes.items ≡ []
     pub room : vec_len ran.workers < vec_capacity ran.passes
-    pub chunks : ran.claims.chunks ≡ chunk_count (blocks_in m rel fork)
+    pub chunks : ran.claims.chunks ≡ chunk_count n
     pub seats : All (HasWorkedSeat ran.claims) ran.workers.items
     pub many : vec_len ran.workers ≡ ran.claims.workers
     pub sits : SitsAt ran.claims.table.shared.table_id ran.seat
     pub seat : IsDealing ran.claims.chunks ran.claims.workers 0 ran.seat.me.0
-    pub few : blocks_in m rel fork < 2 ^ 32
+    pub few : n < 2 ^ 32

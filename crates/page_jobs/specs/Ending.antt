@@ -37,6 +37,22 @@ totals_of_rewrite t = record {
   skipped = t.skipped;
 }
 
+-- the totals of a job that counts nothing
+abbrev pub no_job_totals : Totals
+no_job_totals = record {
+  blocks = 0;
+  used = 0;
+  new = 0;
+  invalid = 0;
+  normal = 0;
+  redirect = 0;
+  dead = 0;
+  unused = 0;
+  changed = 0;
+  same = 0;
+  skipped = 0;
+}
+
 -- whether it ended well
 abbrev pub as_done : {A E : Type 0} → Result A E → Result Unit E
 as_done (Ok a) = Ok tt

@@ -2,6 +2,7 @@ pub mod Ending
 pub mod Printed
 pub mod Reads
 pub mod Parts
+pub mod JobBlocks
 pub mod Blocks
 pub mod Chunks
 pub mod Working
@@ -10,7 +11,6 @@ pub mod ChunkTexts
 pub mod Dealt
 pub mod Jobs
 pub mod Relations
-pub mod Survey
 pub mod Rewrites
 pub mod Rewriting
 pub mod RewriteEnds
@@ -19,3 +19,5 @@ pub mod RewriteJobs
 pub mod RewriteCloses
 pub mod Completeness
 pub mod Listings
+pub mod Loads
+pub mod Prewarmed

@@ -5,7 +5,7 @@
 //! first. A refusal of the work beside is reported only if nothing else failed; then a scan puts
 //! the workers' texts and no totals.
 ghost use Rattle.std.specs.Prelude.{◌≡◌};
-ghost use Rattle.page_jobs.specs.Ending.{totals_of_rewrite, totals_of_scan};
+ghost use Rattle.page_jobs.specs.Ending.{no_job_totals, totals_of_rewrite, totals_of_scan};
 
 use backend_pass::Pass;
 use block_tag::Tag;
@@ -53,7 +53,8 @@ impl From<AllocError> for JobError {
 
 /// What a job counts of the blocks: of a scan and a dump how many there are of each kind, and how
 /// many line pointers of each state the used ones have; of a rewrite what became of them, and how
-/// many dead line pointers the changed ones had. What a job doesn't count is 0.
+/// many dead line pointers the changed ones had. What a job doesn't count is 0, and so is all that
+/// a load could count.
 #[derive(Clone, Copy, PartialEq, Eq, Debug)]
 pub struct Totals {
     pub blocks: u64,
@@ -70,6 +71,13 @@ pub struct Totals {
 }
 
 impl Totals {
+    /// Those of a job that counts nothing.
+    pub(crate) fn none() -> Totals
+        ensures { result ≡ no_job_totals }
+    {
+        Totals::of_rewrite(RewriteTotals::none())
+    }
+
     /// The totals of a scan.
     pub(crate) fn of_scan(scan: ScanTotals) -> Totals
         ensures { result ≡ totals_of_scan scan }

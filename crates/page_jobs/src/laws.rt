@@ -1,5 +1,5 @@
-//! What the end of a manager tells of a rewrite. The functions do nothing: their contracts are the
-//! laws.
+//! What the end of a manager tells of a rewrite, and of a load. The functions do nothing: their
+//! contracts are the laws.
 //!
 //! `rewrite_ends` needs a state's laws and history, and no manager, so the work may be divided in
 //! any way. `rewrite_closes` says the same of the devices that are given back. It knows the
@@ -11,6 +11,7 @@ ghost use Rattle.history_core.specs.History.{IsHistory};
 ghost use Rattle.history_core.specs.Laws.{Laws};
 ghost use Rattle.history_core.specs.State.{State};
 ghost use Rattle.table_rule.specs.Shows.{devices};
+ghost use Rattle.page_jobs.specs.Prewarmed.{OneLoadsAlone, PrewarmedStay};
 ghost use Rattle.page_jobs.specs.Rewrites.{Rule};
 ghost use Rattle.page_jobs.specs.RewriteCloses.{ClosesEither, ClosesFull, ClosesRewritten};
 ghost use Rattle.page_jobs.specs.RewriteEnds.{Finishes, HasRewrites, IsResult, LanesHoldEither};
@@ -51,4 +52,15 @@ pub fn rewrite_closes<L: BlockLane, G: LogDevice>(_manager: &Manager<L, G>)
 
     // A log that has room for a record of each block is not full.
     ensures full { ClosesFull (devices L.BlockLane G.LogDevice) _manager.now }
+{}
+
+/// What a pass lists by `residents` of the blocks that it loaded, if `Manager::close_counted` counts
+/// no eviction and no reuse in the end.
+pub fn prewarmed_stay<L: BlockLane, G: LogDevice>(_manager: &Manager<L, G>)
+    // If one pass did all the work of a load, its later list has each block of the load, unless the
+    // block's page wasn't sound as the table was opened.
+    ensures listed { PrewarmedStay (devices L.BlockLane G.LogDevice) _manager.now }
+
+    // A load that has one pass to work is done by it alone.
+    ensures alone { OneLoadsAlone (devices L.BlockLane G.LogDevice) _manager.now }
 {}

@@ -7,14 +7,15 @@
 ghost use Rattle.std.specs.Prelude.{◌≡◌, ◌+◌, ◌<◌, ◌≤◌, ◌/◌, ◌^◌, [], ◌∷◌, IfOk, is_some, nat_lt};
 ghost use Rattle.page_layout.specs.Scan.{IsWithin, no_totals};
 ghost use Rattle.text_window.specs.Shares.{HoldsParts, IsMerged, KeepsParts};
-ghost use Rattle.page_jobs.specs.ChunkTexts.{ClosesText, HasDelivered, OpensText};
+ghost use Rattle.page_jobs.specs.ChunkTexts.{ClosesText, HasDelivered, OpensBlocks};
 ghost use Rattle.page_jobs.specs.Parts.{ListsBlocks};
 
 use crate::ending::JobError;
 use crate::gate::Gate;
+use crate::job_blocks::JobBlocks;
 use crate::printing::{Lines, Printed};
 use crate::reading::copy_if_sound;
-use crate::working::{BlockTask, Buffers, ForkBlocks, JobTask};
+use crate::working::{BlockTask, Buffers, JobTask};
 use access_rings::{Ring, RingKind};
 use backend_pass::{Manager, Pass};
 use block_tag::Tag;
@@ -123,12 +124,12 @@ impl<L: BlockLane, G: LogDevice, N: Naming, A: Ledger, O: Sink> BlockTask<
     G,
     Mutex<Window<N, A, O>>,
 > for Lister<N, A> {
-    ghost does = { λ m rel fork block p q k l end. (l.lines ≡ k.lines) × (l.shares ≡ k.shares)
-        × ListsBlocks L.contents m rel fork k.lines (block ∷ []) p q k.printed.text.items l.printed.text.items k.printed.totals l.printed.totals end };
+    ghost does = { λ m tag p q k l end. (l.lines ≡ k.lines) × (l.shares ≡ k.shares)
+        × ListsBlocks L.contents m tag.rel.0 tag.fork k.lines (tag.block ∷ []) p q k.printed.text.items l.printed.text.items k.printed.totals l.printed.totals end };
 
     ghost closes = { λ _ q k l end. ClosesText N.job.base q.view.front k l end };
 
-    ghost opens = { λ m rel fork k. OpensText L.contents m rel fork N.texts N.job k };
+    ghost opens = { λ m blocks k. OpensBlocks L.contents m blocks N.texts N.job k };
 
     ghost fits = { λ k n. IsWithin k.printed.totals k.printed.totals.blocks
         × (k.printed.totals.blocks + n ≤ 2 ^ 32) };
@@ -168,7 +169,7 @@ impl<L: BlockLane, G: LogDevice, N: Naming, A: Ledger, O: Sink> BlockTask<
         _manager: &Manager<L, G>,
         rt: &R,
         shared: &Mutex<Window<N, A, O>>,
-        _blocks: ForkBlocks,
+        _blocks: &JobBlocks,
         chunk: u32,
         pass: &Pass,
     ) -> Result<(), JobError> {

@@ -16,10 +16,11 @@ ghost use Rattle.page_jobs.specs.RewriteJobs.{EndsRewrite, RewriteParts, Rewrite
 use crate::beside::Beside;
 use crate::ending::{JobEnd, JobError, Totals};
 use crate::gate::Gate;
+use crate::job_blocks::{ForkBlocks, JobBlocks};
 use crate::puts::first_fault;
 use crate::rewriting::Rewriter;
 use crate::running::run_job;
-use crate::working::{ForkBlocks, Worker};
+use crate::working::Worker;
 use backend_pass::{Manager, Pass};
 use block_tag::{Fork, RelNo};
 use byte_devices::LogDevice;
@@ -104,14 +105,16 @@ pub fn rewrite<
     ensures complete { NothingFailsIn L.contents manager.now passes.items result.passes.items
         → IsDoneFullOrMemory result.end }
 {
-    let blocks = ForkBlocks { rel, fork };
+    // The blocks' numbers are those of blocks that have names.
+    let _count = manager.blocks(rel, fork);
+    let blocks = JobBlocks::Fork(ForkBlocks { rel, fork });
     let mut task = Rewriter::none();
     match run_job(
         manager,
         rt,
         alloc,
         passes,
-        blocks,
+        &blocks,
         &mut task,
         &(),
         gate,

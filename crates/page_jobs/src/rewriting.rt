@@ -22,8 +22,9 @@ ghost use Rattle.page_jobs.specs.Rewriting.{RewritesLocked, fault_of_put};
 
 use crate::ending::JobError;
 use crate::gate::Gate;
+use crate::job_blocks::JobBlocks;
 use crate::reading::{fault_of, pin_with_retries};
-use crate::working::{BlockTask, Buffers, ForkBlocks, JobTask};
+use crate::working::{BlockTask, Buffers, JobTask};
 use access_rings::{Ring, RingKind};
 use backend_pass::{Exclusive, Manager, Pass, PutError, ReadError, Refused};
 use block_tag::Tag;
@@ -184,12 +185,12 @@ impl JobTask for Rewriter {
 }
 
 impl<L: BlockLane, G: LogDevice> BlockTask<L, G, ()> for Rewriter {
-    ghost does = { λ m rel fork block p q k l end. CountsRewrites L.contents m rel fork (block ∷ [])
-        p q k.totals l.totals end };
+    ghost does = { λ m tag p q k l end. CountsRewrites L.contents m tag.rel.0 tag.fork
+        (tag.block ∷ []) p q k.totals l.totals end };
 
     ghost closes = { λ _ _ k l end. (l ≡ k) × (end ≡ Ok tt) };
 
-    ghost opens = { λ _ _ _ _. Unit {0} };
+    ghost opens = { λ _ _ _. Unit {0} };
 
     ghost fits = { λ k n. IsRewriteWithin k.totals k.totals.blocks
         × (k.totals.blocks + n ≤ 2 ^ 32) };
@@ -220,7 +221,7 @@ impl<L: BlockLane, G: LogDevice> BlockTask<L, G, ()> for Rewriter {
         _manager: &Manager<L, G>,
         _rt: &R,
         _shared: &(),
-        _blocks: ForkBlocks,
+        _blocks: &JobBlocks,
         _chunk: u32,
         _pass: &Pass,
     ) -> Result<(), JobError> {

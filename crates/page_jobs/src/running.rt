@@ -2,14 +2,13 @@
 ghost use Rattle.std.specs.Prelude.{◌≡◌, ℕ, true, ◌+◌, ◌-◌, ◌<◌, ◌≤◌, ◌++◌, [], ◌∷◌, ◌^◌, Ok};
 ghost use Rattle.std.specs.Prelude.{IfErr, IfOk, OnErr, OnOk, map, vec_capacity, vec_len, All};
 ghost use Rattle.chunk_claims.specs.Claims.{SitsAt, sum_below};
-ghost use Rattle.block_tag.specs.Names.{names_block, tag_of_parts};
 ghost use Rattle.page_jobs.specs.declared.working.Worker.{Worker};
 ghost use Rattle.page_jobs.specs.Beside.{EndsBeside};
 ghost use Rattle.page_jobs.specs.Chunks.{chunk_count};
 ghost use Rattle.page_jobs.specs.Dealt.{HasRun, HasWorkedSeat, HaveJoined, IsDealing, IsDealtOut};
 ghost use Rattle.page_jobs.specs.Dealt.{IsReady, total_drawn};
 ghost use Rattle.page_jobs.specs.Jobs.{HaveNoTokens};
-ghost use Rattle.page_jobs.specs.Parts.{blocks_in};
+ghost use Rattle.page_jobs.specs.JobBlocks.{AreThere, DoesAt, count_in};
 ghost use Rattle.backend_pass.specs.Between.{HasNoTokens};
 ghost use Rattle.page_jobs.specs.Working.{CanBegin, HaveWorked};
 
@@ -17,7 +16,8 @@ use crate::beside::{Beside, work_last};
 use crate::dealing::{deal, gather};
 use crate::ending::JobError;
 use crate::gate::Gate;
-use crate::working::{BlockTask, ForkBlocks, JobTask, Worker, chunk_count, work};
+use crate::job_blocks::JobBlocks;
+use crate::working::{BlockTask, JobTask, Worker, chunk_count, work};
 use atomic_table::Seat;
 use backend_pass::{Manager, Pass};
 use byte_devices::LogDevice;
@@ -53,18 +53,18 @@ fn work_all<
     alloc: Global,
     gate: &T,
     shared: &W,
-    blocks: ForkBlocks,
+    blocks: &JobBlocks,
     claims: &Claims,
     workers: &mut Vec<Worker<K>>,
 )
     requires some { 0 < vec_len workers.old }
-    requires chunks { claims.now.chunks
-        ≡ chunk_count (blocks_in manager.now blocks.rel.0 blocks.fork) }
+    requires there { AreThere manager.now blocks.now }
+    requires chunks { claims.now.chunks ≡ chunk_count (count_in manager.now blocks.now) }
     requires ready { All (IsReady L.contents manager.now claims.now K.fits
-        (K.opens manager.now blocks.rel.0 blocks.fork)) workers.old.items }
+        (K.opens manager.now blocks.now)) workers.old.items }
     ensures count { vec_len workers.new ≡ vec_len workers.old }
-    ensures worked { HaveWorked (K.does manager.now blocks.rel.0 blocks.fork) K.closes
-        (blocks_in manager.now blocks.rel.0 blocks.fork) workers.old.items workers.new.items }
+    ensures worked { HaveWorked (DoesAt (K.does manager.now) blocks.now) K.closes
+        (count_in manager.now blocks.now) workers.old.items workers.new.items }
     ensures seats { All (HasWorkedSeat claims.now) workers.new.items }
 {
     let threads = workers.len();
@@ -93,20 +93,20 @@ fn work_beside<
     workers: &mut Vec<Worker<K>>,
     last: &mut Pass,
     shared: &W,
-    blocks: ForkBlocks,
+    blocks: &JobBlocks,
     claims: &Claims,
     gate: &T,
     beside: &mut B,
 ) -> Result<(), JobError>
     requires some { 0 < vec_len workers.old }
-    requires chunks { claims.now.chunks
-        ≡ chunk_count (blocks_in manager.now blocks.rel.0 blocks.fork) }
+    requires there { AreThere manager.now blocks.now }
+    requires chunks { claims.now.chunks ≡ chunk_count (count_in manager.now blocks.now) }
     requires ready { All (IsReady L.contents manager.now claims.now K.fits
-        (K.opens manager.now blocks.rel.0 blocks.fork)) workers.old.items }
+        (K.opens manager.now blocks.now)) workers.old.items }
     requires free { HasNoTokens L.contents manager.now last.old }
     ensures count { vec_len workers.new ≡ vec_len workers.old }
-    ensures worked { HaveWorked (K.does manager.now blocks.rel.0 blocks.fork) K.closes
-        (blocks_in manager.now blocks.rel.0 blocks.fork) workers.old.items workers.new.items }
+    ensures worked { HaveWorked (DoesAt (K.does manager.now) blocks.now) K.closes
+        (count_in manager.now blocks.now) workers.old.items workers.new.items }
     ensures seats { All (HasWorkedSeat claims.now) workers.new.items }
     ensures beside { EndsBeside L.contents manager.now last.old last.new result }
     ensures works { OnOk result
@@ -116,12 +116,13 @@ fn work_beside<
         rt,
         &mut ||
             requires { (0 < vec_len workers.now)
-                × (claims.now.chunks ≡ chunk_count (blocks_in manager.now blocks.rel.0 blocks.fork))
+                × AreThere manager.now blocks.now
+                × (claims.now.chunks ≡ chunk_count (count_in manager.now blocks.now))
                 × All (IsReady L.contents manager.now claims.now K.fits
-                (K.opens manager.now blocks.rel.0 blocks.fork)) workers.now.items }
+                (K.opens manager.now blocks.now)) workers.now.items }
             ensures { (vec_len workers.exit.now ≡ vec_len workers.entry.now)
-                × HaveWorked (K.does manager.entry.now blocks.rel.0 blocks.fork) K.closes
-                (blocks_in manager.entry.now blocks.rel.0 blocks.fork) workers.entry.now.items
+                × HaveWorked (DoesAt (K.does manager.entry.now) blocks.entry.now) K.closes
+                (count_in manager.entry.now blocks.entry.now) workers.entry.now.items
                 workers.exit.now.items × All (HasWorkedSeat claims.entry.now)
                 workers.exit.now.items }
         { work_all(manager, rt, alloc, gate, shared, blocks, claims, workers) },
@@ -178,7 +179,7 @@ pub(crate) fn run_job<
     rt: &R,
     alloc: Global,
     mut passes: Vec<Pass>,
-    blocks: ForkBlocks,
+    blocks: &JobBlocks,
     task: &mut K,
     shared: &W,
     gate: &T,
@@ -187,20 +188,19 @@ pub(crate) fn run_job<
     requires several { 2 ≤ vec_len passes }
     requires few { vec_len passes ≤ 64 }
     requires free { HaveNoTokens L.contents manager.now passes.items }
+    requires there { AreThere manager.now blocks.now }
     requires deals { K.deals (vec_len passes - 1) task.old }
     requires starts { (k : K) → K.begins task.old k → CanBegin K.fits k
-        × K.opens manager.now blocks.rel.0 blocks.fork k }
+        × K.opens manager.now blocks.now k }
     ensures ran { IfOk result
-        (HasRun L.contents manager.now blocks.rel.0 blocks.fork
-        (K.does manager.now blocks.rel.0 blocks.fork) K.closes (K.begins task.old)
+        (HasRun L.contents manager.now (count_in manager.now blocks.now)
+        (DoesAt (K.does manager.now) blocks.now) K.closes (K.begins task.old)
         (λ p q. B.works manager.now beside.old beside.new p q (Ok tt)) passes.items) }
     ensures deals { OnOk result (K.deals 0 task.new) }
     ensures refused { IfErr result (λ given. (given.items ≡ passes.items) × (task.new ≡ task.old)) }
-    ensures named { (block : ℕ) → block < blocks_in manager.now blocks.rel.0 blocks.fork
-        → names_block (tag_of_parts blocks.rel.0 blocks.fork block) ≡ true }
 {
     let mut last = passes.take_last();
-    let count = manager.blocks(blocks.rel, blocks.fork);
+    let count = blocks.count(manager);
     match deal_out(alloc, count, &mut passes, task) {
         Ok(mut dealt) => {
             let beside_end = work_beside(

@@ -17,12 +17,12 @@ ghost use Rattle.page_jobs.specs.Parts.{blocks_in};
 use crate::beside::Beside;
 use crate::ending::{JobEnd, JobError};
 use crate::gate::Gate;
+use crate::job_blocks::{ForkBlocks, JobBlocks};
 use crate::lending::lend_value;
 use crate::listing::Lister;
 use crate::printing::Lines;
 use crate::puts::{end_of_workers, put_end, sum_totals};
 use crate::running::run_job;
-use crate::working::ForkBlocks;
 use backend_pass::{Manager, Pass};
 use block_tag::{Fork, RelNo};
 use byte_devices::{LogDevice, Sink};
@@ -92,7 +92,7 @@ fn list_over<
         (O.faults sink) (O.faults result.0) result.1.end }
 {
     // A fork has fewer than 2^32 blocks, so its chunks can be numbered.
-    let _blocks = manager.blocks(blocks.rel, blocks.fork);
+    let _count = manager.blocks(blocks.rel, blocks.fork);
     let backends = passes.len() as u32 - 1;
     let (delivered, delivered_shares) = delivered.open::<N>();
     let (above, above_shares) = above.open::<A>();
@@ -109,7 +109,15 @@ fn list_over<
         }
     };
     let run = run_job(
-        manager, rt, alloc, passes, blocks, &mut task, &window, gate, beside,
+        manager,
+        rt,
+        alloc,
+        passes,
+        &JobBlocks::Fork(blocks),
+        &mut task,
+        &window,
+        gate,
+        beside,
     );
     let window = window.into_inner();
     match run {

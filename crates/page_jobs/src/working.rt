@@ -5,14 +5,15 @@
 //! own task and merged back (`JobTask`). `WorksChunks` says once, for any task, that chunks were
 //! claimed and worked on one after the other, up to the first block that failed.
 //!
-//! Each worker has room for two pages, though a scan needs one: an associated type for the room
-//! would keep the closure of `for_each_mut` from being proved.
+//! Each worker has room for two pages, though a scan needs one and a load none: an associated type
+//! for the room would keep the closure of `for_each_mut` from being proved.
 ghost use Rattle.std.specs.Prelude.{◌≡◌, ℕ, ◌+◌, ◌-◌, ◌<◌, ◌≤◌, Result, OnOk};
-ghost use Rattle.block_tag.specs.declared.tag.Fork.{Fork};
+ghost use Rattle.block_tag.specs.declared.tag.Tag.{Tag};
 ghost use Rattle.backend_pass.specs.declared.manager.Manager.{Manager};
 ghost use Rattle.backend_pass.specs.Passes.{PassState};
 ghost use Rattle.page_jobs.specs.declared.ending.JobError.{JobError};
-ghost use Rattle.page_jobs.specs.Parts.{blocks_in};
+ghost use Rattle.page_jobs.specs.declared.job_blocks.JobBlocks.{JobBlocks};
+ghost use Rattle.page_jobs.specs.JobBlocks.{AreThere, DoesAt, IsInside, count_in};
 ghost use Rattle.backend_pass.specs.Between.{HasNoTokens};
 ghost use Rattle.chunk_claims.specs.Claims.{SitsAt};
 ghost use Rattle.page_jobs.specs.Chunks.{chunk_count, chunk_size};
@@ -21,10 +22,11 @@ ghost use Rattle.page_jobs.specs.Working.{WorksChunk, WorksChunks};
 
 use crate::ending::JobError;
 use crate::gate::Gate;
+use crate::job_blocks::JobBlocks;
 use access_rings::Ring;
 use atomic_table::Seat;
 use backend_pass::{Manager, Pass};
-use block_tag::{Fork, RelNo, Tag};
+use block_tag::Tag;
 use byte_devices::LogDevice;
 use chunk_claims::{Claimant, Claims};
 use page_layout::Page;
@@ -68,22 +70,22 @@ pub(crate) trait JobTask {
 /// What a worker does with a block, and with a chunk once all its blocks are worked on. `L` and `G`
 /// are the manager's lanes and log, and all workers of a job share a `W`.
 pub(crate) trait BlockTask<L: BlockLane, G: LogDevice, W> {
-    // What was done with a block of the fork, between two states of the pass and of the task, and
-    // how that ended.
-    ghost does: { Manager L G → ℕ → Fork → ℕ → PassState → PassState → Self → Self
-        → Result Unit JobError → Type 0 };
+    // What was done with a block, between two states of the pass and of the task, and how that
+    // ended.
+    ghost does: { Manager L G → Tag → PassState → PassState → Self → Self → Result Unit JobError
+        → Type 0 };
 
     // What was done at the end of a chunk, whose blocks left the pass so, between two states of the
     // task, and how that ended.
     ghost closes: { ℕ → PassState → Self → Self → Result Unit JobError → Type 0 };
 
-    // It can begin a chunk of the fork.
-    ghost opens: { Manager L G → ℕ → Fork → Self → Type 0 };
+    // It can begin a chunk of the blocks.
+    ghost opens: { Manager L G → JobBlocks → Self → Type 0 };
 
     // It can count this many blocks more.
     ghost fits: { Self → ℕ → Type 0 };
 
-    /// The ring to read with, for a fork of this many blocks and a table of this many frames.
+    /// The ring to read with, for this many blocks and a table of this many frames.
     fn ring(&self, alloc: Global, blocks: u32, frames: u32) -> Result<Option<Ring>, AllocError>
         requires { (16 ≤ frames) × (frames ≤ 4096) };
 
@@ -100,10 +102,9 @@ pub(crate) trait BlockTask<L: BlockLane, G: LogDevice, W> {
         buffers: &mut Buffers,
     ) -> Result<(), JobError>
         requires free { HasNoTokens L.contents manager.now pass.old }
-        requires block { tag.block < blocks_in manager.now tag.rel.0 tag.fork }
+        requires block { IsInside manager.now tag }
         requires fits { fits self.old 1 }
-        ensures does { does manager.now tag.rel.0 tag.fork tag.block pass.old pass.new self.old
-            self.new result }
+        ensures does { does manager.now tag pass.old pass.new self.old self.new result }
         ensures free { OnOk result (HasNoTokens L.contents manager.now pass.new) }
         ensures fits { OnOk result ((n : ℕ) → fits self.old (n + 1) → fits self.new n) };
 
@@ -113,27 +114,20 @@ pub(crate) trait BlockTask<L: BlockLane, G: LogDevice, W> {
         manager: &Manager<L, G>,
         rt: &R,
         shared: &W,
-        blocks: ForkBlocks,
+        blocks: &JobBlocks,
         chunk: u32,
         pass: &Pass,
     ) -> Result<(), JobError>
-        requires chunk { chunk < chunk_count (blocks_in manager.now blocks.rel.0 blocks.fork) }
-        requires worked { IsAtEnd (does manager.now blocks.rel.0 blocks.fork)
-            (HasNoTokens L.contents manager.now) (opens manager.now blocks.rel.0 blocks.fork)
-            (blocks_in manager.now blocks.rel.0 blocks.fork) chunk pass.now self.old }
+        requires chunk { chunk < chunk_count (count_in manager.now blocks.now) }
+        requires worked { IsAtEnd (DoesAt (does manager.now) blocks.now)
+            (HasNoTokens L.contents manager.now) (opens manager.now blocks.now)
+            (count_in manager.now blocks.now) chunk pass.now self.old }
         ensures closes { closes chunk pass.now self.old self.new result }
-        ensures opens { OnOk result (opens manager.now blocks.rel.0 blocks.fork self.new) }
+        ensures opens { OnOk result (opens manager.now blocks.now self.new) }
         ensures fits { OnOk result ((n : ℕ) → fits self.old n → fits self.new n) };
 
     /// The worker of this number has failed: the others can stop.
     fn stop<R: Wait>(&self, rt: &R, shared: &W, worker: u32);
-}
-
-/// The blocks that a job works on: those of a fork.
-#[derive(Clone, Copy)]
-pub(crate) struct ForkBlocks {
-    pub(crate) rel: RelNo,
-    pub(crate) fork: Fork,
 }
 
 /// A backend that claims chunks of the blocks, and works on each.
@@ -158,18 +152,19 @@ fn work_blocks<L: BlockLane, G: LogDevice, R: Wait, T: Gate, W, K: BlockTask<L, 
     rt: &R,
     alloc: Global,
     gate: &T,
-    blocks: ForkBlocks,
+    blocks: &JobBlocks,
     count: u32,
     chunk: u32,
     worker: &mut Worker<K>,
     buffers: &mut Buffers,
 ) -> Result<(), JobError>
     requires free { HasNoTokens L.contents manager.now worker.old.pass }
-    requires count { count ≡ blocks_in manager.now blocks.rel.0 blocks.fork }
+    requires there { AreThere manager.now blocks.now }
+    requires count { count ≡ count_in manager.now blocks.now }
     requires chunk { chunk < chunk_count count }
     requires fits { CanCount K.fits worker.old.task (chunk_size count chunk) }
     ensures same { (worker.new.number ≡ worker.old.number) × (worker.new.seat ≡ worker.old.seat) }
-    ensures does { DoesUpTo (K.does manager.now blocks.rel.0 blocks.fork) count chunk
+    ensures does { DoesUpTo (DoesAt (K.does manager.now) blocks.now) count chunk
         worker.old.pass worker.new.pass worker.old.task worker.new.task result }
     ensures free { OnOk result (HasNoTokens L.contents manager.now worker.new.pass) }
     ensures fits { OnOk result
@@ -178,13 +173,9 @@ fn work_blocks<L: BlockLane, G: LogDevice, R: Wait, T: Gate, W, K: BlockTask<L, 
 {
     let from = chunk * 8;
     let to = from + (count - from).min(8);
-    for block in from..to {
-        gate.before(worker.number, block);
-        let tag = Tag {
-            rel: blocks.rel,
-            fork: blocks.fork,
-            block,
-        };
+    for place in from..to {
+        let tag = blocks.tag(place);
+        gate.before(worker.number, tag.block);
         worker.task.work_block(
             manager,
             rt,
@@ -206,22 +197,23 @@ fn work_chunk<L: BlockLane, G: LogDevice, R: Wait, T: Gate, W, K: BlockTask<L, G
     alloc: Global,
     gate: &T,
     shared: &W,
-    blocks: ForkBlocks,
+    blocks: &JobBlocks,
     count: u32,
     chunk: u32,
     worker: &mut Worker<K>,
     buffers: &mut Buffers,
 ) -> Result<(), JobError>
     requires free { HasNoTokens L.contents manager.now worker.old.pass }
-    requires count { count ≡ blocks_in manager.now blocks.rel.0 blocks.fork }
+    requires there { AreThere manager.now blocks.now }
+    requires count { count ≡ count_in manager.now blocks.now }
     requires chunk { chunk < chunk_count count }
     requires fits { CanCount K.fits worker.old.task (chunk_size count chunk) }
-    requires opens { K.opens manager.now blocks.rel.0 blocks.fork worker.old.task }
+    requires opens { K.opens manager.now blocks.now worker.old.task }
     ensures same { (worker.new.number ≡ worker.old.number) × (worker.new.seat ≡ worker.old.seat) }
-    ensures works { WorksChunk (K.does manager.now blocks.rel.0 blocks.fork) K.closes count chunk
+    ensures works { WorksChunk (DoesAt (K.does manager.now) blocks.now) K.closes count chunk
         worker.old.pass worker.new.pass worker.old.task worker.new.task result }
     ensures free { OnOk result (HasNoTokens L.contents manager.now worker.new.pass) }
-    ensures opens { OnOk result (K.opens manager.now blocks.rel.0 blocks.fork worker.new.task) }
+    ensures opens { OnOk result (K.opens manager.now blocks.now worker.new.task) }
     ensures fits { OnOk result
         ((n : ℕ) → CanCount K.fits worker.old.task (n + chunk_size count chunk)
         → CanCount K.fits worker.new.task n) }
@@ -241,26 +233,26 @@ fn work_chunks<L: BlockLane, G: LogDevice, R: Wait, T: Gate, W, K: BlockTask<L, 
     alloc: Global,
     gate: &T,
     shared: &W,
-    blocks: ForkBlocks,
+    blocks: &JobBlocks,
     claims: &Claims,
     worker: &mut Worker<K>,
 ) -> Result<(), JobError>
     requires free { HasNoTokens L.contents manager.now worker.old.pass }
-    requires chunks { claims.now.chunks
-        ≡ chunk_count (blocks_in manager.now blocks.rel.0 blocks.fork) }
+    requires there { AreThere manager.now blocks.now }
+    requires chunks { claims.now.chunks ≡ chunk_count (count_in manager.now blocks.now) }
     requires seat { SitsAt claims.now.table.shared.table_id worker.old.seat }
     requires claims { ClaimsNothing claims.now.chunks claims.now.workers worker.old.seat.me.0 }
     requires fits { CanBegin K.fits worker.old.task }
-    requires opens { K.opens manager.now blocks.rel.0 blocks.fork worker.old.task }
+    requires opens { K.opens manager.now blocks.now worker.old.task }
     ensures same { worker.new.number ≡ worker.old.number }
     ensures seat { SitsAt claims.now.table.shared.table_id worker.new.seat }
     ensures part { (worker.new.seat.me.0.parts ≡ 1)
         × (worker.new.seat.me.0.workers ≡ claims.now.workers) }
-    ensures works { WorksChunks (K.does manager.now blocks.rel.0 blocks.fork) K.closes
-        (blocks_in manager.now blocks.rel.0 blocks.fork) worker.new.seat.me.0.drawn worker.old.pass
+    ensures works { WorksChunks (DoesAt (K.does manager.now) blocks.now) K.closes
+        (count_in manager.now blocks.now) worker.new.seat.me.0.drawn worker.old.pass
         worker.new.pass worker.old.task worker.new.task result }
 {
-    let count = manager.blocks(blocks.rel, blocks.fork);
+    let count = blocks.count(manager);
     let mut buffers = Buffers {
         page: Page::zeroed(alloc)?,
         after: Page::zeroed(alloc)?,
@@ -293,23 +285,23 @@ pub(crate) fn work<L: BlockLane, G: LogDevice, R: Wait, T: Gate, W, K: BlockTask
     alloc: Global,
     gate: &T,
     shared: &W,
-    blocks: ForkBlocks,
+    blocks: &JobBlocks,
     claims: &Claims,
     worker: &mut Worker<K>,
 )
     requires free { HasNoTokens L.contents manager.now worker.old.pass }
-    requires chunks { claims.now.chunks
-        ≡ chunk_count (blocks_in manager.now blocks.rel.0 blocks.fork) }
+    requires there { AreThere manager.now blocks.now }
+    requires chunks { claims.now.chunks ≡ chunk_count (count_in manager.now blocks.now) }
     requires seat { SitsAt claims.now.table.shared.table_id worker.old.seat }
     requires claims { ClaimsNothing claims.now.chunks claims.now.workers worker.old.seat.me.0 }
     requires fits { CanBegin K.fits worker.old.task }
-    requires opens { K.opens manager.now blocks.rel.0 blocks.fork worker.old.task }
+    requires opens { K.opens manager.now blocks.now worker.old.task }
     ensures same { worker.new.number ≡ worker.old.number }
     ensures seat { SitsAt claims.now.table.shared.table_id worker.new.seat }
     ensures part { (worker.new.seat.me.0.parts ≡ 1)
         × (worker.new.seat.me.0.workers ≡ claims.now.workers) }
-    ensures works { WorksChunks (K.does manager.now blocks.rel.0 blocks.fork) K.closes
-        (blocks_in manager.now blocks.rel.0 blocks.fork) worker.new.seat.me.0.drawn worker.old.pass
+    ensures works { WorksChunks (DoesAt (K.does manager.now) blocks.now) K.closes
+        (count_in manager.now blocks.now) worker.new.seat.me.0.drawn worker.old.pass
         worker.new.pass worker.old.task worker.new.task worker.new.end }
 {
     let end = work_chunks(manager, rt, alloc, gate, shared, blocks, claims, worker);

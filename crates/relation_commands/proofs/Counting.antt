@@ -10,7 +10,7 @@ use Rattle.block_tag.specs.Names.{lane_number}
 use Rattle.byte_devices.specs.Faults.{Added, Rose}
 use Rattle.history_core.specs.Device.{HasRisen}
 use Rattle.history_core.specs.State.{last_count}
-use Rattle.page_jobs.specs.Survey.{RoseAt}
+use Rattle.lane_survey.specs.Survey.{RoseAt}
 
 module _ (old more new : ℕ) (added : Added old more new) where
   pub added_none : old < 2 ^ 64 → more ≡ 0 → new ≡ old

@@ -12,7 +12,7 @@ use Rattle.segment_store.specs.Lanes.{HasBlocks, HoldPages}
 use Rattle.segment_store.proofs.Dealing.{held_there}
 use Rattle.segment_store.proofs.PutBlocks.{take_prefix}
 use Rattle.pin_core.specs.State.{Page}
-use Rattle.page_jobs.specs.Survey.{AreOnlyRead}
+use Rattle.lane_survey.specs.Survey.{AreOnlyRead}
 use Rattle.relation_commands.specs.declared.rewriting.RewriteError.{RewriteError}
 use Rattle.relation_commands.specs.declared.sampling.Rewritten.{Rewritten}
 use Rattle.relation_commands.specs.declared.sampling.SampleTotals.{SampleTotals}

@@ -22,7 +22,7 @@ use Rattle.segment_store.specs.Logs.{Logs}
 use Rattle.segment_store.specs.Relation.{relation_of}
 use Rattle.segment_store.specs.Restored.{cleared}
 use Rattle.pin_core.specs.State.{Page}
-use Rattle.page_jobs.specs.Survey.{AreOnlyRead}
+use Rattle.lane_survey.specs.Survey.{AreOnlyRead}
 use Rattle.relation_commands.specs.declared.rewriting.RewriteError.{RewriteError}
 use Rattle.relation_commands.specs.declared.rewriting.RewriteError.TheVariants.{ReadFault, WriteFault, LogFault, OutFault, Memory, OverLimit}
 use Rattle.relation_commands.specs.declared.starting.RelationFork.{RelationFork}

@@ -12,7 +12,7 @@ use Rattle.segment_store.specs.Lanes.{HasPage, HoldPages, lane_at, tag_at}
 use Rattle.pin_core.specs.State.{Page}
 use Rattle.block_tag.specs.declared.tag.Fork.{Fork}
 use Rattle.page_jobs.specs.Relations.{IsCatalogOf}
-use Rattle.page_jobs.specs.Survey.{IsLargestLsn, IsListed, IsLsnOf, IsSoundAt}
+use Rattle.lane_survey.specs.Survey.{IsLargestLsn, IsListed, IsLsnOf, IsSoundAt}
 use Rattle.relation_commands.specs.Limits.{largest_lsn, sound_lsn}
 
 -- a page in the lane of its tag is what is read there

@@ -13,7 +13,7 @@ ghost use Rattle.segment_store.specs.Opening.{IsOpened};
 ghost use Rattle.segment_store.specs.Paths.{fork_of};
 ghost use Rattle.pin_core.specs.State.{Page};
 ghost use Rattle.table_rule.specs.Shows.{IsNewLog, devices};
-ghost use Rattle.page_jobs.specs.Survey.{AreOnlyRead};
+ghost use Rattle.lane_survey.specs.Survey.{AreOnlyRead};
 ghost use Rattle.relation_commands.specs.Answers.{CountsLater, EndsCommand, counts};
 ghost use Rattle.relation_commands.specs.Limits.{largest_lsn, log_base};
 ghost use Rattle.command_line.specs.Request.{asked, rewrite_asked};

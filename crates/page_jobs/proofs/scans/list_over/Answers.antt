@@ -18,7 +18,7 @@ use Rattle.page_jobs.proofs.scans.list_over.Goals as goal
 pub build-requires-clause-few : goal.build-requires-clause-few
 build-requires-clause-few g c =
     let chunks : g.N.Naming.job.chunks ≡ chunk_count (blocks_in c.args.manager.now c.args.blocks.rel.0 c.args.blocks.fork) = ap (λ (j : Job). j.chunks) c.requires.job in
-    let few : blocks_in c.args.manager.now c.args.blocks.rel.0 c.args.blocks.fork < 4294967296 = subst (λ (n : ℕ). n < 4294967296) c.blocks-blocks.ensures.count c.blocks-blocks.type_inv in
+    let few : blocks_in c.args.manager.now c.args.blocks.rel.0 c.args.blocks.fork < 4294967296 = subst (λ (n : ℕ). n < 4294967296) c.blocks-count.ensures.count c.blocks-count.type_inv in
     omega (arith, chunks, few)
 
 pub returns-in-Err : goal.returns-in-Err
@@ -35,7 +35,7 @@ sum_totals-totals-requires-clause-counts g c =
     let few : length c.args.passes.items ≤ 64 = search rules in
     let did : PassState → PassState → Type 0 = (λ p q. g.B.Beside.works c.args.manager.now c.args.beside.now c.run_job-run.new.beside p q (Ok tt)) in
     let ran = ran_of {L = g.row.L.Denot} {G = g.row.G.Denot} g.L.BlockLane.contents c.args.manager.now c.args.blocks.rel.0 c.args.blocks.fork g.N.Naming.job.base c.args.lines did c.args.passes.items c.in-Ok-run.ran c.of-task.result c.of-task.ensures.lines c.in-Ok-run.ensures.ran in
-    subst (λ (ws : List (Worker (Lister g.row.N.Denot g.row.A.Denot))). TotalsAreInRange ws) (sym c.deref-in-Ok-run.ensures.value) (in_range {L = g.row.L.Denot} {G = g.row.G.Denot} g.L.BlockLane.contents c.args.manager.now c.args.blocks.rel.0 c.args.blocks.fork c.args.lines did c.args.passes.items g.N.Naming.job.base c.in-Ok-run.ran several few c.requires.free c.run_job-run.ensures.named ran)
+    subst (λ (ws : List (Worker (Lister g.row.N.Denot g.row.A.Denot))). TotalsAreInRange ws) (sym c.deref-in-Ok-run.ensures.value) (in_range {L = g.row.L.Denot} {G = g.row.G.Denot} g.L.BlockLane.contents c.args.manager.now c.args.blocks.rel.0 c.args.blocks.fork c.args.lines did c.args.passes.items g.N.Naming.job.base c.in-Ok-run.ran several few c.requires.free (λ block below. c.blocks-count.ensures.named block (subst (λ (n : ℕ). block < n) (sym c.blocks-count.ensures.count) below)) ran)
 
 pub sum_totals-totals-requires-clause-few : goal.sum_totals-totals-requires-clause-few
 sum_totals-totals-requires-clause-few g c =
@@ -43,7 +43,7 @@ sum_totals-totals-requires-clause-few g c =
     let few : length c.args.passes.items ≤ 64 = search rules in
     let did : PassState → PassState → Type 0 = (λ p q. g.B.Beside.works c.args.manager.now c.args.beside.now c.run_job-run.new.beside p q (Ok tt)) in
     let ran = ran_of {L = g.row.L.Denot} {G = g.row.G.Denot} g.L.BlockLane.contents c.args.manager.now c.args.blocks.rel.0 c.args.blocks.fork g.N.Naming.job.base c.args.lines did c.args.passes.items c.in-Ok-run.ran c.of-task.result c.of-task.ensures.lines c.in-Ok-run.ensures.ran in
-    subst (λ (ws : List (Worker (Lister g.row.N.Denot g.row.A.Denot))). (job_totals ws).blocks ≤ 1099511627776) (sym c.deref-in-Ok-run.ensures.value) (fewest {L = g.row.L.Denot} {G = g.row.G.Denot} g.L.BlockLane.contents c.args.manager.now c.args.blocks.rel.0 c.args.blocks.fork c.args.lines did c.args.passes.items g.N.Naming.job.base c.in-Ok-run.ran several few c.requires.free c.run_job-run.ensures.named ran)
+    subst (λ (ws : List (Worker (Lister g.row.N.Denot g.row.A.Denot))). (job_totals ws).blocks ≤ 1099511627776) (sym c.deref-in-Ok-run.ensures.value) (fewest {L = g.row.L.Denot} {G = g.row.G.Denot} g.L.BlockLane.contents c.args.manager.now c.args.blocks.rel.0 c.args.blocks.fork c.args.lines did c.args.passes.items g.N.Naming.job.base c.in-Ok-run.ran several few c.requires.free (λ block below. c.blocks-count.ensures.named block (subst (λ (n : ℕ). block < n) (sym c.blocks-count.ensures.count) below)) ran)
 
 pub give_back-passes-requires-clause-seats : goal.give_back-passes-requires-clause-seats
 give_back-passes-requires-clause-seats g c =
@@ -51,7 +51,7 @@ give_back-passes-requires-clause-seats g c =
     let few : length c.args.passes.items ≤ 64 = search rules in
     let did : PassState → PassState → Type 0 = (λ p q. g.B.Beside.works c.args.manager.now c.args.beside.now c.run_job-run.new.beside p q (Ok tt)) in
     let ran = ran_of {L = g.row.L.Denot} {G = g.row.G.Denot} g.L.BlockLane.contents c.args.manager.now c.args.blocks.rel.0 c.args.blocks.fork g.N.Naming.job.base c.args.lines did c.args.passes.items c.in-Ok-run.ran c.of-task.result c.of-task.ensures.lines c.in-Ok-run.ensures.ran in
-    let some = some_ran {L = g.row.L.Denot} {G = g.row.G.Denot} g.L.BlockLane.contents c.args.manager.now c.args.blocks.rel.0 c.args.blocks.fork c.args.lines did c.args.passes.items g.N.Naming.job.base c.in-Ok-run.ran several few c.requires.free c.run_job-run.ensures.named ran in
+    let some = some_ran {L = g.row.L.Denot} {G = g.row.G.Denot} g.L.BlockLane.contents c.args.manager.now c.args.blocks.rel.0 c.args.blocks.fork c.args.lines did c.args.passes.items g.N.Naming.job.base c.in-Ok-run.ran several few c.requires.free (λ block below. c.blocks-count.ensures.named block (subst (λ (n : ℕ). block < n) (sym c.blocks-count.ensures.count) below)) ran in
     (ran.seats, ran.many, omega (arith, some, c.in-Ok-run.ran.workers.ok.0))
 
 pub finish-sink-requires : goal.finish-sink-requires
@@ -60,7 +60,7 @@ finish-sink-requires g c =
     let few : length c.args.passes.items ≤ 64 = search rules in
     let did : PassState → PassState → Type 0 = (λ p q. g.B.Beside.works c.args.manager.now c.args.beside.now c.run_job-run.new.beside p q (Ok tt)) in
     let ran = ran_of {L = g.row.L.Denot} {G = g.row.G.Denot} g.L.BlockLane.contents c.args.manager.now c.args.blocks.rel.0 c.args.blocks.fork g.N.Naming.job.base c.args.lines did c.args.passes.items c.in-Ok-run.ran c.of-task.result c.of-task.ensures.lines c.in-Ok-run.ensures.ran in
-    let back = all_parts {L = g.row.L.Denot} {G = g.row.G.Denot} g.L.BlockLane.contents c.args.manager.now c.args.blocks.rel.0 c.args.blocks.fork c.args.lines did c.args.passes.items g.N.Naming.job.base c.in-Ok-run.ran several few c.requires.free c.run_job-run.ensures.named ran c.run_job-run.new.task c.give_back-passes.new.task c.in-Ok-run.ensures.deals c.give_back-passes.ensures.joined in
+    let back = all_parts {L = g.row.L.Denot} {G = g.row.G.Denot} g.L.BlockLane.contents c.args.manager.now c.args.blocks.rel.0 c.args.blocks.fork c.args.lines did c.args.passes.items g.N.Naming.job.base c.in-Ok-run.ran several few c.requires.free (λ block below. c.blocks-count.ensures.named block (subst (λ (n : ℕ). block < n) (sym c.blocks-count.ensures.count) below)) ran c.run_job-run.new.task c.give_back-passes.new.task c.in-Ok-run.ensures.deals c.give_back-passes.ensures.joined in
     let long : c.args.passes.len ≡ length c.args.passes.items = search rules in
     let w = c.requires.workers in
     let delivered = back.0 in
@@ -89,7 +89,7 @@ returns-in-Ok-run g c =
     let faults : MatchBool output (Rose (g.O.Sink.faults c.args.sink) (g.O.Sink.faults mid)) (g.O.Sink.faults mid ≡ g.O.Sink.faults c.args.sink) =
     subst (λ (n : ℕ). MatchBool output (Rose n (g.O.Sink.faults mid)) (g.O.Sink.faults mid ≡ n)) (ap (λ (j : Job). j.faults) is) c.finish-sink.ensures.faults in
     record {
-      lists = is_listed {L = g.row.L.Denot} {G = g.row.G.Denot} g.L.BlockLane.contents c.args.manager.now c.args.blocks.rel.0 c.args.blocks.fork c.args.lines did c.args.passes.items g.N.Naming.job.base c.in-Ok-run.ran several few c.requires.free c.run_job-run.ensures.named ran
+      lists = is_listed {L = g.row.L.Denot} {G = g.row.G.Denot} g.L.BlockLane.contents c.args.manager.now c.args.blocks.rel.0 c.args.blocks.fork c.args.lines did c.args.passes.items g.N.Naming.job.base c.in-Ok-run.ran several few c.requires.free (λ block below. c.blocks-count.ensures.named block (subst (λ (n : ℕ). block < n) (sym c.blocks-count.ensures.count) below)) ran
           c.run_job-run.new.task l c.in-Ok-run.ensures.deals c.give_back-passes.ensures.joined c.give_back-passes.ensures.once c.give_back-passes.result.items c.give_back-passes.ensures.passes
           job refl (ap (λ (j : Job). j.chunks) is) (λ p at. ap (λ (j : Job). j.base) is ∙ c.requires.base p at) output (g.O.Sink.bytes c.args.sink) (g.O.Sink.bytes mid) (g.O.Sink.bytes c.put_end-end.new.out)
           (g.O.Sink.faults c.args.sink) (g.O.Sink.faults mid) (g.O.Sink.faults c.put_end-end.new.out) worked c.sum_totals-totals.result c.put_end-end.result
@@ -118,7 +118,7 @@ returns g c =
     subst (λ (n : ℕ). MatchBool output (Rose n (g.O.Sink.faults mid)) (g.O.Sink.faults mid ≡ n)) (ap (λ (j : Job). j.faults) is) c.finish-sink-in-Err-run.ensures.faults in
     record {
       lists = subst (λ (qs : List PassState). IsListed {L = g.row.L.Denot} {G = g.row.G.Denot} g.L.BlockLane.contents c.args.manager.now c.args.blocks.rel.0 c.args.blocks.fork c.args.lines did c.args.passes.items qs (g.O.Sink.bytes c.args.sink) (g.O.Sink.bytes c.put_end-end-in-Err-run.new.out) (g.O.Sink.faults c.args.sink) (g.O.Sink.faults c.put_end-end-in-Err-run.new.out) c.put_end-end-in-Err-run.result) (sym c.in-Err-run.ensures.refused.0)
-          (not_run {L = g.row.L.Denot} {G = g.row.G.Denot} g.L.BlockLane.contents c.args.manager.now c.args.blocks.rel.0 c.args.blocks.fork c.args.lines did c.args.passes.items c.run_job-run.ensures.named several c.requires.free job (ap (λ (j : Job). j.chunks) is) (λ p at. ap (λ (j : Job). j.base) is ∙ c.requires.base p at)
+          (not_run {L = g.row.L.Denot} {G = g.row.G.Denot} g.L.BlockLane.contents c.args.manager.now c.args.blocks.rel.0 c.args.blocks.fork c.args.lines did c.args.passes.items (λ block below. c.blocks-count.ensures.named block (subst (λ (n : ℕ). block < n) (sym c.blocks-count.ensures.count) below)) several c.requires.free job (ap (λ (j : Job). j.chunks) is) (λ p at. ap (λ (j : Job). j.base) is ∙ c.requires.base p at)
           output (g.O.Sink.bytes c.args.sink) (g.O.Sink.bytes mid) (g.O.Sink.bytes c.put_end-end-in-Err-run.new.out) (g.O.Sink.faults c.args.sink) (g.O.Sink.faults mid) (g.O.Sink.faults c.put_end-end-in-Err-run.new.out) c.none.result
           l.shares.delivered.amount l.shares.above.amount finished none (ap (λ (j : Job). j.before) is) fits faults end.later (Err Memory) (Ok tt) c.put_end-end-in-Err-run.result refl refl end.text end.done end.cause);
     }

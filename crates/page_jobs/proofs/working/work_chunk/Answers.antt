@@ -1,11 +1,12 @@
 use Rattle.std.proofs.Common.{ℕ, subst}
+use Rattle.page_jobs.specs.JobBlocks.{DoesAt}
 use Rattle.page_jobs.specs.Chunks.{blocks_of}
 use Rattle.page_jobs.specs.Working.{DoesBlocks}
 use Rattle.page_jobs.proofs.working.work_chunk.Goals as goal
 
 pub end_chunk-requires-clause-worked : goal.end_chunk-requires-clause-worked
 end_chunk-requires-clause-worked g c =
-    let D = g.K.BlockTask.does c.args.manager.now c.args.blocks.rel.0 c.args.blocks.fork in
+    let D = DoesAt (g.K.BlockTask.does c.args.manager.now) c.args.blocks.now in
     record {
       pass = c.args.worker.now.pass;
       task = c.args.worker.now.task;

@@ -6,7 +6,7 @@ use Rattle.segment_store.specs.Lanes.{HoldPages}
 use Rattle.segment_store.specs.Paths.{fork_of}
 use Rattle.segment_store.proofs.PutBlocks.{take_prefix}
 use Rattle.pin_core.specs.State.{Page}
-use Rattle.page_jobs.specs.Survey.{AreOnlyRead}
+use Rattle.lane_survey.specs.Survey.{AreOnlyRead}
 use Rattle.relation_commands.specs.Limits.{log_base}
 use Rattle.command_line.specs.Request.{rewrite_asked}
 use Rattle.relation_commands.specs.RewriteCommand.{AreSurveyed}

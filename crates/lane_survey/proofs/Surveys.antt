@@ -1,6 +1,6 @@
 -- Surveys of some blocks, one after the other.
 use Rattle.std.proofs.Common.{◌≡◌, ◌⊎◌, inl, inr, ℕ, zero, suc, ◌+◌, ◌<◌, ◌≤◌, ◌^◌, ◌-◌, max, Bool, true, false, List, [], ◌∷◌, get_or, length, map, set, take, Option, Some, None, refl, sym, ap, ◌∙◌, subst, arith}
-use Rattle.std.specs.Prelude.{IfSome, IsSome, IsSomeAnd, nat_lt, sum_by}
+use Rattle.std.specs.Prelude.{IfSome, IsSomeAnd, nat_lt, sum_by}
 use Rattle.std.specs.Option.{ForSome, option_and_then}
 use Rattle.std.proofs.lemmas.List.{get_or-map, length-map, map-set}
 use Rattle.std.proofs.lemmas.List.Sums.{sum_by-cons}
@@ -15,9 +15,8 @@ use Rattle.byte_devices.specs.Faults.{Rose}
 use Rattle.page_layout.specs.Fields.{lsn_of}
 use Rattle.page_layout.specs.Soundness.{is_sound_page}
 use Rattle.segment_store.specs.Contents.{Marks, Pages}
-use Rattle.segment_store.specs.Lanes.{HasBlocks, lane_at}
-use Rattle.page_jobs.specs.Relations.{IsCatalogOf}
-use Rattle.page_jobs.specs.Survey.{AreOfBlock, AreOfFork, AreOfForks, AreOfRelation, AreOfRelations, AreOnlyRead, FailsToRead, HaveTheirs, IsLargestLsn, IsListed, IsListedByName, IsLsnOf, IsSoundAt, RoseAt, Surveys, relation_blocks, sum_of_forks}
+use Rattle.segment_store.specs.Lanes.{lane_at}
+use Rattle.lane_survey.specs.Survey.{AreOfBlock, AreOfFork, AreOfForks, AreOfRelation, AreOfRelations, AreOnlyRead, FailsToRead, HaveTheirs, IsLargestLsn, IsListed, IsListedByName, IsLsnOf, IsSoundAt, RoseAt, Surveys, relation_blocks, sum_of_forks}
 
 true_or_false : (b : Bool) → (b ≡ true) ⊎ (b ≡ false)
 true_or_false true = inl refl
@@ -292,14 +291,6 @@ module _ (catalog : List RelEntry) (r : ℕ) (below : r < length catalog) where
 
 pub all_relations : (catalog : List RelEntry) (tag : Tag) → IsListed catalog tag → AreOfRelations catalog (length catalog) tag
 all_relations catalog tag h = (in_catalog catalog tag.rel.0 tag.block tag.fork h, h)
-
--- lanes that have the blocks of one fork have those of its catalogue
-pub have_listed : (fork : Fork) (blocks : ℕ) (catalog : List RelEntry) (lanes : List (Option Pages)) → IsCatalogOf fork blocks catalog → HasBlocks fork blocks lanes → HaveTheirs (IsListedByName catalog) lanes
-have_listed fork blocks catalog lanes one has tag listed =
-    let is = one.alone tag listed.1 in
-    let counted = ap (λ (t : Tag). blocks_at catalog t.rel.0 t.fork) is ∙ one.counted in
-    let below = ltb-true tag.block (blocks_at catalog tag.rel.0 tag.fork) listed.1 in
-    subst (λ (t : Tag). ForSome (lane_at lanes t) (λ pages. IsSome (pages t))) (sym is) (has tag.block (omega (arith, counted, below)))
 
 -- where each listed block's page is known, the answer is 0 or the position of one of them
 pub known_reached : (blocks : Tag → Type 0) (lanes : List (Option Pages)) (largest : ℕ) → ((tag : Tag) → blocks tag → (page : List ℕ) × IsSomeAnd (lane_at lanes tag) (λ pages. pages tag ≡ Some page))

@@ -1,5 +1,5 @@
-use Rattle.page_jobs.specs.Survey.{AreOfFork, Surveys}
-use Rattle.page_jobs.proofs.surveying.survey_fork.Given as goal
+use Rattle.lane_survey.specs.Survey.{AreOfFork, Surveys}
+use Rattle.lane_survey.proofs.surveying.survey_fork.Given as goal
 
 abbrev pub invariant-loop-block : goal.invariant-loop-block
 invariant-loop-block g l =

@@ -1,7 +1,7 @@
 use Rattle.std.proofs.Common.{ℕ, ◌%◌, ap, length, rules}
 use Rattle.std.proofs.Math.Seq.{map-set_same}
-use Rattle.page_jobs.proofs.Surveys.{rose_at}
-use Rattle.page_jobs.proofs.surveying.read_from_lane.Goals as goal
+use Rattle.lane_survey.proofs.Surveys.{rose_at}
+use Rattle.lane_survey.proofs.surveying.read_from_lane.Goals as goal
 
 pub returns-in-Ok-clause-same : goal.returns-in-Ok-clause-same
 returns-in-Ok-clause-same g c =

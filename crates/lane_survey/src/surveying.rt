@@ -7,10 +7,10 @@ ghost use Rattle.block_tag.specs.Catalogue.{blocks_at};
 ghost use Rattle.page_layout.specs.Fields.{lsn_of};
 ghost use Rattle.page_layout.specs.Soundness.{is_sound_page};
 ghost use Rattle.segment_store.specs.Lanes.{lane_at};
-ghost use Rattle.page_jobs.specs.Survey.{AreOfBlock, AreOfFork, AreOfRelation, AreOnlyRead};
-ghost use Rattle.page_jobs.specs.Survey.{FailsToRead, HaveTheirs, IsLargestLsn, IsListed};
-ghost use Rattle.page_jobs.specs.Survey.{IsListedByName, RoseAt, Surveys, catalog_blocks};
-ghost use Rattle.page_jobs.specs.Survey.{sum_of_forks};
+ghost use Rattle.lane_survey.specs.Survey.{AreOfBlock, AreOfFork, AreOfRelation, AreOnlyRead};
+ghost use Rattle.lane_survey.specs.Survey.{FailsToRead, HaveTheirs, IsLargestLsn, IsListed};
+ghost use Rattle.lane_survey.specs.Survey.{IsListedByName, RoseAt, Surveys, catalog_blocks};
+ghost use Rattle.lane_survey.specs.Survey.{sum_of_forks};
 
 use block_tag::{Catalog, Fork, RelNo, Tag};
 use page_layout::{Lsn, Page};

@@ -1,8 +1,8 @@
 use Rattle.std.proofs.Common.{ℕ, ◌+◌, refl, subst, sym}
 use Rattle.block_tag.specs.Names.{tag_of_parts}
-use Rattle.page_jobs.specs.Survey.{AreOfBlock, AreOfFork, Surveys}
-use Rattle.page_jobs.proofs.Surveys.{earlier_block, next_block, survey_of_both, this_block}
-use Rattle.page_jobs.proofs.surveying.survey_fork.Goals as goal
+use Rattle.lane_survey.specs.Survey.{AreOfBlock, AreOfFork, Surveys}
+use Rattle.lane_survey.proofs.Surveys.{earlier_block, next_block, survey_of_both, this_block}
+use Rattle.lane_survey.proofs.surveying.survey_fork.Goals as goal
 
 pub loop-block-preserved : goal.loop-block-preserved
 loop-block-preserved g c =

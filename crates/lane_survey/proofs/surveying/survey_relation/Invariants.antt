@@ -1,7 +1,7 @@
 use Rattle.block_tag.specs.Catalogue.{blocks_at}
-use Rattle.page_jobs.specs.Survey.{AreOfForks, Surveys}
-use Rattle.page_jobs.proofs.Surveys.{forks_before}
-use Rattle.page_jobs.proofs.surveying.survey_relation.Given as goal
+use Rattle.lane_survey.specs.Survey.{AreOfForks, Surveys}
+use Rattle.lane_survey.proofs.Surveys.{forks_before}
+use Rattle.lane_survey.proofs.surveying.survey_relation.Given as goal
 
 abbrev pub invariant-loop-fork : goal.invariant-loop-fork
 invariant-loop-fork g l =

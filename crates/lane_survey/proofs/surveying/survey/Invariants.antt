@@ -1,7 +1,7 @@
 use Rattle.std.proofs.Common.{take}
 use Rattle.std.specs.Prelude.{sum_by}
-use Rattle.page_jobs.specs.Survey.{AreOfRelations, Surveys, relation_blocks}
-use Rattle.page_jobs.proofs.surveying.survey.Given as goal
+use Rattle.lane_survey.specs.Survey.{AreOfRelations, Surveys, relation_blocks}
+use Rattle.lane_survey.proofs.surveying.survey.Given as goal
 
 abbrev pub invariant-loop-rel : goal.invariant-loop-rel
 invariant-loop-rel g l =

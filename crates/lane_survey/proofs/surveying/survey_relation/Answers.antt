@@ -3,9 +3,9 @@ use Rattle.block_tag.specs.declared.tag.Fork.{Fork}
 use Rattle.block_tag.specs.declared.tag.Fork.TheVariants.{Main, Fsm, Vm, Init}
 use Rattle.block_tag.specs.Catalogue.{blocks_at}
 use Rattle.block_tag.specs.Names.{fork_number}
-use Rattle.page_jobs.specs.Survey.{AreOfFork, AreOfForks, Surveys}
-use Rattle.page_jobs.proofs.Surveys.{earlier_fork, fork_at, forks_before, next_fork, next_fork_count, survey_of_both, this_fork}
-use Rattle.page_jobs.proofs.surveying.survey_relation.Goals as goal
+use Rattle.lane_survey.specs.Survey.{AreOfFork, AreOfForks, Surveys}
+use Rattle.lane_survey.proofs.Surveys.{earlier_fork, fork_at, forks_before, next_fork, next_fork_count, survey_of_both, this_fork}
+use Rattle.lane_survey.proofs.surveying.survey_relation.Goals as goal
 
 pub loop-fork-preserved : goal.loop-fork-preserved
 loop-fork-preserved g c =

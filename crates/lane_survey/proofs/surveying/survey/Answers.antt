@@ -2,9 +2,9 @@ use Rattle.std.proofs.Common.{◌≡◌, ℕ, ◌+◌, ◌<◌, length, map, tak
 use Rattle.std.specs.Prelude.{sum_by}
 use Rattle.std.proofs.lemmas.List.Sums.{sum_by-take-le}
 use Rattle.block_tag.specs.Catalogue.{blocks_at}
-use Rattle.page_jobs.specs.Survey.{AreOfRelation, AreOfRelations, IsListed, Surveys, relation_blocks, sum_of_forks}
-use Rattle.page_jobs.proofs.Surveys.{all_relations, earlier_relation, largest_of_same, next_relation, next_relation_count, survey_of_both, this_relation}
-use Rattle.page_jobs.proofs.surveying.survey.Goals as goal
+use Rattle.lane_survey.specs.Survey.{AreOfRelation, AreOfRelations, IsListed, Surveys, relation_blocks, sum_of_forks}
+use Rattle.lane_survey.proofs.Surveys.{all_relations, earlier_relation, largest_of_same, next_relation, next_relation_count, survey_of_both, this_relation}
+use Rattle.lane_survey.proofs.surveying.survey.Goals as goal
 
 pub loop-rel-preserved : goal.loop-rel-preserved
 loop-rel-preserved g c =
