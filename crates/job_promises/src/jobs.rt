@@ -1,17 +1,19 @@
-//! Jobs over all blocks of a fork.
-ghost use Rattle.std.specs.Prelude.{◌≤◌, List, IfErr, IfOk, vec_len};
+//! Jobs over all blocks of a fork, and over listed blocks.
+ghost use Rattle.std.specs.Prelude.{◌<◌, ◌≤◌, ◌^◌, All, List, IfErr, IfOk, OnOk, length, vec_len};
 ghost use Rattle.page_layout.specs.Scan.{scan_text};
 ghost use Rattle.pin_core.specs.State.{Page};
 ghost use Rattle.byte_devices.specs.Bytes.{Puts};
 ghost use Rattle.frame_table.specs.Seats.{base_of};
 ghost use Rattle.page_jobs.specs.Ending.{as_done};
 ghost use Rattle.page_jobs.specs.Jobs.{AllAtBase, EndsJob, HaveNoTokens, IsOrigin, workers_in};
+ghost use Rattle.page_jobs.specs.JobBlocks.{IsInside};
+ghost use Rattle.page_jobs.specs.Loads.{LoadsAll};
 ghost use Rattle.page_jobs.specs.RewriteJobs.{RewritesFork};
 
 use backend_pass::{Manager, Pass};
-use block_tag::{Fork, RelNo};
+use block_tag::{Fork, RelNo, Tag};
 use byte_devices::{LogDevice, Sink};
-use page_jobs::{Beside, Gate, JobEnd, dump, rewrite, scan};
+use page_jobs::{Beside, Gate, JobEnd, dump, load, rewrite, scan};
 use segment_store::BlockLane;
 use std::alloc::Global;
 use std::sync::Wait;
@@ -101,4 +103,32 @@ pub fn rewrite_blocks<
         (workers_in passes.items) (workers_in result.passes.items)) }
 {
     rewrite(manager, rt, alloc, passes, rel, fork, gate, beside)
+}
+
+/// A load that ends well has read each listed block, and its passes have seen it in a frame, unless
+/// its page isn't sound (`pg_prewarm`).
+pub fn load_blocks<
+    L: BlockLane + Send,
+    G: LogDevice + Send,
+    R: Threads + Wait + Sync,
+    T: Gate + Sync,
+    B: Beside<L, G>,
+>(
+    manager: &Manager<L, G>,
+    rt: &R,
+    alloc: Global,
+    passes: Vec<Pass>,
+    tags: &[Tag],
+    gate: &T,
+    beside: &mut B,
+) -> JobEnd
+    requires several { 2 ≤ vec_len passes }
+    requires few { vec_len passes ≤ 64 }
+    requires free { HaveNoTokens L.contents manager.now passes.items }
+    requires short { length tags.now < 2 ^ 32 }
+    requires inside { All (IsInside manager.now) tags.now }
+    ensures done { OnOk result.end (LoadsAll L.contents manager.now tags.now
+        (workers_in passes.items) (workers_in result.passes.items)) }
+{
+    load(manager, rt, alloc, passes, tags, gate, beside)
 }

@@ -9,4 +9,4 @@ mod jobs;
 
 pub use commands::{list_file, rewrite_file};
 pub use counts::scan_counts;
-pub use jobs::{dump_blocks, rewrite_blocks, scan_blocks};
+pub use jobs::{dump_blocks, load_blocks, rewrite_blocks, scan_blocks};
